@@ -1,8 +1,8 @@
-//! Creates a sweep and a seat for each of its threads.
-ghost use Rattle.std.specs.Prelude.{◌≡◌, ◌≢◌, ℕ, ◌+◌, ◌^◌, ◌≤◌, ◌<◌, List, [], All, Ok, Err, IfOk, length, slice_index, vec_len};
+//! The parts of a new sweep, and a seat for each of its threads.
+ghost use Rattle.std.specs.Prelude.{◌≡◌, ◌≢◌, ◌+◌, ◌^◌, ◌≤◌, ◌<◌, [], All, Ok, Err, IfOk, length, slice_index, vec_len};
 ghost use Rattle.count_table.specs.Tallies.{IsSeatAt};
 ghost use Rattle.count_table.specs.Views.{view};
-ghost use Rattle.vol_layout.specs.Geometry.{Fits, geometry_read};
+ghost use Rattle.vol_layout.specs.Geometry.{Fits};
 ghost use Rattle.count_table.specs.declared.rule.TableShape.{TableShape};
 ghost use Rattle.vol_layout.specs.declared.geometry.Geometry.{Geometry};
 ghost use Rattle.vol_layout.specs.declared.geometry.GeometryFault.{GeometryFault};
@@ -10,68 +10,20 @@ ghost use Rattle.vol_reports.specs.Counted.{HasLinkCounts};
 ghost use Rattle.vol_check.specs.declared.checker.Checker.TheVariants.{Blocks, Entries};
 ghost use Rattle.vol_check.specs.Parts.{HasStarts};
 ghost use Rattle.vol_check.specs.Shapes.{HasWordsOf, IsLaidOut};
-ghost use Rattle.vol_check.specs.Layouts.{IsFor, HasSameHead, IsSeatIn, HasSwept, seat_count, pieces_of, pieces_in};
 ghost use Rattle.vol_check.specs.Seats.{IsFresh};
 
 use crate::checker::Checker;
-use crate::checkers::MOST_WORKERS;
 use crate::parts::part_starts;
 use crate::seats::CheckSeat;
-use crate::sweeps::Sweep;
 use count_table::{TableShape, Tally, TallySeat};
 use pdp_words::Image;
 use std::alloc::{AllocError, Global};
-use vol_layout::{Edition, Geometry, GeometryFault};
+use vol_layout::{Geometry, GeometryFault};
 use vol_reports::{LinkCount, link_counts};
-
-impl Sweep {
-    /// Returns a sweep and its seats. The sweep works for this image and for any other of the same length with the same bytes before the data zone.
-    /// Reads none of the image's data blocks.
-    ///
-    /// Takes memory for a seat for each thread. A sweep over blocks takes sixteen bytes for each data block and each i-number; a sweep over entries
-    /// or names takes at most sixteen for each i-number.
-    pub fn new(
-        alloc: Global,
-        edition: Edition,
-        image: &Image,
-        checker: Checker,
-        seats: usize,
-    ) -> Result<(Sweep, Vec<CheckSeat>), AllocError>
-        requires first { 1 ≤ seats }
-        requires last { seats ≤ MOST_WORKERS }
-        ensures edition { IfOk result (λ s. s.0.edition ≡ edition) }
-        ensures checker { IfOk result (λ s. s.0.checker ≡ checker) }
-        ensures image { IfOk result (λ s. IsFor s.0 image.now) }
-        ensures others { IfOk result (λ s. (other : List ℕ) → HasSameHead edition image.now other → IsFor s.0 other) }
-        ensures pieces { IfOk result (λ s. pieces_of s.0 ≡ pieces_in checker (geometry_read edition image.now) image.now) }
-        ensures count { IfOk result (λ s. (vec_len s.1 ≡ seats) × (seat_count s.0 ≡ seats)) }
-        ensures own { IfOk result (λ s. All (IsSeatIn s.0) s.1.items) }
-        ensures knows { IfOk result (λ s. (bytes : List ℕ) → All (HasSwept s.0 bytes) s.1.items) }
-    {
-        let layout = Geometry::read(edition, image);
-        let starts = starts_for(alloc, checker, image, &layout)?;
-        let links = links_for(alloc, checker, image, &layout)?;
-        let pieces = piece_count(checker, &layout, &starts);
-        let (tally, first) = Tally::new(alloc, shape_for(checker, &layout, pieces, seats as u64))?;
-        let dealt = deal(alloc, &tally, first, seats)?;
-        Ok((
-            Sweep {
-                tally,
-                edition,
-                checker,
-                layout,
-                pieces,
-                starts,
-                links,
-            },
-            dealt,
-        ))
-    }
-}
 
 /// Returns, for each i-number, the number of pieces before its first one, then the total; returns an empty list if the pieces are not parts of
 /// directories.
-fn starts_for(
+pub(crate) fn starts_for(
     alloc: Global,
     checker: Checker,
     image: &Image,
@@ -87,7 +39,7 @@ fn starts_for(
 }
 
 /// Returns the link counts if the report is on entries, else an empty list.
-fn links_for(
+pub(crate) fn links_for(
     alloc: Global,
     checker: Checker,
     image: &Image,
@@ -104,7 +56,11 @@ fn links_for(
 
 /// Returns the number of pieces. A sweep over blocks has one for the free list and one for each i-number; any other has one for each part of each
 /// i-number.
-fn piece_count(checker: Checker, layout: &Result<Geometry, GeometryFault>, starts: &[u32]) -> u64
+pub(crate) fn piece_count(
+    checker: Checker,
+    layout: &Result<Geometry, GeometryFault>,
+    starts: &[u32],
+) -> u64
     requires starts { (geometry : Geometry) → layout.now ≡ Ok geometry → checker ≢ Blocks → length starts.now ≡ geometry.last_inode + 1 }
     ensures blocks { (geometry : Geometry) → layout.now ≡ Ok geometry → checker ≡ Blocks → result ≡ geometry.last_inode + 1 }
     ensures parts { (geometry : Geometry) → layout.now ≡ Ok geometry → checker ≢ Blocks → result ≡ slice_index starts.now geometry.last_inode }
@@ -119,7 +75,7 @@ fn piece_count(checker: Checker, layout: &Result<Geometry, GeometryFault>, start
 }
 
 /// Returns the words that a sweep needs for images with this layout, or no words if they have no geometry.
-fn shape_for(
+pub(crate) fn shape_for(
     checker: Checker,
     layout: &Result<Geometry, GeometryFault>,
     pieces: u64,
@@ -161,7 +117,7 @@ fn words_for(checker: Checker, geometry: &Geometry) -> (u64, u64)
 }
 
 /// Splits `count` seats off the first seat, which holds all parts.
-fn deal(
+pub(crate) fn deal(
     alloc: Global,
     tally: &Tally,
     mut first: TallySeat,

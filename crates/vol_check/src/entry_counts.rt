@@ -14,10 +14,10 @@ ghost use Rattle.vol_check.specs.Slots.{entry_weight, entries_of};
 ghost use Rattle.vol_check.specs.Levels.{IsNamed, KeepsDraws, by_times};
 
 use crate::levels::{NamedBlock, each_once};
-use crate::slots::SLOTS;
 use count_table::{Tally, TallySeat};
 use pdp_words::{BLOCK, Image};
 use std::alloc::{AllocError, Global};
+use vol_dir::entries::SLOTS;
 use vol_file::{BlockNumbers, next_block};
 use vol_layout::slot::SLOT;
 use vol_layout::{Geometry, Slot};

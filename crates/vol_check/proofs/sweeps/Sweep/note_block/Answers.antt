@@ -32,7 +32,7 @@ loop-s-preserved c =
     let slot = c.read-slot.result in
     let at : stored g image d (form_at g image d) b ≡ k = number_named (stored g image d (form_at g image d) b) k (sym c.in-Some.ensures) in
     let few : s < 32 = omega (arith, c.loop-s-test.true, c.min-s-end.ensures) in
-    let within : 32 * b + s < slot_count g image d = omega (arith, c.loop-s-test.true, c.min-s-end.ensures, c.saturating_sub-count.ensures, c.slot_count.ensures.exact) in
+    let within : 32 * b + s < slot_count g image d = omega (arith, c.loop-s-test.true, c.min-s-end.ensures, c.saturating_sub-count.ensures, c.slot_count.ensures) in
     let read = c.read-slot.ensures ∙ ap (λ xs. slot_at xs (512 * k + 16 * s)) c.as_bytes.ensures in
     let entry : entry_at g image d (32 * b + s) ≡ entry_in slot =
     entry_in_block g image d b s k c.requires.fits few within at (sym c.in_zone.ensures ∙ c.if-in_zone.true) ∙ sym (ap entry_in read) in
@@ -55,7 +55,7 @@ returns-after-loop-s-clause-ok c =
     let s = c.loop-s.s in
     let few : s ≤ 32 = omega (arith, c.loop-s.auto.s-end, c.min-s-end.ensures) in
     let short : s < 32 → slot_count g image d ≤ 32 * b + s =
-    λ lt. omega (arith, lt, c.loop-s-test.false, c.min-s-end.ensures, c.saturating_sub-count.ensures, c.slot_count.ensures.exact) in
+    λ lt. omega (arith, lt, c.loop-s-test.false, c.min-s-end.ensures, c.saturating_sub-count.ensures, c.slot_count.ensures) in
     notes_as c.args.self.now.tally c.args.seat.now c.loop-s.seat (marked_over checker g image d (32 * b) s) (marked_over checker g image d (32 * b) 32)
     (kept_over checker g image d (32 * b) s) (kept_over checker g image d (32 * b) 32) c.loop-s.invariant
     (λ weight. over_block g image d (slot_weight checker g weight) (blank_weight checker g weight d) b s few short)

@@ -1,6 +1,8 @@
 use Rattle.std.proofs.Common.{◌≡◌, ◌∙◌, ◌+◌, ◌-◌, ◌*◌, ◌<◌, ◌≤◌, sym, arith}
 use Rattle.std.proofs.lemmas.Result.{IfOk-weaker}
+use Rattle.vol_file.specs.Rules.{size_of}
 use Rattle.vol_dir.specs.Entries.{slot_count}
+use Rattle.vol_judge.proofs.CollectedNames.{count_low}
 use Rattle.vol_check.specs.Slots.{slot_weight, slot_kept, part_sum}
 use Rattle.vol_check.specs.Notes.{Notes}
 use Rattle.vol_check.proofs.PartCounts.{directory_parts, few_parts}
@@ -16,7 +18,12 @@ overflow_add-from c = let few = few_parts c.args.geometry.now c.args.image.now c
 pub note_range-requires-clause-order : goal.note_range-requires-clause-order
 note_range-requires-clause-order c =
     let parts = directory_parts c.args.geometry.now c.args.image.now c.args.part.inode (sym c.in-Directory.ensures) in
-    omega (arith, parts, c.requires.within, c.slot_count.ensures.exact, c.div_ceil-blocks.ensures, c.min-end.ensures)
+    omega (arith, parts, c.requires.within, c.slot_count.ensures, c.div_ceil-blocks.ensures, c.min-end.ensures)
+
+pub note_range-requires-clause-few : goal.note_range-requires-clause-few
+note_range-requires-clause-few c =
+    let most = count_low c.args.geometry.now.edition (size_of c.args.geometry.now c.args.image.now c.args.part.inode) in
+    omega (arith, most, c.slot_count.ensures, c.div_ceil-blocks.ensures, c.min-end.ensures)
 
 pub returns-in-Directory-clause-ok : goal.returns-in-Directory-clause-ok
 returns-in-Directory-clause-ok c =
@@ -32,7 +39,7 @@ returns-in-Directory-clause-ok c =
     let few : 32 * (end - from) ≤ 2048 = omega (arith, c.min-end.ensures) in
     let parts = directory_parts g image d (sym c.in-Directory.ensures) in
     let short : 32 * (end - from) < 2048 → slot_count g image d ≤ 32 * from + 32 * (end - from) =
-    λ lt. omega (arith, lt, parts, c.requires.within, c.slot_count.ensures.exact, c.div_ceil-blocks.ensures, c.min-end.ensures) in
+    λ lt. omega (arith, lt, parts, c.requires.within, c.slot_count.ensures, c.div_ceil-blocks.ensures, c.min-end.ensures) in
     IfOk-weaker c.note_range.result
     (λ x. Notes tally c.args.seat.now c.note_range.new.seat (marked_over checker g image d (32 * from) (32 * (end - from))) (kept_over checker g image d (32 * from) (32 * (end - from))))
     (λ x. Notes tally c.args.seat.now c.note_range.new.seat (λ weight. part_sum g image (slot_weight checker g weight) d k) (λ weight. part_sum g image (slot_kept checker weight) d k))

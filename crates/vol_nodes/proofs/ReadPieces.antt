@@ -3,13 +3,11 @@ use Rattle.std.proofs.Common.{◌≡◌, ℕ, ◌+◌, ◌-◌, ◌^◌, ◌<◌
 use Rattle.std.specs.Prelude.{slice_range}
 use Rattle.std.proofs.lemmas.List.{take-append-drop, take_min, drop_all, length-take, length-drop}
 use Rattle.vol_layout.specs.Body.{body, body_size}
-use Rattle.vol_layout.specs.Edition.{constants}
 use Rattle.vol_layout.proofs.BodyLaws.{length-body}
-use Rattle.vol_layout.specs.declared.edition.Edition.{Edition}
-use Rattle.vol_layout.specs.declared.edition.Edition.TheVariants.{V6, V7}
 use Rattle.vol_layout.specs.declared.geometry.Geometry.{Geometry}
 use Rattle.vol_dir.specs.Tree.{tree}
 use Rattle.vol_volume.specs.Answer.{read_bytes}
+use Rattle.vol_volume.proofs.NeedReadings.{greatest_fits}
 use Rattle.vol_nodes.specs.Nodes.{after_ok, bytes_in, count_of, filled, read_in}
 use Rattle.vol_nodes.specs.declared.fault.NodeFault.{NodeFault}
 
@@ -38,11 +36,6 @@ take_nil (suc n) = refl
 none_past : (body : List ℕ) (offset len : ℕ) → length body ≤ offset → read_bytes body offset len ≡ []
 none_past body offset len past = ap (take len) (drop_all offset body past) ∙ take_nil len
 
--- the size of a body is below 2^32
-body_low : (edition : Edition) (size : ℕ) → min size (constants edition).greatest < 2 ^ 32
-body_low V6 size = omega arith
-body_low V7 size = omega arith
-
 module _ (geometry : Geometry) (image : List ℕ) (i : ℕ) (is : bytes_in (tree geometry image) i ≡ Ok (body geometry image i)) where
   read_is : (offset len : ℕ) → read_in (tree geometry image) i offset len ≡ Ok (read_bytes (body geometry image i) offset len)
   read_is offset len = ap (λ (r : Result (List ℕ) NodeFault). after_ok r (λ bytes. Ok (read_bytes bytes offset len))) is
@@ -67,7 +60,7 @@ module _ (geometry : Geometry) (image : List ℕ) (i : ℕ) (is : bytes_in (tree
 
   nothing : (offset len : ℕ) → 2 ^ 32 ≤ offset → read_bytes (body geometry image i) offset len ≡ []
   nothing offset len past =
-      let low : body_size geometry image i < 2 ^ 32 = body_low geometry.edition _ in
+      let low : body_size geometry image i < 2 ^ 32 = omega (arith, greatest_fits geometry.edition) in
       none_past (body geometry image i) offset len (omega (arith, length-body geometry image i, low))
 
   -- no bytes are read from an offset of at least 2^32

@@ -5,9 +5,6 @@ use Rattle.std.specs.Str.{bytes_eq}
 use Rattle.std.proofs.lemmas.List.Elements.{All-append, All-cons, All-contains, Contains-append_cases, Contains-append_right, Contains-push_cases}
 use Rattle.std.proofs.lemmas.List.Sums.{sum_by-append}
 use Rattle.std.proofs.lemmas.Bool.{eqb-true, eq-eqb, ne_eqb, cases_eq, cases_Bool, and_parts, and_from}
-use Rattle.vol_layout.specs.Edition.{constants}
-use Rattle.vol_layout.specs.declared.edition.Edition.{Edition}
-use Rattle.vol_layout.specs.declared.edition.Edition.TheVariants.{V6, V7}
 use Rattle.vol_layout.specs.declared.geometry.Geometry.{Geometry}
 use Rattle.vol_layout.specs.declared.mode.Kind.{Kind}
 use Rattle.vol_layout.specs.declared.mode.Kind.TheVariants as kinds
@@ -15,6 +12,7 @@ use Rattle.vol_file.specs.Rules.{kind_at}
 use Rattle.vol_file.proofs.PlaceLists.{bytes_same, same_bytes}
 use Rattle.vol_dir.specs.Entries.{entry_at, slot_count}
 use Rattle.vol_dir.specs.Names.{is_dots}
+use Rattle.vol_dir.proofs.Searches.{slots_low}
 use Rattle.vol_judge.specs.Directories.{root_of}
 use Rattle.vol_judge.specs.Steps.{rank}
 use Rattle.vol_reports.specs.Placed.{Placed, placed}
@@ -151,14 +149,9 @@ all_flat P f a (suc n) each =
     All-append P (f a) (flat_map f (range_with_len (a + 1) n)) (each a (omega arith) (omega arith))
     (all_flat P f (a + 1) n (λ j low high. each j (omega arith) (omega arith)))
 
--- the greatest size of a file is at most 1,082,201,088 bytes
-greatest_low : (edition : Edition) → (constants edition).greatest ≤ 1082201088
-greatest_low V6 = omega arith
-greatest_low V7 = omega arith
-
 -- a directory has fewer than 2^32 slots
 slots_few : (g : Geometry) (image : List ℕ) (d s : ℕ) → s < slot_count g image d → s < 4294967296
-slots_few g image d s low = let most = greatest_low g.edition in omega (arith, low, most)
+slots_few g image d s low = omega (arith, low, slots_low g image d)
 
 -- the entry of a slot of the image satisfies `IsOfImage`
 slot_of_image : (g : Geometry) (image : List ℕ) (d s : ℕ) (o : Option (List ℕ × ℕ)) → 1 ≤ d → d ≤ g.last_inode → s < slot_count g image d

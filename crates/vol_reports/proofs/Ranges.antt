@@ -1,5 +1,5 @@
 -- Lists and counts over ranges.
-use Rattle.std.proofs.Common.{◌≡◌, ℕ, zero, suc, inl, inr, subst, length, get_or, ◌+◌, ◌<◌, ◌≤◌, Bool, true, false, cond, List, [], ◌∷◌, ◌++◌, refl, sym, ap, ◌∙◌, arith, append_assoc, append-nil, add-one}
+use Rattle.std.proofs.Common.{◌≡◌, ℕ, zero, suc, inl, inr, subst, length, get_or, ◌+◌, ◌<◌, ◌≤◌, Bool, true, false, cond, List, [], ◌∷◌, ◌++◌, refl, sym, ap, ◌∙◌, arith, append_assoc, append-nil}
 use Rattle.std.proofs.lemmas.List.{get_or_append_left, get_or_push}
 use Rattle.std.proofs.lemmas.Bool.{cases_lt}
 use mir.Val.{bool_byte}
@@ -7,16 +7,12 @@ use Rattle.std.specs.List.{flat_map, range_with_len, count_by}
 use Rattle.std.proofs.lemmas.List.Concat.{flat_map-append}
 use Rattle.std.proofs.lemmas.List.Sums.{sum_by-append, count_by-le-length}
 use Rattle.std.proofs.lemmas.List.FromFn.{length-range_with_len}
-
--- a range of one more number ends with this number
-pub range_last : (a n : ℕ) → range_with_len a (suc n) ≡ range_with_len a n ++ (a + n) ∷ []
-range_last a zero = ap (λ j. j ∷ []) (omega arith)
-range_last a (suc n) = ap (λ r. a ∷ r) (range_last (a + 1) n ∙ ap (λ j. range_with_len (a + 1) n ++ j ∷ []) (omega arith))
+use Rattle.vol_layout.proofs.WayOrder.{range_more as range_joined}
 
 -- a range of `m` numbers, if `m` is `n` + 1, is a range of `n` numbers followed by `j`
 pub range_more : (a n m j : ℕ) → m ≡ n + 1 → a + n ≡ j → range_with_len a m ≡ range_with_len a n ++ j ∷ []
 range_more a n m j e f =
-    ap (range_with_len a) (e ∙ add-one n) ∙ (range_last a n ∙ ap (λ k. range_with_len a n ++ k ∷ []) f)
+    ap (range_with_len a) e ∙ (range_joined a n 1 ∙ ap (λ k. range_with_len a n ++ k ∷ []) f)
 
 -- concatenating lists over a range of one more number appends one more list
 pub flat_more : {A : Type 0} (f : ℕ → List A) (a n m j : ℕ) → m ≡ n + 1 → a + n ≡ j

@@ -2,16 +2,13 @@
 use Rattle.std.proofs.Common.{◌≡◌, ◌∙◌, sym, ap, ℕ, zero, suc, ◌+◌, ◌-◌, ◌<◌, ◌≤◌, ◌/◌, min, arith, List, [], ◌++◌, Option, None, Ok, inl, inr}
 use Rattle.std.proofs.lemmas.Bool.{cases_lt}
 use Rattle.fuse_words.specs.declared.directory.EntryKind.{EntryKind}
-use Rattle.vol_layout.specs.Edition.{constants}
-use Rattle.vol_layout.specs.Inode.{inode_place, size_at}
-use Rattle.vol_layout.specs.declared.edition.Edition.{Edition}
-use Rattle.vol_layout.specs.declared.edition.Edition.TheVariants.{V6, V7}
 use Rattle.vol_layout.specs.declared.geometry.Geometry.{Geometry}
 use Rattle.vol_layout.specs.declared.slot.Slot.{Slot}
 use Rattle.vol_dir.specs.Entries.{entry_in, entry_at, slot_count}
 use Rattle.vol_dir.specs.Names.{Names}
 use Rattle.vol_dir.specs.Scan.{IsNextEntry}
 use Rattle.vol_dir.specs.Tree.{tree}
+use Rattle.vol_dir.proofs.Searches.{slots_low}
 use Rattle.vol_nodes.specs.Nodes.{after_ok, names_in}
 use Rattle.vol_serve.specs.Attributes.{entry_kind_in}
 use Rattle.vol_serve.specs.Listings.{listed, entries_from, listing_in}
@@ -74,14 +71,9 @@ from_far entry kind from far count room past =
           ap (λ n. entries_from entry kind from room n) none_left ∙ ap (λ n. entries_from entry kind (min from far) room n) none_there
     ]
 
--- no file has 2^32 slots
-few_by : (edition : Edition) (size : ℕ) → min size (constants edition).greatest / 16 ≤ 4294967295
-few_by V6 size = omega arith
-few_by V7 size = omega arith
-
 -- no directory has 2^32 slots
 pub few_slots : (geometry : Geometry) (image : List ℕ) (d : ℕ) → slot_count geometry image d ≤ 4294967295
-few_slots geometry image d = few_by geometry.edition (size_at geometry.edition image (inode_place geometry.edition d))
+few_slots geometry image d = omega (arith, slots_low geometry image d)
 
 -- at its beginning the listing is empty, so all entries are still to be added
 pub from_first : (entry : ℕ → Option (List ℕ × ℕ)) (kind : ℕ → EntryKind) (from far count size slot len : ℕ) (items : List ℕ)

@@ -1,3 +1,4 @@
+pub mod BufferedBytes
 pub mod Each
 pub mod EntryLists
 pub mod FirstMarks

@@ -1,6 +1,7 @@
 //! The tree of a volume as an archive in POSIX's ustar format.
 #![tactic(auto)]
 
+mod buffer;
 pub mod export_tree;
 pub mod laws;
 mod members;

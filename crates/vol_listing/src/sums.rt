@@ -26,13 +26,13 @@ use vol_layout::{Geometry, Kind};
 /// A SHA-256.
 type Sum = [u8; 32];
 
-/// The size in bytes of the buffer for a file's body.
+/// The size in bytes of the buffer for the bodies of files.
 const BUFFER: usize = 64 * 1024;
 
 /// Returns a line for each entry that isn't left out of an archive: the SHA-256 of a regular file's bytes, or a dash; the mode, the owner, the group,
 /// the size and the time of the node, and the path with unprintable bytes escaped.
 ///
-/// Costs the bytes of the files; each body is read through a buffer of 64 KiB. Takes memory for the text.
+/// Costs the bytes of the files; all bodies are read through one buffer of 64 KiB. Takes memory for the text.
 pub fn sums_text(
     alloc: Global,
     image: &Image,
@@ -43,8 +43,9 @@ pub fn sums_text(
     ensures { IfOk result (λ text. text.items ≡ sums_text (tree geometry.now image.now) founds.now) }
 {
     let mut text = Vec::new(alloc);
+    let mut buffer = [0; BUFFER];
     'founds: for found in founds {
-        push_met(alloc, image, geometry, found, &mut text)?;
+        push_met(alloc, image, geometry, found, &mut buffer, &mut text)?;
     }
     Ok(text)
 }
@@ -71,6 +72,7 @@ fn push_met(
     image: &Image,
     geometry: &Geometry,
     found: &MetEntry,
+    buffer: &mut [u8; BUFFER],
     text: &mut Vec<u8>,
 ) -> Result<(), AllocError>
     requires { Fits geometry.now image.now }
@@ -79,7 +81,7 @@ fn push_met(
     if is_left(found.role) {
         return Ok(());
     }
-    let sum = sum_at(image, geometry, found.inode);
+    let sum = sum_at(image, geometry, found.inode, buffer);
     let row = row_at(image, geometry, found.inode);
     push_line(alloc, sum, row, found.path.as_slice(), text)
 }
@@ -161,8 +163,9 @@ fn sum_values(
     ensures { IfOk result (λ values. map view values.items ≡ sums_data (tree geometry.now image.now) founds.now) }
 {
     let mut values = Vec::new(alloc);
+    let mut buffer = [0; BUFFER];
     'founds: for found in founds {
-        push_value(alloc, image, geometry, found, &mut values)?;
+        push_value(alloc, image, geometry, found, &mut buffer, &mut values)?;
     }
     Ok(values)
 }
@@ -173,6 +176,7 @@ fn push_value(
     image: &Image,
     geometry: &Geometry,
     found: &MetEntry,
+    buffer: &mut [u8; BUFFER],
     values: &mut Vec<Value>,
 ) -> Result<(), AllocError>
     requires { Fits geometry.now image.now }
@@ -181,7 +185,7 @@ fn push_value(
     if is_left(found.role) {
         return Ok(());
     }
-    let sum = sum_at(image, geometry, found.inode);
+    let sum = sum_at(image, geometry, found.inode, buffer);
     let row = row_at(image, geometry, found.inode);
     let value = summed_value(alloc, sum, row, found.path.as_slice())?;
     values.push(value)?;
@@ -211,29 +215,28 @@ fn sum_value(alloc: Global, sum: Option<Sum>) -> Result<Value, AllocError>
 
 /// Returns the SHA-256 of the bytes of node `i`, if it is a regular file.
 #[tactic(auto, using(crate::proofs::NodesRead::sum_regular, crate::proofs::NodesRead::sum_other, crate::proofs::NodesRead::sum_outside))]
-fn sum_at(image: &Image, geometry: &Geometry, i: u16) -> Option<Sum>
+fn sum_at(image: &Image, geometry: &Geometry, i: u16, buffer: &mut [u8; BUFFER]) -> Option<Sum>
     requires { Fits geometry.now image.now }
     ensures { result ≡ sum_at (tree geometry.now image.now) i }
 {
     if is_number(geometry, i) && kind(image, geometry, i) == Kind::Regular {
-        Some(sum_of_body(image, geometry, i))
+        Some(sum_of_body(image, geometry, i, buffer))
     } else {
         None
     }
 }
 
 /// Returns the SHA-256 of the body of i-node `i`, which is read through a buffer.
-fn sum_of_body(image: &Image, geometry: &Geometry, i: u16) -> Sum
+fn sum_of_body(image: &Image, geometry: &Geometry, i: u16, buffer: &mut [u8; BUFFER]) -> Sum
     requires fits { Fits geometry.now image.now }
     requires first { 1 ≤ i }
     requires last { i ≤ geometry.now.last_inode }
     ensures { result ≡ sha256 (body geometry.now image.now i) }
 {
     let mut hasher = Sha256::new();
-    let mut buffer = [0; BUFFER];
     let mut hashed = 0;
     'pieces: loop {
-        let count = read(image, geometry, i, hashed, &mut buffer);
+        let count = read(image, geometry, i, hashed, buffer);
         if count == 0 {
             return hasher.finalize();
         }

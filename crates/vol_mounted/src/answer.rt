@@ -8,7 +8,7 @@ use crate::calls::Calls;
 use crate::host::Host;
 use crate::loss::Loss;
 use crate::refusal::{MountedRefusal, errno};
-use crate::server::{MountedServer, geometry_in};
+use crate::server::MountedServer;
 use crate::settle::settle_loss;
 use fuse_words::{Header, Operation, Request, RequestFault, read_request};
 use std::alloc::Global;
@@ -138,9 +138,7 @@ impl MountedServer {
     ) -> Result<(), MountedRefusal>
         ensures { Puts (reply_of (sight_at self.now now) header.now operation.now) result room.new.reply }
     {
-        let geometry = geometry_in(&self.volume);
-        self.scene(alloc, &geometry, now)
-            .put_reply(header, operation, room)
+        self.scene(alloc, now).put_reply(header, operation, room)
     }
 
     /// Makes the calls of an operation, and records their effects.
@@ -174,8 +172,7 @@ impl MountedServer {
         ensures refused { IfErr result (λ refusal. refusal ≢ no_memory → planned self.now now header.now operation.now ≡ Err refusal) }
         ensures room { IfOk result (λ (calls, loss). loss_size loss ≤ spare_in self.now) }
     {
-        let geometry = geometry_in(&self.volume);
-        let scene = self.scene(alloc, &geometry, now);
+        let scene = self.scene(alloc, now);
         let calls = scene.plan(header, operation)?;
         let loss = scene.loss(header, operation, self.spare())?;
         Ok((calls, loss))

@@ -1,6 +1,5 @@
 //! The server of a mounted volume.
 ghost use Rattle.std.specs.Prelude.{◌≡◌};
-ghost use Rattle.vol_layout.specs.Geometry.{Fits, geometry_of};
 
 use crate::calls::Calls;
 use crate::host::Host;
@@ -11,7 +10,6 @@ use crate::scene::Scene;
 use crate::table::NodeTable;
 use std::alloc::{AllocError, Global};
 use vol_import::make::make_all;
-use vol_layout::Geometry;
 use vol_volume::Volume;
 
 /// The number of bytes of requests after which the journal is cut.
@@ -83,15 +81,13 @@ impl MountedServer {
     }
 
     /// Returns the volume and the nodes that the kernel knows, at a given time.
-    pub(crate) fn scene<'a>(&'a self, alloc: Global, geometry: &'a Geometry, now: u32) -> Scene<'a>
-        requires fits { Fits geometry.now self.now.volume.image }
-        requires sizes { geometry.now ≡ geometry_of self.now.volume.edition self.now.volume.image }
+    pub(crate) fn scene(&self, alloc: Global, now: u32) -> Scene<'_>
         ensures { sight_of result ≡ sight_at self.now now }
     {
         Scene {
             alloc,
             volume: &self.volume,
-            geometry,
+            geometry: self.volume.geometry(),
             nodes: &self.nodes,
             owner: self.owner,
             moment: now,
@@ -148,18 +144,5 @@ impl MountedServer {
             // This could fail only if a record's number reached 2^64.
             let _ = self.volume.cut();
         }
-    }
-}
-
-/// Returns the geometry of a volume, which fits its image.
-#[tactic(auto, unfolding(vol_layout::specs::Geometry::geometry_read), using(vol_judge::proofs::Parts::sound_whole, vol_judge::proofs::Parts::sound_bounded))]
-pub(crate) fn geometry_in(volume: &Volume) -> Geometry
-    ensures sizes { result ≡ geometry_of volume.now.edition volume.now.image }
-    ensures fits { Fits result volume.now.image }
-{
-    volume.check();
-    match Geometry::read(volume.edition(), volume.image()) {
-        Ok(geometry) => geometry,
-        Err(_) => unreachable!(),
     }
 }

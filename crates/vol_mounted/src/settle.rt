@@ -5,7 +5,6 @@ ghost use Rattle.vol_mounted.specs.Orphans.{held_by, size_if};
 
 use crate::loss::Loss;
 use crate::orphan::Orphans;
-use crate::server::geometry_in;
 use crate::table::NodeTable;
 use fuse_words::{Header, Operation};
 use pdp_words::Image;
@@ -21,14 +20,14 @@ const SLOTS: u32 = 1 << 28;
 impl NodeTable {
     /// Records the effect of an operation on the nodes that the kernel knows, after all its calls were made.
     pub(crate) fn settle(&mut self, volume: &Volume, header: &Header, operation: &Operation<'_>) {
-        let geometry = geometry_in(volume);
+        let geometry = volume.geometry();
         let image = volume.image();
         match operation {
             Operation::Lookup { name } | Operation::Link { name, .. } => {
-                self.record_name(image, &geometry, header.node, name.as_slice(), false);
+                self.record_name(image, geometry, header.node, name.as_slice(), false);
             }
             Operation::MkNod { name, .. } | Operation::MkDir { name, .. } => {
-                self.record_name(image, &geometry, header.node, name.as_slice(), true);
+                self.record_name(image, geometry, header.node, name.as_slice(), true);
             }
             Operation::Rename {
                 directory,
@@ -40,9 +39,9 @@ impl NodeTable {
                 new_name,
                 ..
             } => {
-                self.record_name(image, &geometry, *directory, new_name.as_slice(), false);
+                self.record_name(image, geometry, *directory, new_name.as_slice(), false);
             }
-            Operation::Open { .. } => self.record_open(image, &geometry, header.node),
+            Operation::Open { .. } => self.record_open(image, geometry, header.node),
             Operation::Release { .. } => self.record_close(geometry.edition, header.node),
             _ => {}
         }
@@ -99,9 +98,9 @@ pub(crate) fn settle_loss(nodes: &mut NodeTable, orphans: &mut Orphans, volume: 
     ensures { held_by orphans.new.files.items ≤ held_by orphans.old.files.items + size_if loss.orphan }
 {
     let Loss { i, orphan } = loss;
-    let geometry = geometry_in(volume);
-    if stat(volume.image(), &geometry, i).is_some() {
-        meet_again(nodes, volume.image(), &geometry, i);
+    let geometry = volume.geometry();
+    if stat(volume.image(), geometry, i).is_some() {
+        meet_again(nodes, volume.image(), geometry, i);
     } else if let Some(orphan) = orphan {
         orphans.keep(orphan);
     }

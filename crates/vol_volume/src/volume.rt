@@ -1,7 +1,7 @@
 //! Mounted volumes.
 ghost use Rattle.std.specs.Prelude.{◌≡◌, ◌<◌, IfOk, IfErr, IfSome, OnOk, OnErr, ◌≤◌, ◌+◌, ◌^◌, [], ◌∷◌, ◌++◌, length, vec_len, vec_capacity, None, Some, unwrap_or};
 ghost use Rattle.std.specs.Result.{result_err};
-ghost use Rattle.vol_layout.specs.Geometry.{geometry_of};
+ghost use Rattle.vol_layout.specs.Geometry.{Fits, geometry_of};
 ghost use Rattle.vol_dir.specs.Tree.{state, free_count, shapes};
 ghost use Rattle.vol_judge.specs.Sound.{IsSound};
 ghost use Rattle.vol_volume.specs.Faults.{IsFaultOf};
@@ -134,8 +134,10 @@ impl Volume {
 
     /// Returns the volume's geometry.
     pub fn geometry(&self) -> &Geometry
-        ensures { result.now ≡ geometry_of self.now.edition self.now.image }
+        ensures sizes { result.now ≡ geometry_of self.now.edition self.now.image }
+        ensures fits { Fits result.now self.now.image }
     {
+        stands(&self.parts.current, &self.parts.geometry);
         &self.parts.geometry
     }
 

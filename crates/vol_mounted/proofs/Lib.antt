@@ -1,7 +1,9 @@
 pub mod Answered
 pub mod Asked
 pub mod Climbs
+pub mod FirstValues
 pub mod Held
 pub mod Makings
 pub mod Stores
 pub mod TurnLaws
+pub mod Upwards

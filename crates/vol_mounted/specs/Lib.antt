@@ -4,6 +4,7 @@ pub mod Numbers
 pub mod Orphans
 pub mod Paths
 pub mod Plans
+pub mod Records
 pub mod Refusals
 pub mod Replies
 pub mod Scenes

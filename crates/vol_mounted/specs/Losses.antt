@@ -1,6 +1,6 @@
 -- The files that lose their last name while they are open.
 use Rattle.std.specs.Prelude.{◌≡◌, ◌≢◌, ◌<◌, ◌≤◌, ℕ, ◌/◌, ◌==◌, if◌then◌else◌, List, slice_get, Option, None, Some, Result, Ok, Err}
-use Rattle.std.specs.Option.{option_map_or}
+use Rattle.std.specs.Option.{option_map, option_map_or}
 use Rattle.fuse_words.specs.declared.operation.Operation.{Operation}
 use Rattle.fuse_words.specs.declared.operation.Operation.TheVariants as operations
 use Rattle.fuse_words.specs.declared.reply.Attributes.{Attributes}
@@ -34,27 +34,38 @@ kept_size opened (Ok attributes) =
     if opened == 0 then 0 else if attributes.links == 1 then if attributes.mode / 4096 == 8 then attributes.size else 0 else 0
 kept_size opened (Err fault) = 0
 
--- the number of bytes that are kept of the node that a name leads to, when the name is removed (unlink)
-abbrev pub kept_at : Sight → Result ℕ NodeFault → ℕ
-kept_at sight (Ok i) = kept_size (opened_at sight.nodes i) (attributes_in (tree sight.geometry sight.image) i)
-kept_at sight (Err fault) = 0
+-- the node that a name leads to, if there is one (this project)
+abbrev pub node_if : Result ℕ NodeFault → Option ℕ
+node_if (Ok i) = Some i
+node_if (Err fault) = None
 
--- the number of bytes that are kept when a name is removed from a directory, if there is such a directory (unlink)
-abbrev pub kept_in : Sight → Option ℕ → List ℕ → ℕ
-kept_in sight None name = 0
-kept_in sight (Some d) name = kept_at sight (look_up (tree sight.geometry sight.image) d name)
+-- the node that a name leads to in a directory, if there is such a directory (this project)
+abbrev pub node_in : Sight → List ℕ → Option ℕ → Option ℕ
+node_in sight name None = None
+node_in sight name (Some d) = node_if (look_up (tree sight.geometry sight.image) d name)
 
--- the number of bytes that are kept when a name is removed from the directory with this node number (unlink)
-abbrev pub kept_bytes : Sight → ℕ → List ℕ → ℕ
-kept_bytes sight node name = kept_in sight (i_number sight.geometry.edition sight.nodes node) name
+-- the node that a name leads to in the directory with this node number, if there is one (this project)
+abbrev pub node_named : Sight → ℕ → List ℕ → Option ℕ
+node_named sight node name = node_in sight name (i_number sight.geometry.edition sight.nodes node)
 
--- the number of bytes that are kept of the file that loses a name through an operation: the file of UNLINK, or the one that a rename replaces
--- (unlink; rename)
-unfoldable pub lost_bytes : Sight → Header → Operation → ℕ
-lost_bytes sight header (operations.Unlink name) = kept_bytes sight header.node name
-lost_bytes sight header (operations.Rename directory name new_name) = kept_bytes sight directory new_name
-lost_bytes sight header (operations.Rename2 directory flags name new_name) = kept_bytes sight directory new_name
-lost_bytes sight header operation = 0
+-- the node that loses a name through an operation, if there is one: the file of UNLINK, or the one that a rename replaces (unlink; rename)
+unfoldable pub lost_node : Sight → Header → Operation → Option ℕ
+lost_node sight header (operations.Unlink name) = node_named sight header.node name
+lost_node sight header (operations.Rename directory name new_name) = node_named sight directory new_name
+lost_node sight header (operations.Rename2 directory flags name new_name) = node_named sight directory new_name
+lost_node sight header operation = None
+
+-- the number of bytes that are kept of node i when it loses a name (unlink)
+abbrev pub kept_bytes : Sight → ℕ → ℕ
+kept_bytes sight i = kept_size (opened_at sight.nodes i) (attributes_in (tree sight.geometry sight.image) i)
+
+-- the number of bytes that are kept of the file that loses a name through an operation (unlink; rename)
+abbrev pub lost_bytes : Sight → Header → Operation → ℕ
+lost_bytes sight header operation = option_map_or (kept_bytes sight) (lost_node sight header operation) 0
+
+-- the node that loses a name, if there is one (this project)
+abbrev pub node_of : Option Loss → Option ℕ
+node_of loss = option_map (λ (loss : Loss). loss.i) loss
 
 -- the number of bytes that are kept of a file that loses a name, if there is one (this project)
 abbrev pub loss_size : Option Loss → ℕ

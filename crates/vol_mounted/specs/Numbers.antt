@@ -11,7 +11,7 @@ abbrev pub birth_at : List KnownNode → ℕ → ℕ
 birth_at nodes i = option_map_or (λ (known : KnownNode). known.birth) (slice_get nodes i) 0
 
 -- the number of the node with i-number i: 1 for the root; for others, the low 16 bits are the i-number, and the higher bits are the number of times
--- that it was allocated, so that no number that the kernel has leads to a node that was made later (FUSE_ROOT_ID; the rest is this project's)
+-- that it was allocated, counted up to 2^32 - 1 (FUSE_ROOT_ID; the rest is this project's)
 abbrev pub node_number : Edition → List KnownNode → ℕ → ℕ
 node_number edition nodes i = if i == (constants edition).root then 1 else 65536 * birth_at nodes i + i
 

@@ -62,10 +62,3 @@ IsStopped old calls new refusal =
 -- all the calls that were planned were accepted (this project)
 abbrev pub Made : Mounted → Result (List Call) MountedRefusal → Mounted → Type 0
 Made old planned new = (calls : List Call) × (planned ≡ Ok calls) × AreMade old calls new
-
--- the volume is unchanged, since the plan failed for this reason or memory ran out; or some calls were made, and the next one was refused with this
--- refusal (this project)
-abbrev pub Unmade : Mounted → Result (List Call) MountedRefusal → Mounted → MountedRefusal → Type 0
-Unmade old planned new refusal =
-    ((new ≡ old) × (refusal ≢ no_memory → planned ≡ Err refusal))
-    ⊎ ((calls : List Call) × (planned ≡ Ok calls) × IsStopped old calls new refusal)

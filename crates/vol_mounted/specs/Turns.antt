@@ -13,10 +13,12 @@ use Rattle.vol_volume.specs.Volume.{after_cut}
 use Rattle.vol_volume.specs.declared.calls.Call.{Call}
 use Rattle.vol_serve.specs.declared.errno.RequestRefusal.TheVariants as requests
 use Rattle.vol_mounted.specs.Errno.{errno}
-use Rattle.vol_mounted.specs.Losses.{no_space, lost_bytes}
+use Rattle.vol_layout.specs.Geometry.{geometry_of}
+use Rattle.vol_mounted.specs.Losses.{no_space, lost_bytes, lost_node}
+use Rattle.vol_mounted.specs.Records.{remembered}
 use Rattle.vol_mounted.specs.Refusals.{and_then, no_memory}
 use Rattle.vol_mounted.specs.Replies.{calls_of, reply_of}
-use Rattle.vol_mounted.specs.Servers.{sight_at, spare_in, Kept, Made, Unmade}
+use Rattle.vol_mounted.specs.Servers.{sight_at, spare_in, Kept, Made, IsStopped}
 use Rattle.vol_mounted.specs.declared.orphan.Orphan.{Orphan}
 use Rattle.vol_mounted.specs.declared.refusal.MountedRefusal.{MountedRefusal}
 use Rattle.vol_mounted.specs.declared.refusal.MountedRefusal.TheVariants as mounted
@@ -33,25 +35,43 @@ planned server now header operation =
     and_then (calls_of (sight_at server now) header operation) (λ calls.
     if nat_lt (spare_in server) (lost_bytes (sight_at server now) header operation) then Err no_space else Ok calls)
 
+-- the records of the i-numbers after an operation, whose calls were all made or not, in the volume after the calls (this project)
+abbrev pub Remembers : MountedServer → MountedServer → ℕ → Header → Operation → Bool → Type 0
+Remembers old new now header operation is_made =
+    new.nodes ≡ remembered (geometry_of new.volume.edition new.volume.image) new.volume.image old.nodes header operation is_made
+    (lost_node (sight_at old now) header operation)
+
+-- all the calls of an operation were made, and the records are those after it (this project)
+abbrev pub IsMade : MountedServer → MountedServer → ℕ → Header → Operation → Type 0
+IsMade old new now header operation =
+    Made old.volume (planned old now header operation) new.volume × Remembers old new now header operation true
+
+-- the volume and the records are unchanged, since the plan failed for this reason or memory ran out; or some calls were made, and the next one was
+-- refused with this refusal (this project)
+abbrev pub IsUnmade : MountedServer → MountedServer → ℕ → Header → Operation → MountedRefusal → Type 0
+IsUnmade old new now header operation refusal =
+    ((new.volume ≡ old.volume) × (new.nodes ≡ old.nodes) × (refusal ≢ no_memory → planned old now header operation ≡ Err refusal))
+    ⊎ ((calls : List Call) × (planned old now header operation ≡ Ok calls) × IsStopped old.volume calls new.volume refusal
+    × Remembers old new now header operation false)
+
 -- an operation was answered: its calls were made, and the reply shows the tree after them; or it was refused: its calls weren't made, or there is no
 -- reply from that tree, or memory ran out for the reply (this project)
 abbrev pub IsAnswered : MountedServer → MountedServer → ℕ → Header → Operation → Result (List ℕ) MountedRefusal → Type 0
 IsAnswered old new now header operation (Ok reply) =
-    Made old.volume (planned old now header operation) new.volume × (reply_of (sight_at new now) header operation ≡ Ok reply)
+    IsMade old new now header operation × (reply_of (sight_at new now) header operation ≡ Ok reply)
 IsAnswered old new now header operation (Err refusal) =
-    Unmade old.volume (planned old now header operation) new.volume refusal
-    ⊎ (Made old.volume (planned old now header operation) new.volume
-    × (refusal ≢ no_memory → reply_of (sight_at new now) header operation ≡ Err refusal))
+    IsUnmade old new now header operation refusal
+    ⊎ (IsMade old new now header operation × (refusal ≢ no_memory → reply_of (sight_at new now) header operation ≡ Err refusal))
 
 -- true if a file without a name that is still open has this node number (this project)
 abbrev pub is_orphan : MountedServer → ℕ → Bool
 is_orphan server node = list_any (λ (file : Orphan). file.node == node) server.orphans.files.items
 
--- an operation on a file without a name doesn't change the volume; any other is answered (this project)
+-- an operation on a file without a name changes neither the volume nor the records; any other is answered (this project)
 abbrev pub IsServed : MountedServer → MountedServer → ℕ → Header → Operation → Result (List ℕ) MountedRefusal → Type 0
 IsServed old new now header operation outcome =
     Kept old new
-    × MatchBool (is_orphan old header.node) (new.volume ≡ old.volume) (IsAnswered old new now header operation outcome)
+    × MatchBool (is_orphan old header.node) ((new.volume ≡ old.volume) × (new.nodes ≡ old.nodes)) (IsAnswered old new now header operation outcome)
 
 -- the image was saved, or wasn't changed since it was last saved; or it couldn't be saved (this project)
 abbrev pub IsSaved : MountedServer → MountedServer → List (List ℕ) → Bool → Type 0

@@ -19,11 +19,13 @@ impl MountedServer {
     ghost use Rattle.std.specs.Prelude.{◌≡◌, ◌≢◌, ◌≤◌, ◌+◌, ℕ, List, Some, None, Ok, Err, if◌then◌else◌, IfOk, OnOk, IfErr};
     ghost use Rattle.fuse_words.specs.Requests.{request_of};
     ghost use Rattle.vol_serve.specs.Messages.{Grows};
-    ghost use Rattle.vol_mounted.specs.Losses.{loss_size};
+    ghost use Rattle.vol_mounted.specs.Losses.{loss_size, lost_node, node_of};
+    ghost use Rattle.vol_layout.specs.Geometry.{geometry_of};
+    ghost use Rattle.vol_mounted.specs.Records.{after_loss};
     ghost use Rattle.vol_mounted.specs.Refusals.{Puts, no_memory};
     ghost use Rattle.vol_mounted.specs.Replies.{reply_of};
-    ghost use Rattle.vol_mounted.specs.Servers.{sight_at, held_in, spare_in, Kept, Made, Unmade};
-    ghost use Rattle.vol_mounted.specs.Turns.{planned, IsAnswered, IsServed, HasOutcome, Answers, put_by};
+    ghost use Rattle.vol_mounted.specs.Servers.{sight_at, held_in, spare_in, Kept};
+    ghost use Rattle.vol_mounted.specs.Turns.{planned, IsMade, IsUnmade, IsAnswered, IsServed, HasOutcome, Answers, put_by};
 
     /// Puts the reply to a request into `room`; returns false if none is sent.
     pub(crate) fn answer<H: Host>(
@@ -149,15 +151,23 @@ impl MountedServer {
         header: &Header,
         operation: &Operation<'_>,
     ) -> Result<(), MountedRefusal>
-        ensures made { OnOk result (Made self.old.volume (planned self.old now header.now operation.now) self.new.volume) }
-        ensures unmade { IfErr result (Unmade self.old.volume (planned self.old now header.now operation.now) self.new.volume) }
+        ensures made { OnOk result (IsMade self.old self.new now header.now operation.now) }
+        ensures unmade { IfErr result (IsUnmade self.old self.new now header.now operation.now) }
         ensures kept { Kept self.old self.new }
     {
         let (calls, loss) = self.plan(alloc, now, header, operation)?;
         self.orphans.reserve(loss.is_some())?;
-        let made = self.make(alloc, calls);
-        self.settle(header, operation, made.is_ok(), loss);
-        made
+        match self.make(alloc, calls) {
+            Ok(()) => {
+                self.nodes.settle(&self.volume, header, operation);
+                self.lose(loss);
+                Ok(())
+            }
+            Err(refusal) => {
+                self.lose(loss);
+                Err(refusal)
+            }
+        }
     }
 
     /// Returns the calls of an operation, and the file that loses a name through them.
@@ -171,6 +181,7 @@ impl MountedServer {
         ensures planned { IfOk result (λ (calls, loss). planned self.now now header.now operation.now ≡ Ok calls) }
         ensures refused { IfErr result (λ refusal. refusal ≢ no_memory → planned self.now now header.now operation.now ≡ Err refusal) }
         ensures room { IfOk result (λ (calls, loss). loss_size loss ≤ spare_in self.now) }
+        ensures node { IfOk result (λ (calls, loss). node_of loss ≡ lost_node (sight_at self.now now) header.now operation.now) }
     {
         let scene = self.scene(alloc, now);
         let calls = scene.plan(header, operation)?;
@@ -178,27 +189,18 @@ impl MountedServer {
         Ok((calls, loss))
     }
 
-    /// Records the effects of an operation after all or some of its calls were made.
-    fn settle(
-        &mut self,
-        header: &Header,
-        operation: &Operation<'_>,
-        is_made: bool,
-        loss: Option<Loss>,
-    )
+    /// Records that a file lost a name, if one did.
+    fn lose(&mut self, loss: Option<Loss>)
         ensures volume { self.new.volume ≡ self.old.volume }
         ensures owner { self.new.owner ≡ self.old.owner }
         ensures is_changed { self.new.is_changed ≡ self.old.is_changed }
         ensures weight { self.new.weight ≡ self.old.weight }
+        ensures nodes { self.new.nodes ≡ after_loss (geometry_of self.old.volume.edition self.old.volume.image) self.old.volume.image self.old.nodes (node_of loss) }
         ensures held { held_in self.new ≤ held_in self.old + loss_size loss }
     {
-        if is_made {
-            self.nodes.settle(&self.volume, header, operation);
+        if let Some(loss) = loss {
+            settle_loss(&mut self.nodes, &mut self.orphans, &self.volume, loss);
         }
-        let Some(loss) = loss else {
-            return;
-        };
-        settle_loss(&mut self.nodes, &mut self.orphans, &self.volume, loss);
     }
 }
 

@@ -23,20 +23,23 @@ pub(crate) struct Loss {
 impl Scene<'_> {
     ghost use Rattle.vol_dir.specs.Tree.{tree};
     ghost use Rattle.vol_serve.specs.Attributes.{attributes_in};
-    ghost use Rattle.vol_mounted.specs.Losses.{Keeps, lost_bytes, kept_bytes, kept_size, loss_size};
+    ghost use Rattle.std.specs.Prelude.{IfOk};
+    ghost use Rattle.std.specs.Option.{option_map_or};
+    ghost use Rattle.vol_mounted.specs.Losses.{Keeps, lost_bytes, lost_node, kept_bytes, kept_size, loss_size, node_named, node_of};
     ghost use Rattle.vol_mounted.specs.Orphans.{size_if};
     ghost use Rattle.vol_mounted.specs.Scenes.{sight_of};
 
     /// Returns the file that loses a name through an operation, if any: the file of UNLINK, or the one that a rename replaces. If the file is open,
     /// takes memory for its bytes, at most `spare`.
-    #[tactic(auto, unfolding(crate::specs::Losses::lost_bytes))]
+    #[tactic(auto, unfolding(crate::specs::Losses::lost_node))]
     pub(crate) fn loss(
         &self,
         header: &Header,
         operation: &Operation<'_>,
         spare: usize,
     ) -> Result<Option<Loss>, MountedRefusal>
-        ensures { Keeps loss_size spare (lost_bytes (sight_of self.now) header.now operation.now) result }
+        ensures kept { Keeps loss_size spare (lost_bytes (sight_of self.now) header.now operation.now) result }
+        ensures node { IfOk result (λ loss. node_of loss ≡ lost_node (sight_of self.now) header.now operation.now) }
     {
         match operation {
             Operation::Unlink { name } => self.loss_of(header.node, name.as_slice(), spare),
@@ -61,7 +64,8 @@ impl Scene<'_> {
         name: &[u8],
         spare: usize,
     ) -> Result<Option<Loss>, MountedRefusal>
-        ensures { Keeps loss_size spare (kept_bytes (sight_of self.now) directory name.now) result }
+        ensures kept { Keeps loss_size spare (option_map_or (kept_bytes (sight_of self.now)) (node_named (sight_of self.now) directory name.now) 0) result }
+        ensures node { IfOk result (λ loss. node_of loss ≡ node_named (sight_of self.now) directory name.now) }
     {
         let Some(dir) = self.nodes.i_number(self.geometry.edition, directory) else {
             return Ok(None);
@@ -77,7 +81,7 @@ impl Scene<'_> {
 
     /// Returns file `i` as it will be kept in memory, if it is open and loses its last name.
     fn orphan(&self, i: u16, spare: usize) -> Result<Option<Orphan>, MountedRefusal>
-        ensures { Keeps size_if spare (kept_size (opened_at self.now.nodes.now i) (attributes_in (tree self.now.geometry.now self.now.volume.now.image) i)) result }
+        ensures { Keeps size_if spare (kept_bytes (sight_of self.now) i) result }
     {
         let opened = opened_at(self.nodes, i);
         let Ok(attributes) = node_attributes(self.volume.image(), self.geometry, i) else {

@@ -24,6 +24,7 @@ impl MountedServer {
         room: &mut Room,
     ) -> Result<(), MountedRefusal>
         ensures volume { self.new.volume ≡ self.old.volume }
+        ensures nodes { self.new.nodes ≡ self.old.nodes }
         ensures kept { Kept self.old self.new }
     {
         if matches!(operation, Operation::Release { .. }) {

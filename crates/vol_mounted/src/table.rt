@@ -38,7 +38,7 @@ impl NodeTable {
     }
 
     /// Returns the number of i-numbers in the table.
-    fn count(&self) -> usize
+    pub(crate) fn count(&self) -> usize
         ensures { result ≡ length self.now }
     {
         self.nodes.as_slice().len()

@@ -1,2 +1,4 @@
 pub mod Archives
 pub mod Fronts
+pub mod Packs
+pub mod Zeros

@@ -2,16 +2,20 @@
 #![tactic(auto)]
 
 mod archive_front;
+mod holes;
 mod image_file;
 mod marks;
 mod noted;
+mod pack;
 mod saved_files;
 mod volume_front;
 
+pub use holes::{HoleSink, SinkFailed, write_with_holes};
 pub use image_file::{
     FileKind, ImageFiles, OpenFault, Stamp, expect_image, open_image, open_stamped,
 };
 pub use marks::{Marks, modified_in, permissions_of};
 pub use noted::{Noted, noted_reader, noted_writer};
+pub use pack::{PartFault, SpliceFault, read_part, splice};
 pub use saved_files::{Content, HeldFile, is_pipe, save_apart, save_file, save_held, save_marked};
 pub use volume_front::{FrontFault, UpTo, read_on, read_up_to};

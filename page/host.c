@@ -36,6 +36,7 @@ enum {
     EAGAIN = 11,
     EINVAL = 22,
     ENOTTY = 25,
+    ESPIPE = 29,
     ERANGE = 34,
     ENOSYS = 38,
 };
@@ -86,6 +87,13 @@ int statx(int folder, const char *path, int flags, unsigned wanted, void *found)
 }
 
 int ftruncate(int file, int64_t size) { return (int)answered(host_truncate(file, size)); }
+
+// The host's files are read and written from their beginning on. The program seeks only in a file with holes, and here none counts as one.
+int64_t lseek(int file, int64_t offset, int from) {
+    (void)file, (void)offset, (void)from;
+    return refused(ESPIPE);
+}
+
 int fchmod(int file, int mode) { return (int)answered(host_chmod(file, mode)); }
 int fchown(int file, int user, int group) { return (int)answered(host_chown(file, user, group)); }
 int futimens(int file, const void *times) { return (int)answered(host_times(file, times)); }

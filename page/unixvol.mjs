@@ -95,7 +95,8 @@ class Memory {
         view.setUint16(28, Number(stats.mode), true);
         view.setBigUint64(32, BigInt.asUintN(64, stats.ino), true);
         view.setBigUint64(40, stats.size, true);
-        view.setBigUint64(48, stats.blocks, true);
+        // Every file counts as without holes, since the program can't seek in it to make some.
+        view.setBigUint64(48, (stats.size + 511n) / 512n, true);
         this.#giveTime(view, 64, stats.atimeNs);
         this.#giveTime(view, 96, stats.ctimeNs);
         this.#giveTime(view, 112, stats.mtimeNs);

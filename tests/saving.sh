@@ -65,6 +65,35 @@ echo 'unixvol: cannot write volumes/linked' > line
 wants 'rm where the new file finds no room' 3 none line
 saves 'a volume whose new file found no room' volumes/linked before
 
+# Zeros of a file that stores fewer blocks than its size takes are saved as holes; a file without holes is saved without.
+# stored FILE: the KiB that a file takes on its disk
+stored() { du -k "$1" | cut -f 1; }
+# On a disk that stores a file of zeros as a hole there is no file without holes.
+head -c 1000000 /dev/zero > zeros
+sync zeros
+prints none mkfs 7 full 20000 100 0 0 1
+cp --sparse=always full holed
+holed=$(stored holed)
+for image in full holed; do prints none mkdir 7 "$image" /d 2; done
+saves 'a volume with holes that was changed' holed full
+[ "$(stored zeros)" -lt 900 ] \
+    || has 'the room of a volume that had no holes' yes "$([ "$(stored full)" -ge 10000 ] && echo yes || stored full)"
+has 'the room of a volume with holes' yes "$([ "$(stored holed)" -le $((holed + 64)) ] && echo yes || stored holed)"
+cp --sparse=always holed before
+(ulimit -f 4000; trap '' XFSZ; runs mkdir 7 holed /e 2)
+echo 'unixvol: cannot write holed' > line
+wants 'mkdir where a new file with holes finds no room' 3 none line
+saves 'a volume with holes whose new file found no room' holed before
+truncate -s +2M holed
+printf x | dd of=holed bs=1 seek=12000000 conv=notrunc status=none
+cp --sparse=always holed before
+prints none mkdir 7 holed /e 3
+prints none rmdir 7 holed /e 3
+has 'the bytes after a volume with holes' yes "$(cmp -s -i 10240000 holed before && echo yes)"
+has 'the size of a volume with holes after it' "$(wc -c < before)" "$(wc -c < holed)"
+has 'the room of a volume with holes after it' yes "$([ "$(stored holed)" -le $((holed + 64)) ] && echo yes || stored holed)"
+rm full holed before zeros
+
 # An image that is a pipe, a socket or a terminal isn't changed, and isn't read for it either; it can be shown.
 for command in 'put /a hello 1' 'rm /a 1' 'rmdir /a 1' 'mkdir /a 1' 'ln /a /b 1' 'chmod /a 644 1' 'chown /a 1 2 1'; do
     read -r -a given <<< "$command"

@@ -39,3 +39,8 @@ IsSpliced at bytes old new held held' =
 abbrev pub IsMisfit : ℕ → Option (List ℕ) → Option (List ℕ) → Type 0
 IsMisfit end old new =
     (read : List ℕ) × Consumes old new read × ((IsAtEnd new × (length read < end)) ⊎ (length read ≡ end + 18446744073709551615))
+
+-- the next `count` bytes of a file were dropped; or, if it had fewer, all of them (this project)
+abbrev pub IsMovedTo : ℕ → Option (List ℕ) → Option (List ℕ) → Type 0
+IsMovedTo count old new =
+    (lost : List ℕ) × Consumes old new lost × (length lost ≤ count) × (length lost < count → IsAtEnd new)

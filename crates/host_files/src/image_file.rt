@@ -1,11 +1,13 @@
 //! The file of an image to change: its kind, its lock, and whether it has changed since it was read.
-ghost use Rattle.std.specs.Prelude.{◌≡◌, ◌≢◌, ◌↔◌, ◌==◌, ◌&&◌, ℕ, List, Bool, true, false, IfErr, IfOk, IfSome};
+ghost use Rattle.std.specs.Prelude.{◌≡◌, ◌≢◌, ◌↔◌, ◌==◌, ◌&&◌, ℕ, List, Bool, true, false, replicate, IfErr, IfOk, IfSome, OnOk};
+ghost use Rattle.std.specs.Io.KnownBytes.{Appends};
 ghost use Rattle.std.specs.Fs.{IsDir, IsFile, file_type, metadata_len};
 ghost use Rattle.host_files.specs.declared.image_file.Stamp.{Stamp};
 ghost use Rattle.host_files.specs.OpenedFiles.{IsOpenTo, OpensTo};
+ghost use Rattle.host_files.specs.Packs.{IsMovedTo};
 
-use std::fs::{self, File, Files, Metadata, TryLockError};
-use std::io::{self, IsTerminal};
+use std::fs::{self, File, Files, Metadata, OpenFile, TryLockError};
+use std::io::{self, IsTerminal, Seek, SeekFrom};
 use std::os::unix::fs::{FileTypeExt, MetadataExt, fchown};
 use std::rt::Clock;
 use std::thread;
@@ -127,6 +129,14 @@ pub trait ImageFiles: Files {
     /// Locks an open file for this program alone, until all its handles are closed. False if another program has it locked; true also if the file's
     /// system has no locks.
     fn try_lock(&self, file: &Self::File) -> bool;
+
+    /// Moves over the next `count` bytes of an open file, without reading or writing them. If it has fewer, it has none left.
+    fn pass_over(&self, file: &mut Self::File, count: u64) -> io::Result<()>
+        ensures { OnOk result (IsMovedTo count (Self.File.remaining file.old) (Self.File.remaining file.new)) };
+
+    /// Appends `count` zeros to an open file that ends where it is written, as a hole if its system has holes.
+    fn append_hole(&self, file: &mut Self::File, count: u64) -> io::Result<()>
+        ensures { OnOk result (Appends (Self.File.contents file.old) (Self.File.contents file.new) (replicate count 0)) };
 }
 
 impl ImageFiles for HostRuntime {
@@ -167,6 +177,27 @@ impl ImageFiles for HostRuntime {
 
     fn try_lock(&self, file: &File) -> bool {
         !matches!(file.try_lock(), Err(TryLockError::WouldBlock))
+    }
+
+    fn pass_over(&self, file: &mut File, count: u64) -> io::Result<()> {
+        let here = file.stream_position()?;
+        file.seek(SeekFrom::Start(offset_after(here, count)?))?;
+        Ok(())
+    }
+
+    fn append_hole(&self, file: &mut File, count: u64) -> io::Result<()> {
+        let end = file.seek(SeekFrom::End(0))?;
+        file.set_len(offset_after(end, count)?)?;
+        file.seek(SeekFrom::End(0))?;
+        Ok(())
+    }
+}
+
+/// Returns the offset `count` bytes after another one, or an error if no file has it.
+fn offset_after(offset: u64, count: u64) -> io::Result<u64> {
+    match offset.checked_add(count) {
+        Some(after) => Ok(after),
+        None => Err(io::Error::from(io::ErrorKind::InvalidInput)),
     }
 }
 

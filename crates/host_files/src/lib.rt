@@ -2,6 +2,7 @@
 #![tactic(auto)]
 
 mod archive_front;
+mod holed_file;
 mod holes;
 mod image_file;
 mod marks;

@@ -1,8 +1,11 @@
 //! Saves an image in a file so that a failure leaves the old file unchanged.
 ghost use Rattle.std.specs.Prelude.{◌≡◌, true, IfOk, IfSome, OnErr, OnOk};
+ghost use Rattle.std.specs.Io.KnownBytes.{Appends};
 ghost use Rattle.std.specs.Path.{path_bytes, path_buf_bytes};
 ghost use Rattle.host_files.specs.Save.{IsBeside, Grows, Saves, IsPlaced, Holds};
 
+use crate::holed_file::HoledFile;
+use crate::holes::{SinkFailed, write_with_holes};
 use crate::image_file::{FileKind, ImageFiles, Stamp};
 use crate::marks::{Marks, give_marks};
 use crate::noted::noted_writer;
@@ -44,6 +47,9 @@ const PRIVATE: u32 = 0o600;
 /// isn't run.
 const RIGHTS: u32 = 0o777;
 
+/// The size of the blocks in which the system counts what a file stores.
+const STORED_BLOCK: u64 = 512;
+
 /// The content to save in a file.
 #[derive(Clone, Copy)]
 pub enum Content<'a> {
@@ -60,6 +66,14 @@ struct Replaced {
     stamp: Stamp,
     /// Its owner, its group and its permissions.
     metadata: Metadata,
+}
+
+impl Replaced {
+    /// True if the file stores fewer blocks than its size takes, so that it has holes. If the system counts no blocks, the file counts as one without.
+    fn has_holes(&self) -> bool {
+        let blocks = self.metadata.blocks();
+        0 < blocks && blocks < self.metadata.len() / STORED_BLOCK
+    }
 }
 
 /// The file in which a content was saved, and its stamp now.
@@ -95,8 +109,8 @@ impl Content<'_> {
 
 /// Saves a content in the file `path`. Its bytes are written to a new file in the same folder, which then replaces the old one. The new file gets the
 /// old one's owner, group and permissions if the system allows it; otherwise it belongs to the caller, without the rights of a group that it can't
-/// have. If this fails, the old file is unchanged, and there is no new one. A symbolic link is followed. Anything but a regular file, such as a
-/// device or a pipe, is written in place.
+/// have. If the old file has holes, the zeros of bytes in memory become holes of the new one. If this fails, the old file is unchanged, and there is no
+/// new one. A symbolic link is followed. Anything but a regular file, such as a device or a pipe, is written in place.
 ///
 /// If the content was made from the contents of the file, `read` is the stamp that the file had then. The stamp must be the same just before the new
 /// file replaces the file or the first byte is written.
@@ -378,12 +392,38 @@ fn fill<R: ImageFiles>(
     if let Some(old) = old {
         keep_owner(rt, &file, &old.metadata)?;
     }
-    let file = write(file, content)?;
+    let file = write_new(rt, file, old, content)?;
     if let Some(marks) = marks {
         give_marks(&file, marks)?;
     }
     file.sync_all()?;
     Ok(file)
+}
+
+/// Writes a content after the bytes that a new file holds, and returns the file. Zeros of bytes in memory become holes if the old file has holes.
+fn write_new<R: ImageFiles>(
+    rt: &R,
+    file: R::File,
+    old: Option<&Replaced>,
+    content: Content<'_>,
+) -> io::Result<R::File>
+    ensures { IfOk result (λ written. Grows content.entry (R.File.contents file) (R.File.contents written)) }
+{
+    match (content, old) {
+        (Content::Bytes(bytes), Some(old)) if old.has_holes() => write_holed(rt, file, bytes),
+        _ => write(file, content),
+    }
+}
+
+/// Writes bytes after those that a file holds, with holes for zeros, and returns the file.
+fn write_holed<R: ImageFiles>(rt: &R, file: R::File, bytes: &[u8]) -> io::Result<R::File>
+    ensures { IfOk result (λ written. Appends (R.File.contents file) (R.File.contents written) bytes.now) }
+{
+    let mut sink = HoledFile::new(rt, file);
+    match write_with_holes(&mut sink, bytes) {
+        Ok(()) => Ok(sink.into_inner()),
+        Err(SinkFailed) => Err(unwritten(sink.error())),
+    }
 }
 
 /// Changes the owner, group and permissions of an open file to those of an old file. Only the super-user can change a file's owner; other users stay

@@ -1,0 +1,91 @@
+//! A new file of the host that keeps the holes of the file that it replaces.
+ghost use Rattle.std.specs.Prelude.{◌≡◌, ◌≢◌, ◌<◌, false, length, IfErr, IfOk};
+ghost use Rattle.std.specs.Io.{WritesAtMost};
+ghost use Rattle.std.specs.Io.KnownBytes.{WriteAppends};
+ghost use Rattle.std.specs.IoError.{error_kind};
+ghost use Rattle.std.specs.Option.{is_some};
+
+use crate::holes::{HoleSink, SinkFailed};
+use crate::image_file::ImageFiles;
+use pdp_words::Sink;
+use std::io::{self, ErrorKind, Write};
+
+/// A new file that bytes are appended to, zeros as holes.
+#[derive(Drop)]
+pub(crate) struct HoledFile<'a, R: ImageFiles> {
+    rt: &'a R,
+    file: R::File,
+    error: Option<io::Error>,
+}
+
+impl<'a, R: ImageFiles> HoledFile<'a, R> {
+    /// Returns a sink into an open file, after the bytes that it holds. The sink hasn't failed.
+    pub(crate) fn new(rt: &'a R, file: R::File) -> HoledFile<'a, R>
+        ensures bytes { ⟦<HoledFile<'a, R> as Sink>⟧.contents result ≡ R.File.contents file }
+        ensures fresh { ⟦<HoledFile<'a, R> as Sink>⟧.failed result ≡ false }
+    {
+        HoledFile {
+            rt,
+            file,
+            error: None,
+        }
+    }
+
+    /// Returns the file, with the bytes that it holds.
+    pub(crate) fn into_inner(self) -> R::File
+        ensures { R.File.contents result ≡ ⟦<HoledFile<'a, R> as Sink>⟧.contents self.entry }
+    {
+        self.file
+    }
+
+    /// Returns the system's last error, if it had one.
+    pub(crate) fn error(&self) -> Option<io::Error> {
+        self.error
+    }
+}
+
+impl<R: ImageFiles> Sink for HoledFile<'_, R> {
+    ghost contents = { λ sink. R.File.contents sink.file };
+
+    ghost failed = { λ sink. is_some sink.error };
+
+    fn write(&mut self, buf: &[u8]) -> io::Result<usize> {
+        let result = write_uninterrupted(&mut self.file, buf);
+        if let Err(error) = result {
+            self.error = Some(error);
+        }
+        result
+    }
+
+    fn failed(&self) -> bool {
+        self.error.is_some()
+    }
+}
+
+impl<R: ImageFiles> HoleSink for HoledFile<'_, R> {
+    fn append_zeros(&mut self, zeros: &[u8]) -> Result<(), SinkFailed> {
+        let result = self.rt.append_hole(&mut self.file, zeros.len() as u64);
+        if let Err(error) = result {
+            self.error = Some(error);
+            return Err(SinkFailed);
+        }
+        Ok(())
+    }
+}
+
+/// Writes bytes from the front of `buf` once, and again if a signal interrupts the write, as `IntoWrite` does.
+fn write_uninterrupted<F: Write>(file: &mut F, buf: &[u8]) -> io::Result<usize>
+    ensures bound { WritesAtMost result buf.now }
+    ensures bytes { WriteAppends (F.contents file.old) (F.contents file.new) result buf.now }
+    ensures progress { 0 < length buf.now → IfOk result (λ n. 0 < n) }
+    ensures retried { IfErr result (λ e. error_kind e ≢ ErrorKind.Interrupted) }
+{
+    'tries: for _ in 0..u64::MAX {
+        match file.write(buf) {
+            Ok(0) if !buf.is_empty() => return Err(io::Error::from(ErrorKind::WriteZero)),
+            Err(error) if error.kind() == ErrorKind::Interrupted => {}
+            result => return result,
+        }
+    }
+    Err(io::Error::from(ErrorKind::TimedOut))
+}

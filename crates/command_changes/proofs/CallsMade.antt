@@ -1,5 +1,5 @@
 -- If a volume accepts calls one after another, these calls make the resulting bytes, as the commands' definitions require.
-use Rattle.std.proofs.Common.{◌≡◌, ℕ, List, [], ◌∷◌, Option, None, Some, IfSome, inl, inr, refl, sym, ap, subst, ◌∙◌}
+use Rattle.std.proofs.Common.{◌≡◌, ℕ, List, [], ◌∷◌, IfOk, Result, Ok, Err, inl, inr, refl, sym, ap, subst, ◌∙◌}
 use Rattle.std.specs.Global.{Vec}
 use Rattle.vol_dir.specs.Tree.{State}
 use Rattle.vol_layout.specs.Geometry.{geometry_of}
@@ -12,14 +12,12 @@ use Rattle.vol_volume.specs.Volume.{Mounted, Accepts, reads_as}
 use Rattle.vol_volume.proofs.Journals.{reads_made}
 use Rattle.vol_import.specs.Make.{AreMade, AreStopped}
 use Rattle.command_faults.specs.ChangeFaults.{AreLeft, Makes, AreRefused, IsReason}
-use Rattle.command_faults.specs.Faults.{Concludes}
 use Rattle.vol_layout.specs.declared.edition.Edition.{Edition}
 use Rattle.vol_layout.specs.declared.geometry.Geometry.{Geometry}
 use Rattle.vol_volume.specs.declared.calls.Call.{Call}
 use Rattle.vol_volume.specs.declared.calls.Done.{Done}
 use Rattle.vol_dir.specs.declared.refusal.Refusal.{Refusal}
 use Rattle.vol_dir.specs.declared.refusal.Refusal.TheVariants as refusals
-use Rattle.command_faults.specs.declared.answer.Answer.{Answer}
 use Rattle.command_faults.specs.declared.fault.Fault.{Fault}
 use Rattle.command_faults.specs.declared.fault.Fault.TheVariants as faults
 
@@ -126,11 +124,8 @@ pub stopped_reason : (old new : Mounted) (calls : List Call) (refusal : Refusal)
 stopped_reason old new calls refusal call sound stopped =
     refused_reason old.edition old.image calls refusal sound (are_refused old new calls refusal call stopped)
 
--- a property of all bytes that a command may make is also one of the bytes to save
-pub saved_leaves : (makes leaves : List ℕ → Type 0) (is_reason : Fault → Type 0) (said : List ℕ → Type 0) (answer : Answer)
-    → ((bytes : List ℕ) → makes bytes → leaves bytes) → Concludes makes is_reason said answer → IfSome answer.image (λ saved. leaves saved.items)
-saved_leaves makes leaves is_reason said answer all does = by answer.image does.made
-  where
-    by : (image : Option (Vec ℕ)) → IfSome image (λ bytes. makes bytes.items × said []) → IfSome image (λ bytes. leaves bytes.items)
-    by None made = tt
-    by (Some bytes) made = all bytes.items made.0
+-- a property of all bytes that calls may make is also one of the bytes that they made
+pub leaving : (makes leaves : List ℕ → Type 0) (made : Result (Vec ℕ) Fault) → ((bytes : List ℕ) → makes bytes → leaves bytes)
+    → IfOk made (λ bytes. makes bytes.items) → IfOk made (λ bytes. makes bytes.items × leaves bytes.items)
+leaving makes leaves (Ok bytes) all makes_it = (makes_it, all bytes.items makes_it)
+leaving makes leaves (Err fault) all makes_it = tt

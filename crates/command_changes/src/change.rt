@@ -1,7 +1,7 @@
 //! Makes the change that the command line requests.
-ghost use Rattle.std.specs.Prelude.{Bool, List, Option, ℕ};
-ghost use Rattle.command_faults.specs.Streams.{heard, still, streams, ErrorStream, Hears};
-ghost use Rattle.command_changes.specs.Changes.{Changes};
+ghost use Rattle.command_faults.specs.Outcomes.{IsAmong, Concludes};
+ghost use Rattle.command_faults.specs.Streams.{heard, streams};
+ghost use Rattle.command_changes.specs.Changes.{changed};
 
 use crate::calls::make;
 use crate::changes::Change;
@@ -17,8 +17,8 @@ use crate::rm::{rm_all, unlink_call};
 use crate::rmdir::rmdir_call;
 use crate::salvage::salvage;
 use crate::touch::touch;
-use command_faults::Answer;
-use command_faults::answer::tell;
+use command_faults::answer::{conclude, tell, unremarked};
+use command_faults::{Answer, Fault, Remarked};
 use pdp_words::Sink;
 use std::alloc::Global;
 use vol_dir::Cred;
@@ -34,16 +34,16 @@ pub fn do_change<O: Sink, E: Sink>(
     _output: &mut O,
     errors: &mut E,
 ) -> Answer
-    ensures { Changes edition image.items given (streams O.contents O.failed _output.old _output.new (heard E.contents E.failed errors.old errors.new)) result change.entry }
+    ensures { Concludes (changed edition image.items given change.entry)
+        (streams O.contents O.failed _output.old _output.new (heard E.contents E.failed errors.old errors.new)) result }
 {
-    let answer = perform(alloc, edition, image, given, change);
+    let answer = conclude(perform(alloc, edition, image, given, change));
     tell(&answer.fault, errors);
     answer
 }
 
-/// Makes a change of the volume in an image, with calls as user 0. `given` holds the bytes of the file to put and what it gets besides them, or the
-/// bytes of the archive to import. If all
-/// calls were made, the answer has the bytes to save and status 0; otherwise it has no bytes, and status 1, or 4 if memory ran out.
+/// Makes a change of the volume in an image, with calls as user 0, all or none. `given` holds the bytes of the file to put and what it gets besides
+/// them, or the bytes of the archive to import.
 ///
 /// Takes memory to mount the image and for the calls, costs as much as the calls, and needs no right to wait.
 pub fn perform(
@@ -52,31 +52,54 @@ pub fn perform(
     image: Vec<u8>,
     given: GivenFile,
     change: Change<'_>,
-) -> Answer
-    ensures { (known : Option (List ℕ)) (failed : Bool) (errors : ErrorStream) → Hears errors result.fault
-        → Changes edition image.items given (still known failed errors) result change.entry }
+) -> Result<Remarked, Fault>
+    ensures { IsAmong (changed edition image.items given change.entry) result }
 {
-    let call = match change {
-        Change::Put { path, now, .. } => return put(alloc, edition, image, path, given, now),
+    let GivenFile { bytes, kept } = given;
+    let made = match change {
         Change::Import { path, options, now } => {
-            return import_archive(alloc, edition, image, given.bytes, path, options, now);
+            return import_archive(alloc, edition, image, bytes, path, options, now);
         }
-        Change::RmAll { path, now } => return rm_all(alloc, edition, image, path, now),
-        Change::MkdirAll { path, now } => return mkdir_all(alloc, edition, image, path, now),
-        Change::Mv { from, to, now } => return mv(alloc, edition, image, from, to, now),
-        Change::Touch { path, now } => return touch(alloc, edition, image, path, now),
-        Change::Salvage => return salvage(alloc, edition, image),
-        Change::Rm { path, now } => unlink_call(alloc, path, now),
-        Change::Rmdir { path, now } => rmdir_call(alloc, path, now),
-        Change::Mkdir { path, now } => mkdir_call(alloc, path.as_bytes(), now),
-        Change::Ln { from, to, now } => link_call(alloc, from, to, now),
-        Change::Chmod { path, perm, now } => chmod_call(alloc, path, perm, now),
+        Change::Put { path, now, .. } => {
+            let file = GivenFile { bytes, kept };
+            put(alloc, edition, image, path, file, now)
+        }
+        Change::RmAll { path, now } => rm_all(alloc, edition, image, path, now),
+        Change::MkdirAll { path, now } => mkdir_all(alloc, edition, image, path, now),
+        Change::Mv { from, to, now } => mv(alloc, edition, image, from, to, now),
+        Change::Touch { path, now } => touch(alloc, edition, image, path, now),
+        Change::Salvage => salvage(alloc, edition, image),
+        Change::Rm { path, now } => make(alloc, edition, image, unlink_call(alloc, path, now)),
+        Change::Rmdir { path, now } => make(alloc, edition, image, rmdir_call(alloc, path, now)),
+        Change::Mkdir { path, now } => make(
+            alloc,
+            edition,
+            image,
+            mkdir_call(alloc, path.as_bytes(), now),
+        ),
+        Change::Ln { from, to, now } => make(
+            alloc,
+            edition,
+            image,
+            link_call(alloc, from, to, now),
+        ),
+        Change::Chmod { path, perm, now } => make(
+            alloc,
+            edition,
+            image,
+            chmod_call(alloc, path, perm, now),
+        ),
         Change::Chown {
             path,
             uid,
             gid,
             now,
-        } => chown_call(alloc, path, Cred { uid, gid }, now),
+        } => make(
+            alloc,
+            edition,
+            image,
+            chown_call(alloc, path, Cred { uid, gid }, now),
+        ),
     };
-    make(alloc, edition, image, call)
+    unremarked(alloc, made)
 }

@@ -18,7 +18,7 @@ pub const SPARSE_FILE: &[u8] = b"a sparse file";
 
 /// Returns the fault of a command that can't import an archive for this reason, or out of memory if there is too little memory for its line.
 pub(crate) fn fault_of(alloc: Global, why: &ImportFault) -> Fault
-    ensures { TellsFault why.now (λ line. fault_line result ≡ line) (fault_status result) }
+    ensures { TellsFault why.now result }
 {
     match worded(alloc, why) {
         Ok(fault) => fault,

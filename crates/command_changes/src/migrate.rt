@@ -1,11 +1,11 @@
 //! `migrate` turns the volume in an image of the sixth edition into one of the seventh, and returns the bytes to save.
 ghost use Rattle.std.specs.Prelude.{◌≡◌, IfOk, IfErr};
-ghost use Rattle.std.specs.Io.KnownBytes.{Keeps};
-ghost use Rattle.command_faults.specs.Streams.{heard, says, ErrorStream, Hears};
-ghost use Rattle.command_changes.specs.Migrate.{IsObstacle, Migrates, MigratesVolume, unmigrated};
+ghost use Rattle.command_faults.specs.Outcomes.{Concludes};
+ghost use Rattle.command_faults.specs.Streams.{heard, streams};
+ghost use Rattle.command_changes.specs.Migrate.{IsObstacle, Migrates, of_migration, unmigrated};
 
-use command_faults::Fault;
-use command_faults::answer::{Answer, conclude, tell};
+use command_faults::answer::{conclude, tell, unremarked};
+use command_faults::{Answer, Fault};
 use pdp_words::Sink;
 use std::alloc::Global;
 use vol_dir::Refusal;
@@ -32,28 +32,19 @@ pub fn migrate_command<O: Sink, E: Sink>(
     _output: &mut O,
     errors: &mut E,
 ) -> Answer
-    ensures migrated { MigratesVolume image.items migration (says (heard E.contents E.failed errors.old errors.new)) result }
-    ensures unprinted { Keeps (O.contents _output.old) (O.contents _output.new) }
-    ensures unused { O.failed _output.new ≡ O.failed _output.old }
+    ensures { Concludes (of_migration image.items migration)
+        (streams O.contents O.failed _output.old _output.new (heard E.contents E.failed errors.old errors.new)) result }
 {
-    let answer = migrate_image(alloc, image, migration);
+    let answer = conclude(unremarked(alloc, migrate_image(alloc, image, migration)));
     tell(&answer.fault, errors);
     answer
 }
 
-/// Makes a volume of the seventh edition with the files of one of the sixth, for `migrate`. There is a volume to save
-/// exactly if the status is 0. Otherwise there is a fault: the first rule that the image breaks, or the refusal of
-/// [`migrate`] for a sound one, with status 1; or out of memory, with status 4.
+/// Makes a volume of the seventh edition with the files of one of the sixth, for `migrate`. The fault is the first rule that the image breaks, or
+/// the refusal of [`migrate`] for a sound one; or out of memory.
 ///
 /// Takes the memory of [`Volume::mount`] and [`migrate`].
-pub fn migrate_image(alloc: Global, image: Vec<u8>, migration: Migration) -> Answer
-    ensures { (errors : ErrorStream) → Hears errors result.fault → MigratesVolume image.items migration (says errors) result }
-{
-    conclude(migrated(alloc, image, migration))
-}
-
-/// Returns the bytes of a migrated volume.
-fn migrated(alloc: Global, image: Vec<u8>, migration: Migration) -> Result<Vec<u8>, Fault>
+pub fn migrate_image(alloc: Global, image: Vec<u8>, migration: Migration) -> Result<Vec<u8>, Fault>
     ensures migrated { IfOk result (λ bytes. Migrates image.items migration bytes.items) }
     ensures fault { IfErr result (IsObstacle image.items migration) }
 {

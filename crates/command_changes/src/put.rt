@@ -1,22 +1,22 @@
 //! `put` puts a file into a volume; `put -t` puts several files into a directory.
-ghost use Rattle.std.specs.Prelude.{◌≡◌, ◌++◌, [], IfOk, IfErr, OnOk, Ok};
-ghost use Rattle.std.specs.Io.KnownBytes.{Keeps};
+ghost use Rattle.std.specs.Prelude.{◌≡◌, ◌++◌, IfOk, IfErr, OnOk, Ok};
 ghost use Rattle.vol_dir.specs.Access.{user};
 ghost use Rattle.vol_volume.specs.Answer.{answer};
 ghost use Rattle.vol_volume.specs.Volume.{reads_as};
 ghost use Rattle.vol_volume.specs.declared.queries.Query.TheVariants as questions;
-ghost use Rattle.vol_import.specs.Make.{Imports, IsReason as IsUnimported, told};
+ghost use Rattle.vol_import.specs.Make.{Imports, IsReason as IsStopped, told};
 ghost use Rattle.vol_import.specs.Plan.{Tells};
-ghost use Rattle.command_faults.specs.ChangeFaults.{Makes, IsReason, ChangesVolume};
-ghost use Rattle.command_faults.specs.Streams.{heard, says, ErrorStream, Hears};
-ghost use Rattle.command_changes.specs.Import.{ImportsArchive};
+ghost use Rattle.command_faults.specs.ChangeFaults.{Makes, IsReason};
+ghost use Rattle.command_faults.specs.Outcomes.{Concludes};
+ghost use Rattle.command_faults.specs.Streams.{heard, streams};
+ghost use Rattle.command_changes.specs.Import.{IsUnimported, of_import};
 ghost use Rattle.command_changes.specs.Put.{calls_to_put, emptying_by, kept_calls, onto, permissions_of, put_calls, put_onto, target_by, with_execution};
 
 use crate::calls::{make_calls, push};
-use crate::import::{self, Remarked};
+use crate::import_lines::fault_of;
 use crate::kept::{GivenFile, Kept};
 use crate::lookup::name_in;
-use command_faults::answer::{conclude, tell};
+use command_faults::answer::{conclude, tell, unremarked};
 use command_faults::mount::mount;
 use command_faults::{Answer, Fault};
 use pdp_words::Sink;
@@ -68,21 +68,6 @@ pub(crate) fn put(
     path: &str,
     file: GivenFile,
     now: u32,
-) -> Answer
-    ensures { (errors : ErrorStream) → Hears errors result.fault
-        → ChangesVolume edition image.items (put_calls (reads_as edition image.items).tree now path.now file.bytes.items file.kept) (says errors) result }
-{
-    conclude(put_file(alloc, edition, image, path, file, now))
-}
-
-/// Makes the calls of `put`.
-fn put_file(
-    alloc: Global,
-    edition: Edition,
-    image: Vec<u8>,
-    path: &str,
-    file: GivenFile,
-    now: u32,
 ) -> Result<Vec<u8>, Fault>
     ensures made { IfOk result (λ bytes. Makes edition image.items
         (put_calls (reads_as edition image.items).tree now path.now file.bytes.items file.kept) bytes.items) }
@@ -121,12 +106,11 @@ pub fn put_all<O: Sink, E: Sink>(
     _output: &mut O,
     errors: &mut E,
 ) -> Answer
-    ensures put { ImportsArchive edition image.items (told (calls_to_put (reads_as edition image.items).tree now directory.now files.entry.items)) []
-        (says (heard E.contents E.failed errors.old errors.new)) result }
-    ensures unprinted { Keeps (O.contents _output.old) (O.contents _output.new) }
-    ensures unused { O.failed _output.new ≡ O.failed _output.old }
+    ensures { Concludes (of_import edition image.items (told (calls_to_put (reads_as edition image.items).tree now directory.now files.entry.items)))
+        (streams O.contents O.failed _output.old _output.new (heard E.contents E.failed errors.old errors.new)) result }
 {
-    let answer = put_files(alloc, edition, image, directory, files, now);
+    let made = put_files(alloc, edition, image, directory, files, now);
+    let answer = conclude(unremarked(alloc, made));
     tell(&answer.fault, errors);
     answer
 }
@@ -144,12 +128,14 @@ pub fn put_files(
     directory: &str,
     files: Vec<NewFile<'_>>,
     now: u32,
-) -> Answer
-    ensures { (errors : ErrorStream) → Hears errors result.fault
-        → ImportsArchive edition image.items (told (calls_to_put (reads_as edition image.items).tree now directory.now files.entry.items)) [] (says errors) result }
+) -> Result<Vec<u8>, Fault>
+    ensures made { IfOk result (λ bytes. Imports edition image.items (told (calls_to_put (reads_as edition image.items).tree now directory.now files.entry.items)) bytes.items) }
+    ensures fault { IfErr result (IsUnimported edition image.items (told (calls_to_put (reads_as edition image.items).tree now directory.now files.entry.items))) }
 {
-    let outcome = put_into(alloc, edition, image, directory.as_bytes(), files, now);
-    import::conclude(alloc, outcome)
+    match put_into(alloc, edition, image, directory.as_bytes(), files, now) {
+        Ok(bytes) => Ok(bytes),
+        Err(why) => Err(fault_of(alloc, &why)),
+    }
 }
 
 /// Makes the calls of `put -t`.
@@ -160,10 +146,9 @@ fn put_into(
     directory: &[u8],
     files: Vec<NewFile<'_>>,
     now: u32,
-) -> Result<Remarked, ImportFault>
-    ensures made { IfOk result (λ remarked. Imports edition image.items (told (calls_to_put (reads_as edition image.items).tree now directory.now files.entry.items)) remarked.bytes.items) }
-    ensures lines { IfOk result (λ remarked. remarked.lines.items ≡ []) }
-    ensures fault { IfErr result (IsUnimported edition image.items (told (calls_to_put (reads_as edition image.items).tree now directory.now files.entry.items))) }
+) -> Result<Vec<u8>, ImportFault>
+    ensures made { IfOk result (λ bytes. Imports edition image.items (told (calls_to_put (reads_as edition image.items).tree now directory.now files.entry.items)) bytes.items) }
+    ensures fault { IfErr result (IsStopped edition image.items (told (calls_to_put (reads_as edition image.items).tree now directory.now files.entry.items))) }
 {
     let mut volume = make::mount(alloc, edition, image)?;
     let calls = match calls_to_put(alloc, &volume, directory, files, now) {
@@ -171,10 +156,7 @@ fn put_into(
         Err(fault) => return Err(make::unplanned(fault)),
     };
     make::make(alloc, &mut volume, calls)?;
-    Ok(Remarked {
-        bytes: volume.unmount(),
-        lines: Vec::new(alloc),
-    })
+    Ok(volume.unmount())
 }
 
 /// Returns the calls that `put -t` makes.

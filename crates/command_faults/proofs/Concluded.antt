@@ -1,9 +1,12 @@
--- The result of a command, from its outcome.
+-- The answer of a command, from its outcome.
 use Rattle.std.proofs.Common.{◌≡◌, ◌∙◌, ◌⊎◌, ℕ, List, [], Option, Some, None, Result, Ok, Err, IfOk, IfErr, IsSome, true≢false, inl, inr, ◌≤◌, refl, sym, subst, arith}
 use Rattle.std.specs.Global.{Vec}
-use Rattle.command_faults.specs.Faults.{Concludes, fault_status, refusal_status}
-use Rattle.command_faults.specs.Streams.{ErrorStream, Hears, says}
+use Rattle.std.specs.Io.KnownBytes.{Keeps}
+use Rattle.command_faults.specs.Faults.{fault_status, line_after, refusal_status}
+use Rattle.command_faults.specs.Outcomes.{IsAmong, IsUnremarked, Outcomes, Concludes}
+use Rattle.command_faults.specs.Streams.{Streams}
 use Rattle.command_faults.specs.declared.answer.Answer.{Answer}
+use Rattle.command_faults.specs.declared.answer.Remarked.{Remarked}
 use Rattle.command_faults.specs.declared.fault.Fault.{Fault}
 use Rattle.command_faults.specs.declared.fault.Fault.TheVariants as faults
 use Rattle.vol_dir.specs.declared.refusal.Refusal.{Refusal}
@@ -46,19 +49,36 @@ fault_few (faults.BadLine script number line flaw) = (omega arith, omega arith)
 fault_few (faults.Worded rule lines) = (omega arith, omega arith)
 fault_few faults.Output = (omega arith, omega arith)
 
--- the result has the bytes of the outcome, or the status and the line of its fault
-pub concluded : (makes : List ℕ → Type 0) (is_reason : Fault → Type 0) (errors : ErrorStream) (outcome : Result (Vec ℕ) Fault) (answer : Answer)
-    → IfOk outcome (λ bytes. makes bytes.items) → IfErr outcome is_reason
-    → IfOk outcome (λ bytes. (answer.image ≡ Some bytes) × (answer.status ≡ 0) × (answer.fault ≡ None))
+-- if an outcome is one of the possible ones, its answer and its lines tell one of them
+pub concluded : (outcomes : Outcomes) (streams : Streams) (outcome : Result Remarked Fault) (answer : Answer) → IsAmong outcomes outcome
+    → IfOk outcome (λ made. (answer.image ≡ Some made.bytes) × (answer.status ≡ 0) × (line_after answer.fault ≡ made.lines.items))
     → IfErr outcome (λ fault. (answer.image ≡ None) × (answer.status ≡ fault_status fault) × (answer.fault ≡ Some fault))
-    → Hears errors answer.fault → Concludes makes is_reason (says errors) answer
-concluded makes is_reason errors (Ok bytes) answer made reason ok err hears = record {
+    → streams.said (line_after answer.fault) → Keeps streams.old streams.new → streams.failed ≡ streams.had_failed → Concludes outcomes streams answer
+concluded outcomes streams (Ok made) answer among ok err said unprinted unused = record {
   saved = (λ e. rw ok.0 refl, λ some. ok.1);
-  made = rw ok.0 (made, subst (λ (fault : Option Fault). Hears errors fault) ok.2 hears);
+  made = rw ok.0 (among.0, subst streams.said (ok.2 ∙ among.1) said);
   refused = λ none. absurd (true≢false (rw ok.0 at none));
+  unprinted = unprinted;
+  unused = unused;
 }
-concluded makes is_reason errors (Err fault) answer made reason ok err hears = record {
+concluded outcomes streams (Err fault) answer among ok err said unprinted unused = record {
   saved = (λ e. let few = fault_few fault in let is = err.1 in absurd (omega (arith, few.0, is, e)), λ some. absurd (true≢false (sym (subst IsSome err.0 some))));
   made = rw err.0 tt;
-  refused = λ _. (fault, reason, err.1, subst (λ (fault : Option Fault). Hears errors fault) err.2 hears);
+  refused = λ _. (fault, among, err.1, subst (λ (fault : Option Fault). streams.said (line_after fault)) err.2 said);
+  unprinted = unprinted;
+  unused = unused;
 }
+
+-- bytes without lines that are made as required, or a reason, are one of the possible outcomes
+pub among : (saves : List ℕ → Type 0) (fails : Fault → Type 0) (made given : Result (Vec ℕ) Fault) (outcome : Result Remarked Fault) → given ≡ made
+    → IfOk made (λ bytes. saves bytes.items) → IfErr made fails → IsUnremarked given outcome
+    → IsAmong (record { saves = saves; lines = []; fails = fails }) outcome
+among saves fails made given outcome is ok err plain =
+    go made outcome ok err (subst (λ (made : Result (Vec ℕ) Fault). IsUnremarked made outcome) is plain)
+  where
+    go : (made : Result (Vec ℕ) Fault) (outcome : Result Remarked Fault) → IfOk made (λ bytes. saves bytes.items) → IfErr made fails
+        → IsUnremarked made outcome → IsAmong (record { saves = saves; lines = []; fails = fails }) outcome
+    go (Ok bytes) (Ok made) ok err is = (subst (λ (bytes : Vec ℕ). saves bytes.items) (sym is.0) ok, is.1)
+    go (Ok bytes) (Err fault) ok err is = absurd is
+    go (Err fault) (Ok made) ok err is = absurd is
+    go (Err fault) (Err told) ok err is = subst fails (sym is) err

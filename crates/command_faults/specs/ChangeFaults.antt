@@ -4,11 +4,11 @@ use Rattle.vol_layout.specs.Geometry.{geometry_of}
 use Rattle.vol_dir.specs.Tree.{State}
 use Rattle.vol_judge.specs.Sound.{IsSound}
 use Rattle.vol_change.specs.Whole.{StaysAround}
-use Rattle.vol_volume.specs.Answer.{answer}
 use Rattle.vol_volume.specs.Journal.{Refuses, MayFollow, IsLegal, after}
 use Rattle.vol_volume.specs.Step.{step}
 use Rattle.vol_volume.specs.Volume.{Performs, reads_as}
-use Rattle.command_faults.specs.Faults.{Concludes, IsCause}
+use Rattle.command_faults.specs.Faults.{IsCause}
+use Rattle.command_faults.specs.Outcomes.{Outcomes}
 use Rattle.vol_dir.specs.declared.refusal.Refusal.{Refusal}
 use Rattle.vol_layout.specs.declared.edition.Edition.{Edition}
 use Rattle.vol_layout.specs.declared.geometry.Geometry.{Geometry}
@@ -16,7 +16,6 @@ use Rattle.vol_volume.specs.declared.calls.Call.{Call}
 use Rattle.vol_volume.specs.declared.calls.Call.TheVariants as calls
 use Rattle.vol_volume.specs.declared.calls.Done.{Done}
 use Rattle.vol_volume.specs.declared.calls.Record.{Record}
-use Rattle.command_faults.specs.declared.answer.Answer.{Answer}
 use Rattle.command_faults.specs.declared.fault.Fault.{Fault}
 
 -- recorded calls, performed on an image one after another, result in these bytes (this project)
@@ -47,6 +46,6 @@ AreRefused state (call ∷ calls) refusal = Refuses state call refusal
 abbrev pub IsReason : Edition → List ℕ → List Call → Fault → Type 0
 IsReason edition image calls fault = IsCause edition image (AreRefused (reads_as edition image) calls) fault
 
--- the result of a command that makes calls: bytes to save, with status 0 and no line, or the status and the line of a reason (this project)
-abbrev pub ChangesVolume : Edition → List ℕ → List Call → (List ℕ → Type 0) → Answer → Type 0
-ChangesVolume edition image calls said answer = Concludes (Makes edition image calls) (IsReason edition image calls) said answer
+-- the outcomes of calls: the bytes that they make, or a reason not to make them (this project)
+abbrev pub of_calls : Edition → List ℕ → List Call → Outcomes
+of_calls edition image calls = record { saves = Makes edition image calls; lines = []; fails = IsReason edition image calls }

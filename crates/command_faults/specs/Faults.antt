@@ -1,12 +1,11 @@
--- The faults of commands, with their statuses and lines; and the result of a command that makes bytes.
-use Rattle.std.specs.Prelude.{◌≡◌, ◌↔◌, ℕ, ◌+◌, ◌/◌, ◌%◌, ◌++◌, ◌&&◌, true, nat_lt, if◌then◌else◌, List, [], ◌∷◌, Option, None, Some, IsNone, IsSome, IfSome, codes}
+-- The faults of commands, with their statuses and lines.
+use Rattle.std.specs.Prelude.{ℕ, ◌+◌, ◌/◌, ◌%◌, ◌++◌, ◌&&◌, true, nat_lt, if◌then◌else◌, List, [], ◌∷◌, Option, None, Some, codes}
 use Rattle.vol_judge.specs.Sound.{IsSound, IsLeastBroken}
 use Rattle.vol_dir.specs.declared.refusal.Refusal.{Refusal}
 use Rattle.vol_dir.specs.declared.refusal.Refusal.TheVariants as refusals
 use Rattle.vol_layout.specs.declared.edition.Edition.{Edition}
 use Rattle.vol_volume.specs.declared.volume.MountFault.{MountFault}
 use Rattle.vol_volume.specs.declared.volume.MountFault.TheVariants as mounts
-use Rattle.command_faults.specs.declared.answer.Answer.{Answer}
 use Rattle.command_faults.specs.declared.fault.Fault.{Fault}
 use Rattle.command_faults.specs.declared.fault.Fault.TheVariants as faults
 
@@ -84,9 +83,3 @@ IsCause edition image refused (faults.Unsound rule) = IsLeastBroken true edition
 IsCause edition image refused (faults.Refused refusals.NoMemory) = Unit {0}
 IsCause edition image refused (faults.Refused refusal) = IsSound edition image × refused refusal
 IsCause edition image refused _ = ⊥
-
--- the result of a command that makes bytes: bytes to save that satisfy `makes`, with status 0 and no line; or the status and the line of a reason (this project)
-pub record Concludes (makes : List ℕ → Type 0) (is_reason : Fault → Type 0) (said : List ℕ → Type 0) (answer : Answer) : Type 0 where
-  pub saved : answer.status ≡ 0 ↔ IsSome answer.image
-  pub made : IfSome answer.image (λ bytes. makes bytes.items × said [])
-  pub refused : IsNone answer.image → (fault : Fault) × is_reason fault × (answer.status ≡ fault_status fault) × said (fault_line fault)

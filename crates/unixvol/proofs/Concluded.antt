@@ -1,28 +1,21 @@
 -- The end of a run that saves a command's result, and of a run that can't read a file.
-use Rattle.std.proofs.Common.{◌≡◌, ◌∙◌, Bool, true, false, true≢false, ℕ, ◌≤◌, List, [], Option, None, Some, IsSome, IfSome, Result, inl, inr, refl, sym, subst, arith}
+use Rattle.std.proofs.Common.{◌≡◌, ◌∙◌, Bool, true, false, true≢false, ℕ, ◌≤◌, List, [], Option, None, Some, IsSome, IfSome, inl, inr, refl, sym, subst, arith}
 use Rattle.std.specs.Global.{Vec}
 use Rattle.std.specs.Io.KnownBytes.{Keeps}
 use Rattle.command_faults.proofs.Concluded.{fault_few, refusal_few}
-use Rattle.command_faults.specs.Faults.{Concludes, refusal_status}
+use Rattle.command_faults.specs.Faults.{refusal_status}
+use Rattle.command_faults.specs.Outcomes.{Concludes, Outcomes}
 use Rattle.command_faults.specs.Streams.{Streams}
 use Rattle.command_faults.specs.declared.answer.Answer.{Answer}
-use Rattle.command_faults.specs.declared.fault.Fault.{Fault}
 use Rattle.vol_dir.specs.declared.refusal.Refusal.{Refusal}
-use Rattle.vol_import.specs.declared.faults.ArchiveFault.{ArchiveFault}
-use Rattle.vol_import.specs.declared.faults.ArchiveFault.TheVariants as archives
-use Rattle.vol_import.specs.declared.make.ImportFault.{ImportFault}
-use Rattle.vol_import.specs.declared.make.ImportFault.TheVariants as imports
 use Rattle.vol_layout.specs.declared.edition.Edition.{Edition}
-use Rattle.vol_volume.specs.declared.calls.Call.{Call}
 use Rattle.command_reads.specs.GetFiles.{GetsFiles, get_status}
-use Rattle.command_changes.specs.Import.{ImportsArchive}
-use Rattle.command_changes.specs.ImportLines.{archive_status, import_status}
 use Rattle.command_reads.specs.declared.get.FileRead.{FileRead}
 use Rattle.command_reads.specs.declared.get.FilesRead.{FilesRead}
 use Rattle.command_reads.specs.declared.get.GetFault.{GetFault}
 use Rattle.command_reads.specs.declared.get.GetFault.TheVariants.{Volume, File}
 use Rattle.unixvol.specs.Copies.{ReadSaved}
-use Rattle.unixvol.specs.Runs.{EndsSaved, Ends, IsUnread, but_remarks}
+use Rattle.unixvol.specs.Runs.{EndsSaved, Ends, EndsWith, IsUnread, but_remarks}
 
 -- if a file can't be read, the run ends as `Ends` requires
 pub ends_unread : {F : Type 0} (remaining : F → Option (List ℕ)) (streams : Streams) (status : ℕ) → IsUnread remaining status
@@ -31,21 +24,6 @@ ends_unread remaining streams status (inl is) kept =
     record { within = omega (arith, is); silent = λ _ _. kept; whole = λ e. absurd (omega (arith, is, e)) }
 ends_unread remaining streams status (inr memory) kept =
     record { within = omega (arith, memory.0); silent = λ _ _. kept; whole = λ e. absurd (omega (arith, memory.0, e)) }
-
--- if an answer's status is at most 4, nothing was printed, and an answer with status 0 reports no fault, the run ends as `Ends` requires
-pub ends_answer : (streams : Streams) (taken : List ℕ → Type 0) (answer : Answer) (status : ℕ) → answer.status ≤ 4
-    → (answer.status ≡ 0 → streams.said []) → Keeps streams.old streams.new → streams.failed ≡ streams.had_failed → EndsSaved taken answer status
-    → Ends streams status
-ends_answer streams taken answer status few quiet unprinted unused (inl own) = record {
-  within = subst (λ n. n ≤ 4) (sym own.0) few;
-  silent = λ _ _. unprinted;
-  whole = λ e. (unused, quiet (sym own.0 ∙ e));
-}
-ends_answer streams taken answer status few quiet unprinted unused (inr file) = record {
-  within = elim file.1 [ inl e ↦ omega (arith, e) | inr e ↦ omega (arith, e) ];
-  silent = λ _ _. unprinted;
-  whole = λ e. absurd (elim file.1 [ inl three ↦ omega (arith, three, e) | inr four ↦ omega (arith, four, e) ]);
-}
 
 -- a run that ends as `Ends` requires also does so without the requirement on the reports of a change
 pub ends_remarked : (may : Bool) (streams : Streams) (status : ℕ) → Ends streams status → Ends (but_remarks may streams) status
@@ -62,44 +40,28 @@ few : {A : Type 0} (made : Option A) (status : ℕ) → (IsSome made → status 
 few (Some a) status zero some_few = let is = zero refl in omega (arith, is)
 few None status zero some_few = some_few refl
 
--- if a command makes bytes and they are saved, or it reports a reason, its run ends as `Ends` requires
-pub ends_concluded : (makes : List ℕ → Type 0) (is_reason : Fault → Type 0) (streams : Streams) (taken : List ℕ → Type 0) (answer : Answer) (status : ℕ)
-    → Concludes makes is_reason streams.said answer → Keeps streams.old streams.new → streams.failed ≡ streams.had_failed
-    → EndsSaved taken answer status → Ends streams status
-ends_concluded makes is_reason streams taken answer status concludes unprinted unused saved =
-    ends_answer streams taken answer status
-    (few answer.image answer.status concludes.saved.1
-    (λ none. let why = concludes.refused (rw none refl) in subst (λ n. n ≤ 4) (sym why.2) (fault_few why.0).1))
-    (λ e. quiet (λ (bytes : Vec ℕ). makes bytes.items) (streams.said []) answer.image (concludes.saved.0 e) concludes.made) unprinted unused saved
+-- if one of the outcomes of a command that saves is told, and what it made is saved, its run ends with the lines about that
+pub ends_concluded : (outcomes : Outcomes) (streams : Streams) (taken : List ℕ → Type 0) (answer : Answer) (status : ℕ) → Concludes outcomes streams answer
+    → EndsSaved taken answer status → EndsWith outcomes.lines streams status
+ends_concluded outcomes streams taken answer status concludes (inl own) = record {
+  within =
+      subst (λ n. n ≤ 4) (sym own.0)
+      (few answer.image answer.status concludes.saved.1
+      (λ none. let why = concludes.refused (rw none refl) in subst (λ n. n ≤ 4) (sym why.2) (fault_few why.0).1));
+  silent = λ _ _. concludes.unprinted;
+  whole = λ e. (
+    concludes.unused,
+    quiet (λ (bytes : Vec ℕ). outcomes.saves bytes.items) (streams.said outcomes.lines) answer.image (concludes.saved.0 (sym own.0 ∙ e)) concludes.made,
+  );
+}
+ends_concluded outcomes streams taken answer status concludes (inr file) = record {
+  within = elim file.1 [ inl e ↦ omega (arith, e) | inr e ↦ omega (arith, e) ];
+  silent = λ _ _. concludes.unprinted;
+  whole = λ e. absurd (elim file.1 [ inl three ↦ omega (arith, three, e) | inr four ↦ omega (arith, four, e) ]);
+}
 
 refusal_within : (refusal : Refusal) → refusal_status refusal ≤ 4
 refusal_within refusal = elim (refusal_few refusal) [ inl one ↦ omega (arith, one) | inr four ↦ omega (arith, four) ]
-
-archive_few : (fault : ArchiveFault) → archive_status fault ≤ 4
-archive_few (archives.Truncated at) = omega arith
-archive_few (archives.LoneZeroBlock at) = omega arith
-archive_few (archives.Header at fault) = omega arith
-archive_few (archives.Records at) = omega arith
-archive_few (archives.Unsupported at) = omega arith
-archive_few (archives.Sparse path) = omega arith
-archive_few archives.NoMemory = omega arith
-
-import_few : (fault : ImportFault) → import_status fault ≤ 4
-import_few (imports.Unsound rule) = omega arith
-import_few (imports.Archive fault) = archive_few fault
-import_few (imports.Member path cause) = omega arith
-import_few (imports.Refused refusal call) = refusal_within refusal
-import_few imports.NoMemory = omega arith
-
--- if an archive is imported and the result is saved, and the lines leave nothing to report, the run ends as `Ends` requires
-pub ends_imported : (edition : Edition) (image : List ℕ) (wanted : Result (List Call) ImportFault) (lines : List ℕ) (said : List ℕ → Type 0) (streams : Streams)
-    (taken : List ℕ → Type 0) (answer : Answer) (status : ℕ) → ImportsArchive edition image wanted lines said answer → (said lines → streams.said [])
-    → Keeps streams.old streams.new → streams.failed ≡ streams.had_failed → EndsSaved taken answer status → Ends streams status
-ends_imported edition image wanted lines said streams taken answer status imports reported unprinted unused saved =
-    ends_answer streams taken answer status
-    (few answer.image answer.status imports.saved.1
-    (λ none. let why = imports.refused (rw none refl) in subst (λ n. n ≤ 4) (sym why.2) (import_few why.0)))
-    (λ e. reported (quiet _ (said lines) answer.image (imports.saved.0 e) imports.made)) unprinted unused saved
 
 get_few : (fault : GetFault) → get_status fault ≤ 4
 get_few (Volume fault) = (fault_few fault).1

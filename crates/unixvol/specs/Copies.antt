@@ -5,6 +5,7 @@ use Rattle.std.specs.Io.KnownBytes.{Keeps}
 use Rattle.std.specs.Path.{path_file_name}
 use Rattle.vol_import.specs.Make.{told}
 use Rattle.vol_volume.specs.Volume.{reads_as}
+use Rattle.command_faults.specs.Outcomes.{Concludes}
 use Rattle.command_faults.specs.Streams.{Gets, Streams}
 use Rattle.command_faults.specs.declared.answer.Answer.{Answer}
 use Rattle.vol_layout.specs.declared.edition.Edition.{Edition}
@@ -12,7 +13,7 @@ use Rattle.command_words.specs.declared.invocation.Copying.{Copying}
 use Rattle.command_words.specs.declared.invocation.Copying.TheVariants as copyings
 use Rattle.command_words.specs.declared.invocation.Moment.{Moment}
 use Rattle.command_reads.specs.GetFiles.{GetsFiles}
-use Rattle.command_changes.specs.Import.{ImportsArchive}
+use Rattle.command_changes.specs.Import.{of_import}
 use Rattle.command_changes.specs.Put.{calls_to_put}
 use Rattle.command_reads.specs.declared.get.FileRead.{FileRead}
 use Rattle.command_reads.specs.declared.get.FilesRead.{FilesRead}
@@ -56,8 +57,8 @@ abbrev pub PutsFiles : Streams → HostFiles → Edition → List ℕ → List (
 PutsFiles streams files edition directory names keep now status =
     RunsNothing streams files status
     ⊎ ((image : List ℕ) × (stamp : Stamp) × (news : List NewFile) × (answer : Answer) × files.opened edition image stamp × AreGiven (files.put edition) keep names news
-    × ImportsArchive edition image (told (calls_to_put (reads_as edition image).tree now directory news)) [] streams.said answer
-    × Keeps streams.old streams.new × (streams.failed ≡ streams.had_failed) × EndsSaved (λ saved. files.taken saved × files.stood stamp) answer status)
+    × Concludes (of_import edition image (told (calls_to_put (reads_as edition image).tree now directory news))) streams answer
+    × EndsSaved (λ saved. files.taken saved × files.stood stamp) answer status)
 
 -- several files are put at a time: if the word that was read as the time is also a file's path, nothing is done; otherwise the files are put (this
 -- project)

@@ -19,7 +19,7 @@ use Rattle.command_reads.specs.declared.looks.OutputForm.{OutputForm}
 use Rattle.command_reads.specs.declared.looks.Look.TheVariants as looks
 use Rattle.vol_listing.specs.declared.options.Screen.{Screen}
 use Rattle.vol_listing.specs.declared.options.Screen.TheVariants as screens
-use Rattle.command_changes.specs.Changes.{Changes}
+use Rattle.command_changes.specs.Changes.{changed}
 use Rattle.command_changes.specs.declared.kept.GivenFile.{GivenFile}
 use Rattle.command_changes.specs.declared.kept.Keep.{Keep}
 use Rattle.command_changes.specs.declared.kept.Keep.TheVariants as keeps
@@ -30,9 +30,10 @@ use Rattle.command_changes.specs.declared.changes.Change.TheVariants as changes
 use Rattle.command_reads.specs.Checkers.{Checks}
 use Rattle.command_reads.specs.Cat.{PrintsNode, IsNoWriters, cat_status}
 use Rattle.command_reads.specs.Node.{number_of}
+use Rattle.command_faults.specs.Outcomes.{Concludes}
 use Rattle.command_faults.specs.Streams.{Gets, Streams}
 use Rattle.command_changes.specs.Mkfs.{mkfs_line_at}
-use Rattle.command_changes.specs.Migrate.{MigratesVolume}
+use Rattle.command_changes.specs.Migrate.{of_migration}
 use Rattle.command_changes.specs.Salvage.{IsReported, IsUnsalvaged}
 use Rattle.command_faults.specs.declared.fault.Fault.{Fault}
 use Rattle.command_reads.specs.Print.{IsTold, Prints}
@@ -201,8 +202,8 @@ RunsNothing streams files status =
 abbrev pub RunsMigrate : Streams → HostFiles → Migration → ℕ → Type 0
 RunsMigrate streams files migration status =
     RunsNothing streams files status
-    ⊎ ((image : List ℕ) × (answer : Answer) × files.shown V6 image × MigratesVolume image migration streams.said answer
-    × Keeps streams.old streams.new × (streams.failed ≡ streams.had_failed) × EndsSaved files.taken answer status)
+    ⊎ ((image : List ℕ) × (answer : Answer) × files.shown V6 image × Concludes (of_migration image migration) streams answer
+    × EndsSaved files.taken answer status)
 
 -- a volume is saved in a file, and then its report is printed, on standard error if the system said that the file is standard output; or it isn't
 -- saved, and nothing is printed (this project)
@@ -326,19 +327,22 @@ wants_terminal is_terminal _ = false
 abbrev pub LeavesTerminal : Streams → ℕ → Type 0
 LeavesTerminal streams status = (status ≡ 3) × Keeps streams.old streams.new × (streams.failed ≡ streams.had_failed) × streams.said []
 
--- a volume is changed: nothing is done; or it is changed, with the bytes that were read for it, in an image which is read from a file and may be
--- changed, and the result is saved if the system reported that some file had the stamp of the image's file (this project)
-abbrev pub ChangesImage : Streams → HostFiles → HostInput → Edition → Change → ℕ → Type 0
-ChangesImage streams files input edition change status =
-    RunsNothing streams files status ⊎ (TakesNothing streams files input change status
+-- a volume is changed, with these lines about the bytes to save: nothing is done, without lines; or it is changed, with the bytes that were read for
+-- it, in an image which is read from a file and may be changed, and the result is saved if the system reported that some file had the stamp of the
+-- image's file (this project)
+abbrev pub ChangesImage : Streams → HostFiles → HostInput → Edition → Change → List ℕ → ℕ → Type 0
+ChangesImage streams files input edition change lines status =
+    ((lines ≡ []) × (RunsNothing streams files status ⊎ TakesNothing streams files input change status))
     ⊎ ((image : List ℕ) × (stamp : Stamp) × (given : GivenFile) × (answer : Answer) × files.opened edition image stamp × IsGivenTo (files.put edition) input.given change given
-    × Changes edition image given streams answer change × EndsSaved (λ saved. files.taken saved × files.stood stamp) answer status))
+    × Concludes (changed edition image given change) streams answer × (lines ≡ (changed edition image given change).lines)
+    × EndsSaved (λ saved. files.taken saved × files.stood stamp) answer status)
 
--- a change runs: if an archive is needed from a terminal, nothing is done; otherwise the volume is changed (this project)
-abbrev pub RunsChange : Streams → HostFiles → HostInput → Bool → Edition → Change → ℕ → Type 0
-RunsChange streams files input is_terminal edition change status =
-    ((wants_terminal is_terminal change ≡ true) × LeavesTerminal streams status)
-    ⊎ ((wants_terminal is_terminal change ≡ false) × ChangesImage streams files input edition change status)
+-- a change runs, with these lines about the bytes to save: if an archive is needed from a terminal, nothing is done; otherwise the volume is changed
+-- (this project)
+abbrev pub RunsChange : Streams → HostFiles → HostInput → Bool → Edition → Change → List ℕ → ℕ → Type 0
+RunsChange streams files input is_terminal edition change lines status =
+    ((wants_terminal is_terminal change ≡ true) × (lines ≡ []) × LeavesTerminal streams status)
+    ⊎ ((wants_terminal is_terminal change ≡ false) × ChangesImage streams files input edition change lines status)
 
 -- the invocation is a plain command: it doesn't show part of an image, guess what images are, change a volume, copy several files or use several threads (this project)
 abbrev pub IsPlainCommand : Invocation → Type 0
@@ -378,12 +382,16 @@ abbrev pub RunsRead : Streams → HostFiles → ℕ → Result Invocation Error 
 RunsRead streams files status (Ok invocation) = Runs streams files status invocation
 RunsRead streams files status (Err error) = Tells streams (kind_of error) status
 
--- a run ends: the status is at most 4; something was printed only if it is 0 or 3; if it is 0, no output failed and no fault was reported (this
--- project)
-pub record Ends (streams : Streams) (status : ℕ) : Type 0 where
+-- a run ends: the status is at most 4; something was printed only if it is 0 or 3; if it is 0, no output failed and exactly these lines were reported
+-- (this project)
+pub record EndsWith (lines : List ℕ) (streams : Streams) (status : ℕ) : Type 0 where
   pub within : status ≤ 4
   pub silent : status ≢ 0 → status ≢ 3 → Keeps streams.old streams.new
-  pub whole : status ≡ 0 → (streams.failed ≡ streams.had_failed) × streams.said []
+  pub whole : status ≡ 0 → (streams.failed ≡ streams.had_failed) × streams.said lines
+
+-- a run ends, and reports nothing if its status is 0 (this project)
+abbrev pub Ends : Streams → ℕ → Type 0
+Ends streams status = EndsWith [] streams status
 
 -- the streams; if a run may succeed and report something, nothing is required of the reported lines (this project)
 abbrev pub but_remarks : Bool → Streams → Streams
@@ -440,15 +448,11 @@ LooksToEnd files screen output errors edition look end =
     × IsEndWithin (highest_status look) (record { old = output; new = new; had_failed = false; failed = failed; said = Gets untold errors told }) status
     × ((end ≡ status) ⊎ (end ≡ 3))
 
--- true if a change may succeed and still report something: an import reports the members that it leaves out (this project)
-abbrev pub may_remark : Change → Bool
-may_remark (changes.Import path options now) = options.skip_special
-may_remark _ = false
-
--- a change runs to its end, as a plain command does, except that it may report members left out (this project)
+-- a change runs to its end, as a plain command does, except that it reports the lines about the bytes to save: an import, the members left out (this
+-- project)
 abbrev pub ChangesToEnd : HostFiles → HostInput → Bool → Option (List ℕ) → Option (List ℕ) → Edition → Change → ℕ → Type 0
 ChangesToEnd files input is_terminal output errors edition change end =
-    (new : Option (List ℕ)) × (failed : Bool) × (told : Option (List ℕ)) × (untold : Bool) × (status : ℕ)
-    × RunsChange (record { old = output; new = new; had_failed = false; failed = failed; said = Gets untold errors told }) files input is_terminal edition change status
-    × Ends (but_remarks (may_remark change) (record { old = output; new = new; had_failed = false; failed = failed; said = Gets untold errors told })) status
+    (new : Option (List ℕ)) × (failed : Bool) × (told : Option (List ℕ)) × (untold : Bool) × (lines : List ℕ) × (status : ℕ)
+    × RunsChange (record { old = output; new = new; had_failed = false; failed = failed; said = Gets untold errors told }) files input is_terminal edition change lines status
+    × EndsWith lines (record { old = output; new = new; had_failed = false; failed = failed; said = Gets untold errors told }) status
     × ((end ≡ status) ⊎ ((status ≡ 0) × (end ≡ 3)))

@@ -2,7 +2,7 @@
 ghost use Rattle.std.specs.Prelude.{◌≡◌, ◌+◌, ◌*◌, ◌/◌, ◌^◌, ◌≤◌, min, ℕ, Bool, IfErr, IfOk, List, Option};
 ghost use Rattle.std.specs.Process.{exit_status};
 ghost use Rattle.command_faults.specs.Streams.{ErrorStream, Hears, still};
-ghost use Rattle.unixvol.specs.Runs.{ChangesToEnd, Ends, GaveArchive, GavePut, IsGivenTo, IsUngiven, IsUnread, RunsChange, but_remarks, host_files, host_input, may_remark, wants_terminal};
+ghost use Rattle.unixvol.specs.Runs.{ChangesToEnd, EndsWith, GaveArchive, GavePut, IsGivenTo, IsUngiven, IsUnread, RunsChange, host_files, host_input, wants_terminal};
 
 use crate::explain::{NamedFile, explain_unread, finish, tell_fault};
 use crate::host::Surroundings;
@@ -13,6 +13,7 @@ use crate::subject::Subject;
 use command_changes::change::perform;
 use command_changes::{Change, GivenFile, Kept};
 use command_faults::Ending;
+use command_faults::answer::conclude;
 use command_line::VolumeFile;
 use host_files::{FileKind, ImageFiles, UpTo};
 use pdp_words::IntoWrite;
@@ -71,10 +72,9 @@ fn run<R: ImageFiles + Clock + Eprint + AllocGlobal, I: Read + Drop>(
     change: Change<'_>,
     packed: &mut Option<&'static str>,
 ) -> Ending
-    ensures runs { (known : Option (List ℕ)) (failed : Bool) (errors : ErrorStream) → Hears errors result.fault
-        → RunsChange (still known failed errors) (host_files R.File.remaining R.File.contents R.had R.stood) (host_input I.remaining) is_terminal volume.entry.edition change.entry result.status }
-    ensures ends { (known : Option (List ℕ)) (failed : Bool) (errors : ErrorStream) → Hears errors result.fault
-        → Ends (but_remarks (may_remark change.entry) (still known failed errors)) result.status }
+    ensures { (known : Option (List ℕ)) (failed : Bool) (errors : ErrorStream) → Hears errors result.fault → (lines : List ℕ)
+        × RunsChange (still known failed errors) (host_files R.File.remaining R.File.contents R.had R.stood) (host_input I.remaining) is_terminal volume.entry.edition change.entry lines result.status
+        × EndsWith lines (still known failed errors) result.status }
 {
     if wants_terminal(is_terminal, change) {
         return Ending {
@@ -99,7 +99,7 @@ fn run<R: ImageFiles + Clock + Eprint + AllocGlobal, I: Read + Drop>(
         locked: _locked,
     } = begun;
     *packed = packed_words(&given.bytes);
-    let answer = perform(host.rt.alloc(), volume.edition, image, given, change);
+    let answer = conclude(perform(host.rt.alloc(), volume.edition, image, given, change));
     let status = save_answer(host, volume.image, stamp, &answer);
     Ending {
         status,

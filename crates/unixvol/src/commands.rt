@@ -19,6 +19,7 @@ use command_changes::Migration;
 use command_changes::migrate::migrate_image;
 use command_changes::mkfs::make_volume;
 use command_changes::salvage::{ReportedVolume, salvage_with_report};
+use command_faults::answer::{conclude, unremarked};
 use command_faults::status::DONE;
 use command_faults::{Ending, Fault};
 use command_line::{Invocation, MadeFile, VolumeFile};
@@ -168,7 +169,8 @@ fn run_migrate<R: ImageFiles + Clock + Eprint + AllocGlobal>(
             };
         }
     };
-    let answer = migrate_image(host.rt.alloc(), image, migration);
+    let alloc = host.rt.alloc();
+    let answer = conclude(unremarked(alloc, migrate_image(alloc, image, migration)));
     let status = save_migrated(host, new, stamp, &answer);
     Ending {
         status,

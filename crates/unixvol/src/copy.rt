@@ -16,6 +16,7 @@ use crate::subject::Subject;
 use command_changes::Keep;
 use command_changes::put::{NewFile, put_files};
 use command_faults::Ending;
+use command_faults::answer::{conclude, unremarked};
 use command_faults::status::DONE;
 use command_line::{Copying, VolumeFile};
 use command_reads::get::{FileRead, FilesRead, get_files};
@@ -119,7 +120,8 @@ fn run_put<R: ImageFiles + Clock + Eprint + AllocGlobal>(
         locked: _locked,
     } = begun;
     let alloc = host.rt.alloc();
-    let answer = put_files(alloc, volume.edition, image, directory, files, now.seconds);
+    let made = put_files(alloc, volume.edition, image, directory, files, now.seconds);
+    let answer = conclude(unremarked(alloc, made));
     let status = save_answer(host, volume.image, stamp, &answer);
     Ending {
         status,

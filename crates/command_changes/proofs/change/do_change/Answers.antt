@@ -1,7 +1,9 @@
-use Rattle.command_faults.specs.Streams.{heard}
+use Rattle.std.proofs.Common.{refl}
+use Rattle.std.proofs.KnownBytes.{Keeps-refl}
+use Rattle.command_faults.proofs.Concluded.{concluded}
 use Rattle.command_changes.proofs.change.do_change.Goals as goal
 
 pub returns : goal.returns
 returns g c =
-    c.perform-answer.ensures (g.O.Sink.contents c.args._output.now) (g.O.Sink.failed c.args._output.now)
-    (heard g.E.Sink.contents g.E.Sink.failed c.args.errors.now c.tell.new.errors) c.tell.ensures
+    concluded _ _ _ _ c.perform.ensures c.conclude-answer.ensures.made c.conclude-answer.ensures.fault c.tell.ensures
+    (Keeps-refl (g.O.Sink.contents c.args._output.now)) refl

@@ -1,44 +1,37 @@
-use Rattle.std.proofs.Common.{◌≡◌, ℕ, List, IfOk, refl, rules, subst}
-use Rattle.command_faults.specs.Streams.{says}
-use Rattle.command_changes.proofs.CallsMade.{saved_leaves}
-use Rattle.command_changes.proofs.Imported.{archive_saved}
+use Rattle.std.proofs.Common.{◌≡◌, ℕ, List, IfOk, subst}
+use Rattle.command_faults.proofs.Concluded.{among}
+use Rattle.command_changes.proofs.CallsMade.{leaving}
+use Rattle.command_changes.proofs.Imported.{archive_among}
 use Rattle.command_changes.proofs.MadeDirectories.{directories_leave, directory_leaves}
 use Rattle.command_changes.proofs.MovedNames.{move_leaves}
 use Rattle.command_changes.proofs.PutBytes.{put_leaves}
 use Rattle.command_changes.specs.Mkdir.{mkdir_call}
 use Rattle.command_changes.proofs.change.perform.Goals as goal
-use Rattle.command_changes.proofs.change.perform.Goals.{in-Rm, in-Rmdir, in-Mkdir, in-Ln, in-Chmod, in-Chown}
-
-pub returns-in-Put : goal.returns-in-Put
-returns-in-Put c known failed errors hears =
-    let does = c.put.ensures errors hears in
-    rw c.in-Put.is (does, search rules, refl, saved_leaves _ _ _ _ _ (λ bytes makes. put_leaves _ _ bytes _ _ _ _ makes) does)
+use Rattle.command_changes.proofs.change.perform.Goals.{in-Put, in-RmAll, in-MkdirAll, in-Mv, in-Touch, in-Salvage, in-Rm, in-Rmdir, in-Mkdir, in-Ln, in-Chmod, in-Chown}
 
 pub returns-in-Import : goal.returns-in-Import
-returns-in-Import c known failed errors hears =
-    let does = c.import_archive.ensures errors hears in
-    rw c.in-Import.is (does, search rules, refl, archive_saved _ _ _ _ _ _ _ (says errors) _ does)
-
-pub returns-in-MkdirAll : goal.returns-in-MkdirAll
-returns-in-MkdirAll c known failed errors hears =
-    let does = c.mkdir_all.ensures errors hears in
-    rw c.in-MkdirAll.is (does, search rules, refl, saved_leaves _ _ _ _ _ (λ bytes makes plain. directories_leave _ _ bytes _ _ plain makes) does)
-
-pub returns-in-Mv : goal.returns-in-Mv
-returns-in-Mv c known failed errors hears =
-    let does = c.mv.ensures errors hears in
-    rw c.in-Mv.is (does, search rules, refl, saved_leaves _ _ _ _ _ (λ bytes makes. move_leaves _ _ bytes _ _ _ makes) does)
+returns-in-Import c = rw c.in-Import.is
+    (archive_among _ _ _ _ _ _ _ c.import_archive.ensures.made c.import_archive.ensures.lines c.import_archive.ensures.fault)
 
 pub returns : goal.returns
-returns c known failed errors hears = elim c.match-change.branch [
-  | in-Rm w ↦ rw w.in-Rm.is (c.make.ensures _ (rw w.call-is w.unlink_call-call.ensures) errors hears, search rules, refl)
-  | in-Rmdir w ↦ rw w.in-Rmdir.is (c.make.ensures _ (rw w.call-is w.rmdir_call-call.ensures) errors hears, search rules, refl)
+returns c = elim c.match-change.branch [
+  | in-Put w ↦
+      rw w.in-Put.is (among _ _ _ _ _ w.made-is (leaving _ _ _ (λ bytes makes. put_leaves _ _ bytes _ _ _ _ makes) w.put-made.ensures.made) w.put-made.ensures.fault c.unremarked.ensures)
+  | in-RmAll w ↦ rw w.in-RmAll.is (among _ _ _ _ _ w.made-is w.rm_all-made.ensures.removed w.rm_all-made.ensures.fault c.unremarked.ensures)
+  | in-MkdirAll w ↦
+      rw w.in-MkdirAll.is (among _ _ _ _ _ w.made-is (leaving _ _ _ (λ bytes makes plain. directories_leave _ _ bytes _ _ plain makes) w.mkdir_all-made.ensures.made) w.mkdir_all-made.ensures.fault c.unremarked.ensures)
+  | in-Mv w ↦
+      rw w.in-Mv.is (among _ _ _ _ _ w.made-is (leaving _ _ _ (λ bytes makes. move_leaves _ _ bytes _ _ _ makes) w.mv-made.ensures.made) w.mv-made.ensures.fault c.unremarked.ensures)
+  | in-Touch w ↦ rw w.in-Touch.is (among _ _ _ _ _ w.made-is w.touch-made.ensures.made w.touch-made.ensures.fault c.unremarked.ensures)
+  | in-Salvage w ↦ rw w.in-Salvage.is (among _ _ _ _ _ w.made-is w.salvage-made.ensures.salvaged w.salvage-made.ensures.fault c.unremarked.ensures)
+  | in-Rm w ↦ rw w.in-Rm.is (among _ _ _ _ _ w.made-is (w.make-made.ensures.made _ w.unlink_call.ensures) (w.make-made.ensures.fault _ w.unlink_call.ensures) c.unremarked.ensures)
+  | in-Rmdir w ↦ rw w.in-Rmdir.is (among _ _ _ _ _ w.made-is (w.make-made-in-Rmdir.ensures.made _ w.rmdir_call.ensures) (w.make-made-in-Rmdir.ensures.fault _ w.rmdir_call.ensures) c.unremarked.ensures)
   | in-Mkdir w ↦
       let wanted = mkdir_call w.in-Mkdir.now w.in-Mkdir.path.now in
-      let made = subst (λ (path : List ℕ). IfOk w.mkdir_call-call.result (λ call. call ≡ mkdir_call w.in-Mkdir.now path)) w.as_bytes.ensures.value w.mkdir_call-call.ensures in
-      let does = c.make.ensures wanted (rw w.call-is made) errors hears in
-      rw w.in-Mkdir.is (does, search rules, refl, saved_leaves _ _ _ _ _ (λ bytes makes. directory_leaves _ _ bytes _ _ makes) does)
-  | in-Ln w ↦ rw w.in-Ln.is (c.make.ensures _ (rw w.call-is w.link_call-call.ensures) errors hears, search rules, refl)
-  | in-Chmod w ↦ rw w.in-Chmod.is (c.make.ensures _ (rw w.call-is w.chmod_call-call.ensures) errors hears, search rules, refl)
-  | in-Chown w ↦ rw w.in-Chown.is (c.make.ensures _ (rw w.call-is w.chown_call-call.ensures) errors hears, search rules, refl)
+      let asked = subst (λ (path : List ℕ). IfOk w.mkdir_call.result (λ call. call ≡ mkdir_call w.in-Mkdir.now path)) w.as_bytes.ensures.value w.mkdir_call.ensures in
+      rw w.in-Mkdir.is (among _ _ _ _ _ w.made-is (leaving _ _ _ (λ bytes makes. directory_leaves _ _ bytes _ _ makes) (w.make-made-in-Mkdir.ensures.made wanted asked))
+      (w.make-made-in-Mkdir.ensures.fault wanted asked) c.unremarked.ensures)
+  | in-Ln w ↦ rw w.in-Ln.is (among _ _ _ _ _ w.made-is (w.make-made-in-Ln.ensures.made _ w.link_call.ensures) (w.make-made-in-Ln.ensures.fault _ w.link_call.ensures) c.unremarked.ensures)
+  | in-Chmod w ↦ rw w.in-Chmod.is (among _ _ _ _ _ w.made-is (w.make-made-in-Chmod.ensures.made _ w.chmod_call.ensures) (w.make-made-in-Chmod.ensures.fault _ w.chmod_call.ensures) c.unremarked.ensures)
+  | in-Chown w ↦ rw w.in-Chown.is (among _ _ _ _ _ w.made-is (w.make-made-in-Chown.ensures.made _ w.chown_call.ensures) (w.make-made-in-Chown.ensures.fault _ w.chown_call.ensures) c.unremarked.ensures)
 ]

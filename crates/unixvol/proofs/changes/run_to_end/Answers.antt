@@ -2,7 +2,7 @@ use Rattle.std.proofs.Common.{false, refl}
 use Rattle.std.specs.Process.{exit_status}
 use Rattle.pdp_words.specs.Adapters.{writer_in, has_write_failed}
 use Rattle.command_faults.specs.Streams.{heard}
-use Rattle.unixvol.specs.Runs.{RunsChange, Ends, but_remarks, may_remark, host_files, host_input}
+use Rattle.unixvol.specs.Runs.{RunsChange, EndsWith, host_files, host_input}
 use Rattle.unixvol.proofs.Begun.{begun, ended}
 use Rattle.unixvol.proofs.changes.run_to_end.Goals as goal
 
@@ -12,15 +12,17 @@ returns g c =
     let input = host_input g.I.Read.remaining in
     let known = g.O.Write.contents c.args.output in
     let status = c.run-ending.result.status in
-    let after = heard (λ sink. g.E.Write.contents (writer_in sink)) has_write_failed c.new-errors.result c.tell_fault.new.errors in (
+    let after = heard (λ sink. g.E.Write.contents (writer_in sink)) has_write_failed c.new-errors.result c.tell_fault.new.errors in
+    let ran = c.run-ending.ensures known false after c.tell_fault.ensures in (
       known,
       false,
       after.new,
       after.failed,
+      ran.0,
       status,
-      begun (λ streams. RunsChange streams files input c.args.is_terminal c.args.volume.edition c.args.change status) known (g.E.Write.contents c.args.errors) known _ false known _ false _
-          refl c.new-errors.ensures.bytes refl (c.run-ending.ensures.runs known false after c.tell_fault.ensures),
-      begun (λ streams. Ends (but_remarks (may_remark c.args.change) streams) status) known (g.E.Write.contents c.args.errors) known _ false known _ false _
-          refl c.new-errors.ensures.bytes refl (c.run-ending.ensures.ends known false after c.tell_fault.ensures),
+      begun (λ streams. RunsChange streams files input c.args.is_terminal c.args.volume.edition c.args.change ran.0 status) known (g.E.Write.contents c.args.errors) known _ false known _ false _
+          refl c.new-errors.ensures.bytes refl ran.1,
+      begun (λ streams. EndsWith ran.0 streams status) known (g.E.Write.contents c.args.errors) known _ false known _ false _
+          refl c.new-errors.ensures.bytes refl ran.2,
       ended status c.finish.result (exit_status c.from.result) c.from.ensures c.finish.ensures,
     )

@@ -1,9 +1,14 @@
 use Rattle.std.proofs.Common.{arith, inl, inr, refl, rules}
 use Rattle.std.proofs.KnownBytes.{Keeps-refl}
-use Rattle.command_faults.specs.Streams.{says, still}
+use Rattle.command_changes.specs.Import.{of_import}
+use Rattle.command_changes.specs.Put.{calls_to_put}
+use Rattle.command_faults.proofs.Concluded.{among, concluded}
+use Rattle.command_faults.specs.Streams.{still}
 use Rattle.unixvol.specs.Copies.{AreGiven}
 use Rattle.unixvol.specs.Runs.{GavePut, IsUnread}
-use Rattle.unixvol.proofs.Concluded.{ends_imported, ends_unread}
+use Rattle.vol_import.specs.Make.{told}
+use Rattle.vol_volume.specs.Volume.{reads_as}
+use Rattle.unixvol.proofs.Concluded.{ends_concluded, ends_unread}
 use Rattle.unixvol.proofs.copy.run_put.Goals as goal
 
 pub returns-in-Some-clause-runs : goal.returns-in-Some-clause-runs
@@ -31,12 +36,11 @@ returns-clause-runs g c known failed errors hears =
         c.in-Ok.begun.image.items,
         c.in-Ok.begun.stamp,
         c.in-Ok.begun.given.items,
-        c.put_files-answer.result,
+        c.conclude-answer.result,
         c.in-Ok.ensures.image,
         given,
-        c.put_files-answer.ensures errors hears,
-        Keeps-refl known,
-        refl,
+        concluded _ _ _ _ (among _ _ _ _ _ refl c.put_files-made.ensures.made c.put_files-made.ensures.fault c.unremarked.ensures)
+            c.conclude-answer.ensures.made c.conclude-answer.ensures.fault hears (Keeps-refl known) refl,
         c.save_answer-status.ensures,
       ),
     )
@@ -48,8 +52,12 @@ returns-in-Err-clause-ends g c known failed errors hears =
 
 pub returns-clause-ends : goal.returns-clause-ends
 returns-clause-ends g c known failed errors hears =
-    ends_imported c.args.volume.edition c.in-Ok.begun.image.items _ _ (says errors) (still known failed errors) _ c.put_files-answer.result
-    c.save_answer-status.result (c.put_files-answer.ensures errors hears) (λ said. said) (Keeps-refl known) refl c.save_answer-status.ensures
+    ends_concluded
+    (of_import c.args.volume.edition c.in-Ok.begun.image.items
+    (told (calls_to_put (reads_as c.args.volume.edition c.in-Ok.begun.image.items).tree c.args.now.seconds c.args.directory.now c.in-Ok.begun.given.items)))
+    (still known failed errors) _ c.conclude-answer.result c.save_answer-status.result
+    (concluded _ _ _ _ (among _ _ _ _ _ refl c.put_files-made.ensures.made c.put_files-made.ensures.fault c.unremarked.ensures)
+    c.conclude-answer.ensures.made c.conclude-answer.ensures.fault hears (Keeps-refl known) refl) c.save_answer-status.ensures
 
 pub returns-in-Some-clause-ends : goal.returns-in-Some-clause-ends
 returns-in-Some-clause-ends g c known failed errors hears =

@@ -229,6 +229,19 @@ for edition in 6 7; do
         has 'the bytes of a file that is left without a root' rescued "$(tar -xOf output "lost+found/#$d/file")"
         has 'what is said of it' "unixvol: i-node $top: a file of 0 bytes, which nothing names, rescued as lost+found/#$top
 unixvol: i-node $d: a directory with 4 entries, which nothing names, rescued as lost+found/#$d" "$(head -n 2 error)"
+        cp error told
+        for command in sums find; do refuses 1 'unixvol: 20 NotDirectory' "$command" "$edition" rootless.img; done
+        "$program" sums --lost "$edition" rootless.img > output 2> error
+        has 'the status of a manifest of what is left' 1 $?
+        cmp -s error told
+        has 'what is said of it with a manifest' 0 $?
+        has 'a manifest of what is left' "lost+found/#$top lost+found/#$d lost+found/#$d/file lost+found/#$d/in lost+found/#$d/in/deep" \
+            "$(awk '{ print $NF }' output | paste -s -d ' ' -)"
+        has 'the sum of a file that is left' "$(echo rescued | sha256sum | cut -c 1-64)" "$(sed -n 3p output | cut -c 1-64)"
+        "$program" find --lost "$edition" rootless.img > output 2> error
+        has 'the status and the errors of find of what is left' '0 0' "$? $(wc -c < error)"
+        has 'what find finds of what is left' "/lost+found/#$top /lost+found/#$d /lost+found/#$d/file /lost+found/#$d/in /lost+found/#$d/in/deep" \
+            "$(paste -s -d ' ' output)"
     done
 done
 

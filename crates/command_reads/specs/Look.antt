@@ -1,5 +1,5 @@
 -- The result of a command that shows part of an image.
-use Rattle.std.specs.Prelude.{ℕ, false, List, option_map}
+use Rattle.std.specs.Prelude.{ℕ, List, option_map}
 use Rattle.vol_layout.specs.declared.edition.Edition.{Edition}
 use Rattle.command_faults.specs.Streams.{Streams}
 use Rattle.command_reads.specs.Block.{ShowsBlock}
@@ -21,10 +21,10 @@ use Rattle.vol_listing.specs.declared.options.Screen.{Screen}
 -- the part that the command names is shown (this project)
 abbrev pub Looks : Edition → List ℕ → Screen → Streams → ℕ → Look → Type 0
 Looks edition image screen streams status (looks.Export path options) = Exports edition image path.now options screen streams status
-Looks edition image screen streams status (looks.Sums path form) = Sums edition image path.now form false streams status
+Looks edition image screen streams status (looks.Sums path form lost) = Sums edition image path.now form lost streams status
 Looks edition image screen streams status (looks.Block block) = ShowsBlock edition image block streams status
 Looks edition image screen streams status (looks.Free form) = ShowsFree edition image form streams status
-Looks edition image screen streams status (looks.Find path name) = Finds edition image path.now (option_map (λ word. word.now) name) false screen streams status
+Looks edition image screen streams status (looks.Find path name lost) = Finds edition image path.now (option_map (λ word. word.now) name) lost screen streams status
 Looks edition image screen streams status (looks.Inode node form) = ShowsInode edition image node form streams status
 Looks edition image screen streams status (looks.Super form) = ShowsSuper edition image parts.Fields form streams status
 Looks edition image screen streams status (looks.Df form) = ShowsSuper edition image parts.Space form streams status

@@ -56,11 +56,11 @@ pub fn perform<O: Sink>(
         Look::Export { path, options } => {
             export(alloc, edition, image, path, options, screen, output)
         }
-        Look::Sums { path, form } => sums(alloc, edition, image, path, form, false, output),
+        Look::Sums { path, form, lost } => sums(alloc, edition, image, path, form, lost, output),
         Look::Block { block } => show_block(alloc, edition, image, block, output),
         Look::Free { form } => show_free(alloc, edition, image, form, output),
-        Look::Find { path, name } => {
-            find(alloc, edition, image, path, name, false, screen, output)
+        Look::Find { path, name, lost } => {
+            find(alloc, edition, image, path, name, lost, screen, output)
         }
         Look::Inode { node, form } => show_inode(alloc, edition, image, node, form, output),
         Look::Super { form } => {

@@ -354,7 +354,7 @@ const LOST: Parameter = Parameter {
     name: "lost",
     kind: WordKind::Flag,
     need: Need::Flag(None),
-    help: texts::export::LOST,
+    help: texts::LOST,
 };
 
 const EXPORT_GRADED: Parameter = Parameter {
@@ -565,7 +565,7 @@ pub static LS_WORDS: [Parameter; 8] = [
 pub static GET_WORDS: [Parameter; 6] = [EDITION, IMAGE, REGULAR, MORE_GOT, OUTPUT, KEPT_GOT];
 
 /// The words that `find` takes.
-pub static FIND_WORDS: [Parameter; 4] = [EDITION, IMAGE, SEARCHED, NAME];
+pub static FIND_WORDS: [Parameter; 5] = [EDITION, IMAGE, SEARCHED, NAME, LOST];
 
 /// The words that a checker takes.
 pub static CHECKER_WORDS: [Parameter; 4] = [EDITION, IMAGE, WORKERS, JSON];
@@ -633,7 +633,7 @@ pub static IMPORT_WORDS: [Parameter; 6] = [EDITION, IMAGE, IMPORTED, CALL_NOW, S
 pub static EXPORT_WORDS: [Parameter; 5] = [EDITION, IMAGE, BELOW, LOST, EXPORT_GRADED];
 
 /// The words that `sums` takes.
-pub static SUMS_WORDS: [Parameter; 4] = [EDITION, IMAGE, SUMMED, JSON];
+pub static SUMS_WORDS: [Parameter; 5] = [EDITION, IMAGE, SUMMED, LOST, JSON];
 
 /// The words that `inode` takes.
 pub static INODE_WORDS: [Parameter; 4] = [EDITION, IMAGE, NODE, JSON];

@@ -177,9 +177,10 @@ fn read_find<'a, G: Given<'a>>(given: &G) -> Result<Invocation<'a>, WordFault<'a
     let volume = volume_in(given)?;
     let path = text_in(given, "PATH");
     let name = given.first("name");
+    let lost = flag_in(given, "lost");
     Ok(Invocation::Look {
         volume,
-        look: Look::Find { path, name },
+        look: Look::Find { path, name, lost },
     })
 }
 
@@ -208,9 +209,10 @@ fn read_sums<'a, G: Given<'a>>(given: &G) -> Result<Invocation<'a>, WordFault<'a
     let volume = volume_in(given)?;
     let path = text_in(given, "PATH");
     let form = form_in(given);
+    let lost = flag_in(given, "lost");
     Ok(Invocation::Look {
         volume,
-        look: Look::Sums { path, form },
+        look: Look::Sums { path, form, lost },
     })
 }
 

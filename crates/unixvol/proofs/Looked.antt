@@ -164,13 +164,13 @@ ends_finds edition image path pattern lost screen streams status (inr (fault, is
 ends_looks : (edition : Edition) (image : List ℕ) (screen : Screen) (streams : Streams) (status : ℕ) (look : Look)
     → Looks edition image screen streams status look → IsEndWithin (highest_status look) streams status
 ends_looks edition image screen streams status (looks.Export path options) shows = ends_from edition image options screen streams status (begun options.lost edition image path.now) shows
-ends_looks edition image screen streams status (looks.Sums path form) shows = ends_sums edition image path.now form false streams status shows
+ends_looks edition image screen streams status (looks.Sums path form lost) shows = ends_sums edition image path.now form lost streams status shows
 ends_looks edition image screen streams status (looks.Inode node form) shows = ends_found edition image form streams status (number_of edition image node) shows
 ends_looks edition image screen streams status (looks.Super form) shows = ends_one _ _ streams status shows
 ends_looks edition image screen streams status (looks.Free form) shows = ends_one _ _ streams status shows
 ends_looks edition image screen streams status (looks.Block block) shows = ends_one _ _ streams status shows
 ends_looks edition image screen streams status (looks.Df form) shows = ends_one _ _ streams status shows
-ends_looks edition image screen streams status (looks.Find path name) shows = ends_finds edition image path.now _ false screen streams status shows
+ends_looks edition image screen streams status (looks.Find path name lost) shows = ends_finds edition image path.now _ lost screen streams status shows
 ends_looks edition image screen streams status (looks.Map picture) shows = ends_one _ _ streams status shows
 ends_looks edition image screen streams status (looks.Check graded form) shows = ends_checks edition image graded form streams status shows
 ends_looks edition image screen streams status (looks.List path listing) shows = ends_one _ _ streams status shows
@@ -179,13 +179,13 @@ ends_looks edition image screen streams status (looks.Slots path) shows = ends_o
 -- the highest status of a command is at least 4
 highest_few : (look : Look) → 4 ≤ highest_status look
 highest_few (looks.Export path options) = most_few options.graded
-highest_few (looks.Sums path form) = omega arith
+highest_few (looks.Sums path form lost) = omega arith
 highest_few (looks.Inode node form) = omega arith
 highest_few (looks.Super form) = omega arith
 highest_few (looks.Free form) = omega arith
 highest_few (looks.Block block) = omega arith
 highest_few (looks.Df form) = omega arith
-highest_few (looks.Find path name) = omega arith
+highest_few (looks.Find path name lost) = omega arith
 highest_few (looks.Map picture) = omega arith
 highest_few (looks.Check graded form) = most_few graded
 highest_few (looks.List path listing) = omega arith

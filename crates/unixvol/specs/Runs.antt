@@ -266,13 +266,13 @@ IsSeen files edition (looks.Check graded form) image = files.checked edition ima
 IsSeen files edition (looks.List path listing) image = files.shown edition image
 IsSeen files edition (looks.Slots path) image = files.shown edition image
 IsSeen files edition (looks.Export path options) image = files.shown edition image
-IsSeen files edition (looks.Sums path form) image = files.shown edition image
+IsSeen files edition (looks.Sums path form lost) image = files.shown edition image
 IsSeen files edition (looks.Inode node form) image = files.shown edition image
 IsSeen files edition (looks.Super form) image = files.shown edition image
 IsSeen files edition (looks.Free form) image = files.shown edition image
 IsSeen files edition (looks.Block block) image = files.shown edition image
 IsSeen files edition (looks.Df form) image = files.shown edition image
-IsSeen files edition (looks.Find path name) image = files.shown edition image
+IsSeen files edition (looks.Find path name lost) image = files.shown edition image
 IsSeen files edition (looks.Map picture) image = files.shown edition image
 
 -- part of an image is shown: nothing is done; or it is shown from an image that was read from a file (this project)
@@ -420,13 +420,13 @@ IsEnd streams status = IsEndWithin 4 streams status
 abbrev pub highest_status : Look → ℕ
 highest_status (looks.Export path options) = if options.graded then 6 else 4
 highest_status (looks.Check graded form) = if graded then 6 else 4
-highest_status (looks.Sums path form) = 4
+highest_status (looks.Sums path form lost) = 4
 highest_status (looks.Inode node form) = 4
 highest_status (looks.Super form) = 4
 highest_status (looks.Free form) = 4
 highest_status (looks.Block block) = 4
 highest_status (looks.Df form) = 4
-highest_status (looks.Find path name) = 5
+highest_status (looks.Find path name lost) = 5
 highest_status (looks.Map picture) = 4
 highest_status (looks.List path listing) = 4
 highest_status (looks.Slots path) = 4

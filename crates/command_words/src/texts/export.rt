@@ -43,7 +43,5 @@ Status:
 
 pub const BELOW: &str = "The directory's path in the volume; by default, the root";
 
-pub const LOST: &str = "Also export i-nodes that no entry names, below lost+found";
-
 pub const GRADED: &str =
     "Exit with status 5 if something isn't exported, and 6 if the image has no volume of this edition";

@@ -10,6 +10,7 @@ pub const MORE: &str = "\
 Examples:
   unixvol find 7 disk.img /usr
   unixvol find 7 disk.img --name '*.c'
+  unixvol find --lost 7 damaged.img
 
 Each entry of the directory and of all directories below has a line, except `.` and `..`, in ascending order of
 the names' bytes, and a directory before what is in it. Each path begins with PATH. With --name, only paths whose
@@ -20,13 +21,18 @@ Entries without an i-node are printed too. What is below a directory isn't print
 printed before, nor if its path has more than 4096 bytes: such a path has a line on standard error, and the status
 is then 5. On a terminal, bytes that aren't printable ASCII are shown as a backslash and three octal digits.
 
+With --lost, i-nodes that no entry names are printed too, with everything below them, at the paths below PATH that
+they have in an archive of `unixvol export --lost`: lost+found/#96 is i-node 96. If the root is no directory, these
+are all that is printed.
+
 The volume need not be sound. Only rules 1 and 2 are checked: the image's size, and the sizes in its super-block.
 
 Status:
   0  the paths were printed; with --name there may be none
   1  `unixvol: unsound, rule 1`: the image is shorter than its super-block says
      `unixvol: unsound, rule 2`: the sizes in the super-block contradict one another
-     `unixvol: 2 NoEntry`, `unixvol: 20 NotDirectory`: PATH doesn't lead to a directory
+     `unixvol: 2 NoEntry`, `unixvol: 20 NotDirectory`: PATH doesn't lead to a directory. Of a root that is no
+     directory, --lost shows what is left
   2  the command line is wrong
   3  `unixvol: cannot read IMAGE`, or `unixvol: cannot write -`: standard output failed
   4  `unixvol: 12 NoMemory`

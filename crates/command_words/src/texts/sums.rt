@@ -8,6 +8,7 @@ Examples:
   unixvol sums 7 disk.img > disk.sums
   unixvol sums 7 disk.img | grep -v '^-' | cut -c 1-65,119- > SHA256SUMS
   unixvol sums --json 7 disk.img /usr | jq -r '.[].path'
+  unixvol sums --lost 7 damaged.img
   diff <(unixvol sums 7 old.img) <(unixvol sums 7 disk.img)
 
 Each file, directory and special file has a line, in the order of `unixvol export`: the SHA-256 of a regular file's
@@ -26,13 +27,18 @@ The volume need not be sound. Only rules 1 and 2 are checked: the image's size, 
 Anything left out, and anything wrong with the volume, has a line on standard error, as with `unixvol export`, and
 the status is then 1. Nothing is printed before everything is known.
 
+With --lost, i-nodes that no entry names are in the manifest too, with everything below them, at the paths that they
+have in an archive of `unixvol export --lost`: lost+found/#96 is i-node 96. If the root is no directory, these are all
+that is printed.
+
 Status:
   0  everything is in the manifest, and the volume is sound
   1  everything that entries lead to is in the manifest, except what standard error says; or nothing was printed:
      `unixvol: unsound, rule 1`: the image is shorter than its super-block says
      `unixvol: unsound, rule 2`: the sizes in the super-block contradict one another
      `unixvol: 2 NoEntry`: there is no such file or directory
-     `unixvol: 20 NotDirectory`: PATH isn't a directory, or leads through something that isn't one
+     `unixvol: 20 NotDirectory`: PATH isn't a directory, or leads through something that isn't one. Of a root that
+     isn't one, --lost shows what is left
   2  the command line is wrong
   3  `unixvol: cannot read IMAGE`, or `unixvol: cannot write -`: standard output failed
   4  `unixvol: 12 NoMemory`";

@@ -14,3 +14,15 @@ returns-in-List g c errors hears =
     subst (Looks c.args.edition c.args.image.items c.args.screen
     (streams g.O.Sink.contents g.O.Sink.failed c.args.output.now c.list.new.output errors) c.list.result.status) (sym c.in-List.is)
     (c.list.ensures errors hears)
+
+pub returns-in-Sums : goal.returns-in-Sums
+returns-in-Sums g c errors hears =
+    subst (Looks c.args.edition c.args.image.items c.args.screen
+    (streams g.O.Sink.contents g.O.Sink.failed c.args.output.now c.sums.new.output errors) c.sums.result.status) (sym c.in-Sums.is)
+    (c.sums.ensures errors hears)
+
+pub returns-in-Find : goal.returns-in-Find
+returns-in-Find g c errors hears =
+    subst (Looks c.args.edition c.args.image.items c.args.screen
+    (streams g.O.Sink.contents g.O.Sink.failed c.args.output.now c.find.new.output errors) c.find.result.status) (sym c.in-Find.is)
+    (c.find.ensures errors hears)

@@ -110,6 +110,13 @@ wants 'dcheck of directories in a ring, without entries' 1 lines none
 (ulimit -t 6; runs ncheck 7 rings 1)
 wants 'ncheck of directories in a ring, without entries' 0 none none
 
+# A root of 16,522 blocks that are one block: the lines of 298,304 names are kept, but not their JSON.
+ringed many 40755 8459264 2 1 0100030000000b0000000b0000000b00
+"$program" ncheck 7 many 1 | awk -v ORS= 'BEGIN { print "{\"faults\":false,\"lines\":[" }
+    { print (NR > 1 ? "," : "") "{\"i-node\":" $1 ",\"line\":\"name\",\"path\":\"/\\\\003\"}" } END { print "]}\n" }' > wanted
+(in_memory 100000 runs_within 60 ncheck --json 7 many 1)
+wants 'ncheck --json of a root that names one block everywhere' 0 wanted none
+
 # A directory of 66 blocks, which the checkers divide: file 16 has the name `/f` and 2,100 others, and directory 15 is `/d`. Then the last of the
 # names is that of a directory.
 "$program" mkfs 7 large 300 2 0 0 0

@@ -208,6 +208,15 @@ runs inode 7 "$linux" /etc/motd
 cmp -s output by_number
 has 'an i-node by its path' 0 $?
 refuses 1 'unixvol: 2 NoEntry' inode 7 "$linux" /x
+# A file whose addresses all lead to one block: 1,204,621 extents, whose JSON isn't kept.
+ringed many.v7 100644 1082201088 2 1 0100030000000b0000000b0000000b00
+runs inode 7 many.v7 2
+blocks=$(grep -c '^block' output)
+(in_memory 64000 "$program" inode --json 7 many.v7 2 2> error; echo $? > status) | tr '{' '\n' \
+    | awk '/^"block":/ { extents++ } NR == 2 { print } END { print extents; print }' > output
+printf '%s\n' "\"addr\":[11$(printf ',11%.0s' {1..12})],\"atime\":0,\"ctime\":0,\"extents\":[" "$blocks" \
+    '"block":11,"count":1,"inside":true,"level":0,"logical":2113673}],"gid":0,"i-node":2,"kind":"file","mode":33188,"mtime":0,"nlink":1,"permissions":420,"size":1082201088,"uid":0}' > wanted
+wants 'inode --json of a file that names one block everywhere' 0 wanted none
 refuses 1 'unixvol: 20 NotDirectory' inode 7 "$linux" /etc/motd/x
 
 # The super-block, as od reads it.

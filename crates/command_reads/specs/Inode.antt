@@ -1,13 +1,13 @@
 -- The report on an i-node.
-use Rattle.std.specs.Prelude.{ℕ, List, ◌++◌, map, take, codes, ◌≡◌, Result, Ok, Err}
-use Rattle.serde_json.specs.Data.{Data, string, array, object, member, no_members, Members, put}
+use Rattle.std.specs.Prelude.{ℕ, false, List, ◌∷◌, ◌++◌, map, take, codes, ◌≡◌, Result, Ok, Err}
+use Rattle.serde_json.specs.Data.{Data, string, array, object, member, no_members, Members}
 use Rattle.serde_json.specs.View.{items_of}
 use Rattle.serde_json.specs.Written.{compact_text}
 use Rattle.vol_layout.specs.Inode.{address_count, kind_of, permissions_of}
 use Rattle.vol_inspect.specs.Texts.{kind_name, inode_text}
 use Rattle.vol_inspect.specs.declared.inode_report.InodeReport.{InodeReport}
 use Rattle.vol_listing.specs.Json.{count}
-use Rattle.command_reads.specs.Json.{counts, count_or_null, extent_data}
+use Rattle.command_reads.specs.Json.{between_braces, counts, count_or_null, extent_data}
 use Rattle.vol_inspect.specs.Inspect.{InspectsInode}
 use Rattle.vol_inspect.specs.declared.fault.InspectFault.{InspectFault}
 use Rattle.vol_layout.specs.declared.edition.Edition.{Edition}
@@ -15,7 +15,7 @@ use Rattle.command_faults.specs.Streams.{Streams}
 use Rattle.command_faults.specs.declared.fault.Fault.{Fault}
 use Rattle.command_reads.specs.Faults.{uninspected}
 use Rattle.command_reads.specs.Node.{node_fault, number_of}
-use Rattle.command_reads.specs.Print.{IsTold, PrintsOne}
+use Rattle.command_reads.specs.Print.{IsTold, PrintsOne, PrintsOneInPieces}
 use Rattle.command_reads.specs.declared.looks.OutputForm.{OutputForm}
 use Rattle.command_reads.specs.declared.looks.NodeName.{NodeName}
 use Rattle.command_reads.specs.declared.node.NodeFault.{NodeFault}
@@ -42,34 +42,33 @@ inode_data report =
 abbrev pub inode_json : InodeReport → List ℕ
 inode_json report = compact_text (inode_data report) ++ codes "\n"
 
--- the members of an object, with an i-node's number, mode, kind and permissions added (this project)
-unfoldable pub with_mode : InodeReport → Members → Members
-with_mode report members =
-    put (codes "permissions") (count (permissions_of report.node.mode.bits))
-    (put (codes "mode") (count report.node.mode.bits)
-    (put (codes "kind") (string (kind_name (kind_of report.edition report.node.mode.bits)))
-    (put (codes "i-node") (count report.number) members)))
+-- the members of an i-node that come before its extents; the sixth edition has no time of change (manual section 5, file system)
+unfoldable pub members_front : InodeReport → Members
+members_front report =
+    member (codes "addr") (counts (take (address_count report.edition) report.node.addresses))
+    (member (codes "atime") (count report.node.accessed)
+    (member (codes "ctime") (count_or_null report.node.changed) no_members))
 
--- the members of an object, with an i-node's link count, owner, group and size added (this project)
-unfoldable pub with_owner : InodeReport → Members → Members
-with_owner report members =
-    put (codes "size") (count report.node.size)
-    (put (codes "gid") (count report.node.gid)
-    (put (codes "uid") (count report.node.uid)
-    (put (codes "nlink") (count report.node.links) members)))
+-- the members of an i-node that come after its extents (manual section 5, file system)
+unfoldable pub members_back : InodeReport → Members
+members_back report =
+    member (codes "gid") (count report.node.gid)
+    (member (codes "i-node") (count report.number)
+    (member (codes "kind") (string (kind_name (kind_of report.edition report.node.mode.bits)))
+    (member (codes "mode") (count report.node.mode.bits)
+    (member (codes "mtime") (count report.node.modified)
+    (member (codes "nlink") (count report.node.links)
+    (member (codes "permissions") (count (permissions_of report.node.mode.bits))
+    (member (codes "size") (count report.node.size)
+    (member (codes "uid") (count report.node.uid) no_members))))))))
 
--- the members of an object, with an i-node's times added (this project)
-unfoldable pub with_times : InodeReport → Members → Members
-with_times report members =
-    put (codes "ctime") (count_or_null report.node.changed)
-    (put (codes "mtime") (count report.node.modified)
-    (put (codes "atime") (count report.node.accessed) members))
+-- the text of the report in front of its extents (RFC 8259)
+unfoldable pub inode_front : InodeReport → List ℕ
+inode_front report = 123 ∷ (between_braces false (members_front report) ++ codes ",\"extents\":[")
 
--- the members of an object, with an i-node's addresses and extents added (this project)
-unfoldable pub with_places : InodeReport → Members → Members
-with_places report members =
-    put (codes "extents") (array (items_of (map extent_data report.extents.items)))
-    (put (codes "addr") (counts (take (address_count report.edition) report.node.addresses)) members)
+-- the text of the report behind its extents (RFC 8259)
+unfoldable pub inode_back : InodeReport → List ℕ
+inode_back report = codes "]," ++ (between_braces false (members_back report) ++ codes "}\n")
 
 -- a report on an i-node in this format (this project)
 abbrev pub inode_in : InodeReport → OutputForm → List ℕ
@@ -85,14 +84,16 @@ IsInodeText edition image number form text =
 abbrev pub IsInodeFault : Edition → List ℕ → ℕ → Fault → Type 0
 IsInodeFault edition image number fault = (why : InspectFault) × InspectsInode edition image number (Err why) × (fault ≡ uninspected why)
 
--- the i-node with a number is shown, or the reason why not is reported (this project)
-abbrev pub ShowsNumber : Edition → List ℕ → ℕ → OutputForm → Streams → ℕ → Type 0
-ShowsNumber edition image number form streams status =
-    PrintsOne (IsInodeText edition image number form) (IsInodeFault edition image number) streams status
+-- the i-node with a number is shown, as JSON piece by piece, or the reason why not is reported (this project)
+abbrev pub ShowsNumber : Edition → List ℕ → ℕ → Streams → ℕ → OutputForm → Type 0
+ShowsNumber edition image number streams status forms.Text =
+    PrintsOne (IsInodeText edition image number forms.Text) (IsInodeFault edition image number) streams status
+ShowsNumber edition image number streams status forms.Json =
+    PrintsOneInPieces (IsInodeText edition image number forms.Json) (IsInodeFault edition image number) streams status
 
 -- the i-node whose number was found is shown, or the reason why there is none is reported (this project)
 abbrev pub ShowsFound : Edition → List ℕ → OutputForm → Streams → ℕ → Result ℕ NodeFault → Type 0
-ShowsFound edition image form streams status (Ok number) = ShowsNumber edition image number form streams status
+ShowsFound edition image form streams status (Ok number) = ShowsNumber edition image number streams status form
 ShowsFound edition image form streams status (Err fault) = IsTold streams (node_fault fault) status
 
 -- an i-node is shown, or a fault is reported (this project)

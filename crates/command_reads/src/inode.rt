@@ -1,28 +1,34 @@
 //! `inode`: shows an i-node.
-ghost use Rattle.std.specs.Prelude.{◌≡◌, IfErr, IfOk, OnOk, string_bytes};
-ghost use Rattle.serde_json.specs.View.{members_view, view};
+ghost use Rattle.std.specs.Prelude.{◌≡◌, ◌≤◌, ◌-◌, ◌++◌, drop, IfErr, IfOk, length, string_bytes, take};
+ghost use Rattle.serde_json.specs.Data.{object};
+ghost use Rattle.serde_json.specs.View.{view};
+ghost use Rattle.serde_json.specs.Written.{compact_text};
+ghost use Rattle.vol_archive.specs.Write.{Writes};
+ghost use Rattle.vol_inspect.specs.Texts.{inode_text};
 ghost use Rattle.command_faults.specs.Streams.{streams, ErrorStream, Hears};
-ghost use Rattle.command_reads.specs.Inode.{inode_data, inode_json, inode_in, with_mode, with_owner, with_times, with_places, IsInodeText, IsInodeFault, ShowsInode, ShowsNumber};
-ghost use Rattle.command_reads.specs.Json.{count_or_null};
+ghost use Rattle.command_reads.specs.Inode.{inode_back, inode_front, inode_json, members_back, members_front, IsInodeText, IsInodeFault, ShowsInode, ShowsNumber};
+ghost use Rattle.command_reads.specs.Json.{count_or_null, extent_data, listed_text};
 
 use crate::faults::uninspected;
 use crate::json::list;
 use crate::looks::{NodeName, OutputForm};
 use crate::node::number_of;
-use crate::print::finish;
+use crate::pieces::put_items;
+use crate::print::{ending_after, finish, put};
+use command_faults::status::DONE;
 use command_faults::{Ending, Fault};
 use pdp_words::{Image, Sink};
-use serde_json::{Map, Value, put};
+use serde_json::{Value, json};
 use std::alloc::{AllocError, Global};
+use vol_archive::WriteFault;
 use vol_inspect::{InodeReport, inspect_inode, kind_name};
 use vol_layout::Edition;
-use vol_listing::json::{line, put_count};
 
 /// Shows an i-node of an image. The image must keep rules 1 and 2, and may be any bytes otherwise. The status is 0; 1 if the image breaks one of
 /// these rules, has no i-node with this number, or the path leads to none; 3 if `output` failed, 4 if memory ran out. Nothing is printed until the
-/// whole report is ready.
+/// whole report is ready; with 3, and as JSON with 4 too, some of it may have been printed.
 ///
-/// Takes the memory of [`inspect_inode`], and memory for the text.
+/// Takes the memory of [`inspect_inode`], and memory for the text; as JSON, for the text of a few extents at a time.
 pub(crate) fn show_inode<O: Sink>(
     alloc: Global,
     edition: Edition,
@@ -51,122 +57,170 @@ fn show_number<O: Sink>(
     output: &mut O,
 ) -> Ending
     ensures { (errors : ErrorStream) → Hears errors result.fault
-        → ShowsNumber edition image.now number form (streams O.contents O.failed output.old output.new errors) result.status }
+        → ShowsNumber edition image.now number (streams O.contents O.failed output.old output.new errors) result.status form }
 {
-    let text = inode_text(alloc, edition, image, number, form);
-    finish(text, output)
+    match form {
+        OutputForm::Text => finish(inode_text(alloc, edition, image, number), output),
+        OutputForm::Json => print_json(alloc, edition, image, number, output),
+    }
 }
 
 /// Returns the text of an i-node.
-fn inode_text(
-    alloc: Global,
-    edition: Edition,
-    image: &Image,
-    number: u16,
-    form: OutputForm,
-) -> Result<String, Fault>
-    ensures text { IfOk result (λ text. IsInodeText edition image.now number form (string_bytes text)) }
+fn inode_text(alloc: Global, edition: Edition, image: &Image, number: u16) -> Result<String, Fault>
+    ensures text { IfOk result (λ text. IsInodeText edition image.now number OutputForm.Text (string_bytes text)) }
     ensures fault { IfErr result (λ fault. IsInodeFault edition image.now number fault) }
 {
     match inspect_inode(alloc, edition, image, number) {
-        Ok(report) => Ok(inode_in(alloc, &report, form)?),
+        Ok(report) => Ok(report_text(alloc, &report)?),
         Err(fault) => Err(uninspected(fault)),
     }
 }
 
-/// Returns the report on an i-node in this format.
-fn inode_in(alloc: Global, report: &InodeReport, form: OutputForm) -> Result<String, AllocError>
-    ensures { IfOk result (λ text. string_bytes text ≡ inode_in report.now form) }
+/// Returns the text of the report on an i-node.
+fn report_text(alloc: Global, report: &InodeReport) -> Result<String, AllocError>
+    ensures { IfOk result (λ text. string_bytes text ≡ inode_text report.now) }
 {
-    match form {
-        OutputForm::Json => inode_json(alloc, report),
-        OutputForm::Text => {
-            let mut text = String::new(alloc);
-            report.push_text(&mut text)?;
-            Ok(text)
-        }
+    let mut text = String::new(alloc);
+    report.push_text(&mut text)?;
+    Ok(text)
+}
+
+/// Prints an i-node as JSON.
+fn print_json<O: Sink>(
+    alloc: Global,
+    edition: Edition,
+    image: &Image,
+    number: u16,
+    output: &mut O,
+) -> Ending
+    ensures { (errors : ErrorStream) → Hears errors result.fault
+        → ShowsNumber edition image.now number (streams O.contents O.failed output.old output.new errors) result.status OutputForm.Json }
+{
+    match inspect_inode(alloc, edition, image, number) {
+        Ok(report) => ending_after(put_report(alloc, &report, output), DONE),
+        Err(fault) => Ending::from(uninspected(fault)),
     }
 }
 
-/// Returns an i-node as JSON, on one line.
-fn inode_json(alloc: Global, report: &InodeReport) -> Result<String, AllocError>
-    ensures { IfOk result (λ text. string_bytes text ≡ inode_json report.now) }
-{
-    let value = inode_value(alloc, report)?;
-    line(alloc, &value)
-}
-
-/// Returns an i-node as a JSON value.
-fn inode_value(alloc: Global, report: &InodeReport) -> Result<Value, AllocError>
-    ensures { IfOk result (λ value. view value ≡ inode_data report.now) }
-{
-    let mut object = Map::new(alloc);
-    put_mode(alloc, report, &mut object)?;
-    put_owner(alloc, report, &mut object)?;
-    put_times(alloc, report, &mut object)?;
-    put_places(alloc, report, &mut object)?;
-    Ok(Value::Object(object))
-}
-
-/// Puts an i-node's number, mode, kind and permissions into an object.
-#[tactic(auto, unfolding(crate::specs::Inode::with_mode))]
-fn put_mode(
+/// Writes an i-node as JSON, on one line, a few of its extents at a time.
+fn put_report<O: Sink>(
     alloc: Global,
     report: &InodeReport,
-    object: &mut Map<String, Value>,
-) -> Result<(), AllocError>
-    ensures { OnOk result (members_view object.new.entries ≡ with_mode report.now (members_view object.old.entries)) }
+    output: &mut O,
+) -> Result<(), WriteFault>
+    ensures { Writes (O.contents output.old) (O.contents output.new) (O.failed output.old) (O.failed output.new) (inode_json report.now) result }
 {
-    let mode = report.node.mode;
-    let kind = String::from_str(alloc, kind_name(mode.kind(report.edition)))?;
-    put_count(alloc, object, "i-node", u64::from(report.number))?;
-    put(object, alloc, "kind", Value::String(kind))?;
-    put_count(alloc, object, "mode", u64::from(mode.bits))?;
-    put_count(alloc, object, "permissions", u64::from(mode.permissions()))
+    put_front(alloc, report, output)?;
+    put_rest(alloc, report, output)
 }
 
-/// Puts an i-node's link count, owner, group and size into an object.
-#[tactic(auto, unfolding(crate::specs::Inode::with_owner))]
-fn put_owner(
-    alloc: Global,
-    report: &InodeReport,
-    object: &mut Map<String, Value>,
-) -> Result<(), AllocError>
-    ensures { OnOk result (members_view object.new.entries ≡ with_owner report.now (members_view object.old.entries)) }
+/// Writes the text in front of the extents.
+fn put_front<O: Sink>(alloc: Global, report: &InodeReport, output: &mut O) -> Result<(), WriteFault>
+    ensures { Writes (O.contents output.old) (O.contents output.new) (O.failed output.old) (O.failed output.new) (inode_front report.now) result }
 {
-    put_count(alloc, object, "nlink", u64::from(report.node.links))?;
-    put_count(alloc, object, "uid", u64::from(report.node.uid))?;
-    put_count(alloc, object, "gid", u64::from(report.node.gid))?;
-    put_count(alloc, object, "size", u64::from(report.node.size))
+    let front = inode_front(alloc, report)?;
+    put(&front, output)
 }
 
-/// Puts an i-node's times into an object.
-#[tactic(auto, unfolding(crate::specs::Inode::with_times))]
-fn put_times(
-    alloc: Global,
-    report: &InodeReport,
-    object: &mut Map<String, Value>,
-) -> Result<(), AllocError>
-    ensures { OnOk result (members_view object.new.entries ≡ with_times report.now (members_view object.old.entries)) }
+/// Writes the extents, and the text behind them.
+fn put_rest<O: Sink>(alloc: Global, report: &InodeReport, output: &mut O) -> Result<(), WriteFault>
+    ensures { Writes (O.contents output.old) (O.contents output.new) (O.failed output.old) (O.failed output.new)
+        (listed_text extent_data report.now.extents.items ++ inode_back report.now) result }
 {
-    put_count(alloc, object, "atime", u64::from(report.node.accessed))?;
-    put_count(alloc, object, "mtime", u64::from(report.node.modified))?;
-    put(object, alloc, "ctime", optional(report.node.changed))
+    put_items(alloc, &report.extents, output)?;
+    put_back(alloc, report, output)
 }
 
-/// Puts an i-node's addresses and extents into an object.
-#[tactic(auto, unfolding(crate::specs::Inode::with_places))]
-fn put_places(
-    alloc: Global,
-    report: &InodeReport,
-    object: &mut Map<String, Value>,
-) -> Result<(), AllocError>
-    ensures { OnOk result (members_view object.new.entries ≡ with_places report.now (members_view object.old.entries)) }
+/// Writes the text behind the extents.
+fn put_back<O: Sink>(alloc: Global, report: &InodeReport, output: &mut O) -> Result<(), WriteFault>
+    ensures { Writes (O.contents output.old) (O.contents output.new) (O.failed output.old) (O.failed output.new) (inode_back report.now) result }
+{
+    let back = inode_back(alloc, report)?;
+    put(&back, output)
+}
+
+/// Returns the text in front of the extents: that of an object with the members before them, without its brace.
+fn inode_front(alloc: Global, report: &InodeReport) -> Result<Vec<u8>, AllocError>
+    ensures { IfOk result (λ text. text.items ≡ inode_front report.now) }
+{
+    let members = front_text(alloc, report)?;
+    let mut text = Vec::from_slice(alloc, before_last(members.as_bytes()))?;
+    text.extend_from_slice(b",\"extents\":[")?;
+    Ok(text)
+}
+
+/// Returns the text behind the extents: that of an object with the members after them, without its first brace.
+fn inode_back(alloc: Global, report: &InodeReport) -> Result<Vec<u8>, AllocError>
+    ensures { IfOk result (λ text. text.items ≡ inode_back report.now) }
+{
+    let members = back_text(alloc, report)?;
+    let mut text = Vec::new(alloc);
+    text.extend_from_slice(b"],")?;
+    text.extend_from_slice(behind_first(members.as_bytes()))?;
+    text.push(b'\n')?;
+    Ok(text)
+}
+
+/// Returns the bytes before the last one.
+fn before_last(text: &[u8]) -> &[u8]
+    requires { 1 ≤ length text.now }
+    ensures { result.now ≡ take (length text.now - 1) text.now }
+{
+    &text[..text.len() - 1]
+}
+
+/// Returns the bytes behind the first one.
+fn behind_first(text: &[u8]) -> &[u8]
+    requires { 1 ≤ length text.now }
+    ensures { result.now ≡ drop 1 text.now }
+{
+    &text[1..]
+}
+
+/// Returns the text of an object with the members before the extents.
+fn front_text(alloc: Global, report: &InodeReport) -> Result<String, AllocError>
+    ensures { IfOk result (λ text. string_bytes text ≡ compact_text (object (members_front report.now))) }
+{
+    let value = front_value(alloc, report)?;
+    value.to_string(alloc)
+}
+
+/// Returns the text of an object with the members after the extents.
+fn back_text(alloc: Global, report: &InodeReport) -> Result<String, AllocError>
+    ensures { IfOk result (λ text. string_bytes text ≡ compact_text (object (members_back report.now))) }
+{
+    let value = back_value(alloc, report)?;
+    value.to_string(alloc)
+}
+
+/// Returns the members of an i-node before the extents.
+#[tactic(auto, unfolding(crate::specs::Inode::members_front))]
+fn front_value(alloc: Global, report: &InodeReport) -> Result<Value, AllocError>
+    ensures { IfOk result (λ value. view value ≡ object (members_front report.now)) }
 {
     let addresses = list(alloc, report.addresses())?;
-    let extents = list(alloc, &report.extents)?;
-    put(object, alloc, "addr", addresses)?;
-    put(object, alloc, "extents", extents)
+    let changed = optional(report.node.changed);
+    json!(in alloc; {"addr": addresses, "atime": report.node.accessed, "ctime": changed})
+}
+
+/// Returns the members of an i-node after the extents.
+#[tactic(auto, unfolding(crate::specs::Inode::members_back))]
+fn back_value(alloc: Global, report: &InodeReport) -> Result<Value, AllocError>
+    ensures { IfOk result (λ value. view value ≡ object (members_back report.now)) }
+{
+    let node = &report.node;
+    let mode = node.mode;
+    json!(in alloc; {
+        "gid": node.gid,
+        "i-node": report.number,
+        "kind": kind_name(mode.kind(report.edition)),
+        "mode": mode.bits,
+        "mtime": node.modified,
+        "nlink": node.links,
+        "permissions": mode.permissions(),
+        "size": node.size,
+        "uid": node.uid
+    })
 }
 
 /// Returns a number, or null if there is none.

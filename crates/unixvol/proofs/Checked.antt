@@ -2,6 +2,7 @@
 use Rattle.std.proofs.Common.{ℕ, ◌≤◌, Bool, true, false, if◌then◌else◌, List, Option, inl, inr, sym, subst, arith}
 use Rattle.command_reads.specs.Checkers.{Checks, IsUnreported, PrintsReport}
 use Rattle.command_reads.specs.declared.looks.OutputForm.{OutputForm}
+use Rattle.command_reads.specs.declared.looks.OutputForm.TheVariants as forms
 use Rattle.command_faults.specs.Streams.{Streams}
 use Rattle.vol_check.specs.declared.checker.Checker.{Checker}
 use Rattle.vol_layout.specs.declared.edition.Edition.{Edition}
@@ -25,10 +26,11 @@ ends_unreported streams status none = ends_badly streams status (omega (arith, n
 
 ends_printed : (form : OutputForm) (screen : Screen) (streams : Streams) (report : List Line) (status : ℕ) → PrintsReport form screen streams report status
     → IsEnd streams status
-ends_printed form screen streams report status (inl all) =
-    record { within = subst (λ n. n ≤ 4) (sym all.0) (status_short (has_faults report)); whole = λ e. (all.2, all.3) }
-ends_printed form screen streams report status (inr (inl front)) = ends_badly streams status (omega (arith, front.0)) (omega (arith, front.0))
-ends_printed form screen streams report status (inr (inr none)) = ends_unreported streams status none
+ends_printed form screen streams report status (inl (inl all)) =
+    record { within = subst (λ n. n ≤ 4) (sym all.status) (status_short (has_faults report)); whole = λ e. (all.working, all.said) }
+ends_printed form screen streams report status (inl (inr front)) = ends_badly streams status (omega (arith, front.status)) (omega (arith, front.status))
+ends_printed forms.Text screen streams report status (inr none) = ends_unreported streams status none
+ends_printed forms.Json screen streams report status (inr cut) = ends_badly streams status (omega (arith, cut.status)) (omega (arith, cut.status))
 
 ends_checks : (checker : Checker) (edition : Edition) (image : List ℕ) (form : OutputForm) (screen : Screen) (streams : Streams) (status : ℕ)
     → Checks checker edition image form screen streams status → IsEnd streams status

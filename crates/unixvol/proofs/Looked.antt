@@ -15,11 +15,12 @@ use Rattle.vol_layout.specs.declared.edition.Edition.{Edition}
 use Rattle.command_reads.specs.Check.{Checks, verdict_status}
 use Rattle.command_reads.specs.Export.{begun, ExportsBelow, ExportsFrom, ExportsTo, told_status, unstarted_status, whole, broken, short, unbegun}
 use Rattle.command_reads.specs.declared.looks.ExportOptions.{ExportOptions}
-use Rattle.command_reads.specs.Inode.{ShowsFound}
+use Rattle.command_reads.specs.Inode.{ShowsFound, ShowsNumber}
 use Rattle.command_reads.specs.Node.{node_fault, number_of}
 use Rattle.command_reads.specs.declared.node.NodeFault.{NodeFault}
 use Rattle.command_reads.specs.Look.{Looks}
 use Rattle.command_reads.specs.declared.looks.OutputForm.{OutputForm}
+use Rattle.command_reads.specs.declared.looks.OutputForm.TheVariants as forms
 use Rattle.command_reads.specs.Find.{Finds}
 use Rattle.command_reads.specs.Print.{IsBrokenOff, IsTold, PrintsInPieces, PrintsOne, PrintsOneInPieces, PrintsTelling, PrintsWith}
 use Rattle.command_reads.specs.Sums.{Sums}
@@ -137,9 +138,14 @@ ends_checks edition image graded form streams status (inl found) =
     (verdict_few graded (is_ok (geometry_read edition image)) found.sound) found.prints
 ends_checks edition image graded form streams status (inr told) = ends_told (if graded then 6 else 4) streams no_memory status (most_few graded) told
 
+ends_number : (edition : Edition) (image : List ℕ) (number : ℕ) (streams : Streams) (status : ℕ) (form : OutputForm)
+    → ShowsNumber edition image number streams status form → IsEndWithin 4 streams status
+ends_number edition image number streams status forms.Text shows = ends_one _ _ streams status shows
+ends_number edition image number streams status forms.Json shows = ends_one_in_pieces _ _ streams status shows
+
 ends_found : (edition : Edition) (image : List ℕ) (form : OutputForm) (streams : Streams) (status : ℕ) (found : Result ℕ NodeFault)
     → ShowsFound edition image form streams status found → IsEndWithin 4 streams status
-ends_found edition image form streams status (Ok number) shows = ends_one _ _ streams status shows
+ends_found edition image form streams status (Ok number) shows = ends_number edition image number streams status form shows
 ends_found edition image form streams status (Err fault) told = ends_told 4 streams (node_fault fault) status (omega arith) told
 
 -- a text that was printed with remarks satisfies `IsEndWithin`

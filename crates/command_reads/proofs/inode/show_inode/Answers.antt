@@ -14,7 +14,7 @@ returns-in-Ok g c errors hears =
     let both : Streams = streams g.O.Sink.contents g.O.Sink.failed c.args.output.now c.show_number.new.output errors in
     subst (λ (n : Result ℕ NodeFault). ShowsFound c.args.edition c.args.image.items c.args.form both c.show_number.result.status n)
     (c.in-Ok.ensures ∙ (λ i. number_of c.args.edition (c.from_bytes-image.ensures i) c.args.node))
-    (subst (λ (image : List ℕ). ShowsNumber c.args.edition image number c.args.form both c.show_number.result.status) c.from_bytes-image.ensures (c.show_number.ensures errors hears))
+    (subst (λ (image : List ℕ). ShowsNumber c.args.edition image number both c.show_number.result.status c.args.form) c.from_bytes-image.ensures (c.show_number.ensures errors hears))
 
 pub returns : goal.returns
 returns g c errors hears =

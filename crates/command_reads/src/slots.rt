@@ -14,14 +14,11 @@ use command_faults::status::DONE;
 use pdp_words::{BLOCK, Image, Sink};
 use std::alloc::{AllocError, Global};
 use vol_archive::{WriteFault, start_of};
+use vol_dir::entries::{SLOTS, slot_count};
 use vol_file::{block_at, next_block};
-use vol_layout::i_list::size;
 use vol_layout::slot::SLOT;
 use vol_layout::{Edition, Geometry, Slot};
 use vol_listing::{Screen, push_shown};
-
-/// The number of slots in a block.
-const SLOTS: u32 = 32;
 
 /// Shows the slots of the directory at a path, in order, each on a line: its number, its i-number and its name. An empty slot has i-number 0, and still
 /// has the name of the entry that was removed. A slot with only zero bytes has no line. The path is walked as user 0. The image must keep rules 1 and
@@ -115,16 +112,6 @@ fn put_block<O: Sink>(
     let mut text = Vec::new(alloc);
     push_block(alloc, image, geometry, dir, b, count, screen, &mut text)?;
     put(&text, output)
-}
-
-/// Returns the number of slots of directory `dir`.
-fn slot_count(image: &Image, geometry: &Geometry, dir: u16) -> u32
-    requires fits { Fits geometry.now image.now }
-    requires first { 1 ≤ dir }
-    requires last { dir ≤ geometry.now.last_inode }
-    ensures { result ≡ slot_count geometry.now image.now dir }
-{
-    size(image, geometry, dir).min(geometry.edition.constants().greatest) / SLOT as u32
 }
 
 /// Appends the lines of the first `count` slots in logical block `b` of directory `dir`.

@@ -17,6 +17,7 @@ use Rattle.vol_layout.specs.declared.mode.Kind.{Kind}
 use Rattle.vol_layout.specs.declared.mode.Kind.TheVariants as kinds
 use Rattle.vol_layout.specs.declared.block_map.BlockMap.TheVariants.{Small, Deep}
 use Rattle.vol_layout.proofs.InodeLaws.{inode_size}
+use Rattle.vol_layout.proofs.WayOrder.{range_more}
 use Rattle.vol_file.specs.Changes.{whole_blocks}
 use Rattle.vol_file.specs.Need.{need_of}
 use Rattle.vol_file.specs.Rules.{kind_at, size_of}
@@ -31,20 +32,13 @@ use Rattle.vol_migrate.specs.Raised.{names_block, stored_blocks, raised_shape, s
 use Rattle.vol_migrate.specs.Refuse.{places_needed}
 use Rattle.vol_migrate.specs.Stages.{places_for, file_need, need_before}
 
--- a range of one more number ends with this number
-range_more : (a n : ℕ) → range_with_len a (suc n) ≡ range_with_len a n ++ ((a + n) ∷ [])
-range_more a zero = ap (λ x. x ∷ []) (let e : a ≡ a + 0 = omega arith in e)
-range_more a (suc n) = ap (λ rest. a ∷ rest) (range_more (a + 1) n ∙ ap (λ x. range_with_len (a + 1) n ++ (x ∷ [])) (let e : a + 1 + n ≡ a + suc n = omega arith in e))
-
 -- one more logical block is added if it is stored
 below_more : (shape : Shape) (n : ℕ) → stored_blocks shape (n + 1) ≡ stored_blocks shape n ++ filter (names_block shape) (n ∷ [])
 below_more shape n =
-    let next : n + 1 ≡ suc n = omega arith in
     let at : 0 + n ≡ n = omega arith in
-    ap (λ k. filter (names_block shape) (range_with_len 0 k)) next
-    ∙ (ap (filter (names_block shape)) (range_more 0 n)
+    ap (filter (names_block shape)) (range_more 0 n 1)
     ∙ (filter-append (names_block shape) (range_with_len 0 n) ((0 + n) ∷ [])
-    ∙ ap (λ x. filter (names_block shape) (range_with_len 0 n) ++ filter (names_block shape) (x ∷ [])) at))
+    ∙ ap (λ x. filter (names_block shape) (range_with_len 0 n) ++ filter (names_block shape) (x ∷ [])) at)
 
 -- a hole adds no stored block
 pub below_hole : (shape : Shape) (n : ℕ) → names_block shape n ≡ false → stored_blocks shape (n + 1) ≡ stored_blocks shape n

@@ -4,26 +4,19 @@ use Rattle.std.specs.Prelude.{◌||◌, ◌&&◌}
 use Rattle.std.specs.List.{list_any, range_with_len}
 use Rattle.std.specs.Option.{option_map, option_map_or}
 use Rattle.std.proofs.lemmas.Bool.{cases_Bool, cases_lt, lt-ltb, le-ltb, true≢false}
-use Rattle.std.proofs.Math.Bool.{or-false, or_assoc}
 use Rattle.vol_layout.specs.Inode.{inode_of}
 use Rattle.vol_layout.specs.declared.geometry.Geometry.{Geometry}
 use Rattle.vol_layout.specs.declared.mode.Kind.{Kind}
 use Rattle.vol_layout.specs.declared.mode.Kind.TheVariants as kinds
 use Rattle.vol_file.specs.Rules.{kind_at}
 use Rattle.vol_file.proofs.Lasts.{or_true}
+use Rattle.vol_file.proofs.MissingLaws.{any_more}
 use Rattle.vol_dir.specs.Tree.{Node, Tree, tree, node_of, node_with, content_of}
 use Rattle.vol_change.proofs.FileInodes.{none_passes}
 use Rattle.vol_dir.proofs.WalkLaws.{node_inside}
 use Rattle.vol_volume.specs.Verdict.{is_device}
 use Rattle.vol_migrate.specs.Refuse.{has_device, has_above, is_device_at, is_node_at, is_above_at}
 use Rattle.vol_migrate.specs.Stages.{IsUsed}
-
--- a number of a longer range passes a test if one of the range does or the last one does
-range_more : (a n : ℕ) (f : ℕ → Bool) → list_any f (range_with_len a (suc n)) ≡ (list_any f (range_with_len a n) || f (a + n))
-range_more a zero f = or-false (f a) ∙ ap f (let e : a ≡ a + 0 = omega arith in e)
-range_more a (suc n) f =
-    ap (λ t. f a || t) (range_more (a + 1) n f ∙ ap (λ x. list_any f (range_with_len (a + 1) n) || f x) (let e : a + 1 + n ≡ a + suc n = omega arith in e))
-    ∙ sym (or_assoc (f a) (list_any f (range_with_len (a + 1) n)) (f (a + suc n)))
 
 -- if no number below `i` passes a test and `i` doesn't, no number up to `i` does
 pub none_more : (f : ℕ → Bool) (i : ℕ) → 1 ≤ i → list_any f (range_with_len 1 (i - 1)) ≡ false → f i ≡ false
@@ -32,7 +25,7 @@ none_more f i first none off =
     let count : i + 1 - 1 ≡ suc (i - 1) = omega (arith, first) in
     let at : 1 + (i - 1) ≡ i = omega (arith, first) in
     ap (λ n. list_any f (range_with_len 1 n)) count
-    ∙ (range_more 1 (i - 1) f ∙ (ap (λ t. t || f (1 + (i - 1))) none ∙ (ap f at ∙ off)))
+    ∙ (any_more f 1 (i - 1) ∙ (ap (λ t. t || f (1 + (i - 1))) none ∙ (ap f at ∙ off)))
 
 -- if a number of a range passes a test, `list_any` is true
 any_at : (f : ℕ → Bool) (a n d : ℕ) → d < n → f (a + d) ≡ true → list_any f (range_with_len a n) ≡ true

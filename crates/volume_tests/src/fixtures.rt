@@ -72,3 +72,20 @@ pub(crate) fn create(rt: &impl Abort, alloc: Global, path: &[u8]) -> Call {
         perm: 0o644,
     }
 }
+
+/// Returns a call that writes bytes into a file.
+pub(crate) fn write(
+    rt: &impl Abort,
+    alloc: Global,
+    path: &[u8],
+    offset: u32,
+    bytes: &[u8],
+) -> Call {
+    Call::Write {
+        cred: Cred::ROOT,
+        now: LATER,
+        path: bytes_of(rt, alloc, path),
+        offset,
+        bytes: bytes_of(rt, alloc, bytes),
+    }
+}

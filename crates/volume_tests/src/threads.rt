@@ -54,7 +54,7 @@ fn close_two(
 }
 
 /// Makes a call on a shared volume.
-fn make<R: Wait + Abort>(
+pub(crate) fn make<R: Wait + Abort>(
     rt: &R,
     alloc: Global,
     shared: &Shared,

@@ -13,6 +13,8 @@ mod cuts;
 #[cfg(test)]
 mod devices;
 #[cfg(test)]
+mod fields;
+#[cfg(test)]
 mod fixtures;
 #[cfg(test)]
 mod headers;

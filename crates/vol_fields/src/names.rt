@@ -17,9 +17,9 @@ pub enum Name {
     ListSize,
     /// `s_fsize`: the number of blocks.
     BlockCount,
-    /// `s_nfree`, or a chain block's: the count of an array of free blocks.
+    /// `s_nfree`, or `df_nfree` of a chain block: the count of an array of free blocks.
     FreeCount,
-    /// `s_free`, or a chain block's: a number of an array of free blocks.
+    /// `s_free`, or `df_free` of a chain block: a number of an array of free blocks.
     Free,
     /// `s_ninode`: the count of the i-number cache.
     CacheCount,

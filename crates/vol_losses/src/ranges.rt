@@ -18,7 +18,8 @@ pub struct LostRange {
     pub end: u32,
 }
 
-/// Returns the ranges of the logical blocks below `end` of i-node `i`, an i-number of the volume, that can't be trusted.
+/// Returns the ranges of the logical blocks below `end` of i-node `i`, an i-number of the volume, that can't be trusted. If the block of the
+/// i-node is lost, they say nothing.
 ///
 /// Costs what [`next_unsure`] and [`next_sure`] cost from the first to the last. An error: memory ran out.
 pub fn losses(

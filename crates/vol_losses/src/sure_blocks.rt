@@ -1,4 +1,4 @@
-//! What of a file can be trusted although blocks of the image are lost.
+//! Finds what can be trusted of a file although blocks of the image are lost.
 ghost use Rattle.std.specs.Prelude.{◌≡◌, ℕ, ◌-◌, ◌<◌, ◌≤◌, ◌^◌, ◌↔◌, true, false};
 ghost use Rattle.vol_layout.specs.Geometry.{Fits};
 ghost use Rattle.vol_layout.specs.BlockPointers.{form_at};
@@ -155,7 +155,7 @@ fn next_block(
     end
 }
 
-/// True if i-node `i`, an i-number of the volume, is whole: neither its own block is lost, nor one on the path to a byte of its body.
+/// True if i-node `i`, an i-number of the volume, is whole: neither its own block nor one on the path to a byte of its body is lost.
 ///
 /// Costs nothing if there are no marks.
 pub fn is_whole(image: &Image, geometry: &Geometry, lost: &[bool], i: u16) -> bool

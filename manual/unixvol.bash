@@ -35,9 +35,9 @@ _unixvol() {
         cat) kinds='edition file any' options='--explain -h --help' ;;
         ls) kinds='edition file path' options='-l --long -R --recursive -d --directory --json --slots --explain -h --help' ;;
         get) kinds='edition file path any...' options='-o --output -p --preserve --explain -h --help' valued='-o=file --output=file' others='edition file path...' ;;
-        find) kinds='edition file path' options='-g --name --explain -h --help' valued='-g=any --name=any' others='' ;;
+        find) kinds='edition file path' options='-g --name --lost --explain -h --help' valued='-g=any --name=any' others='' ;;
         export) kinds='edition file path' options='--lost --status --explain -h --help' ;;
-        sums) kinds='edition file path' options='--json --explain -h --help' ;;
+        sums) kinds='edition file path' options='--lost --json --explain -h --help' ;;
         inode) kinds='edition file any' options='--json --explain -h --help' ;;
         super) kinds='edition file' options='--json --explain -h --help' ;;
         free) kinds='edition file' options='--json --explain -h --help' ;;

@@ -287,7 +287,7 @@ compare 'import 10,000 files, 100,000,000 bytes' 1.5 0 work.img import 7 work.im
 input=/dev/null
 base=
 mv theirs wide.img
-compare 'export 10,000 files, 100,000,000 bytes' 1.5 0 output export 7 wide.img /
+compare 'export 10,000 files, 100,000,000 bytes' 1.15 0 output export 7 wide.img /
 rm -f wide.img archive.tar ours theirs
 
 # Paths through 10,000 nested directories, and a directory of 60,000 names.

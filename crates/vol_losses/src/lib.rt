@@ -8,4 +8,4 @@ pub mod sure_blocks;
 
 pub use cut_images::{CutImage, MOST_MISSING, filled};
 pub use ranges::{LostRange, losses};
-pub use sure_blocks::{is_lost, is_unsure, is_whole, next_sure, next_unsure};
+pub use sure_blocks::{is_lost, is_unsure, is_whole, next_block};

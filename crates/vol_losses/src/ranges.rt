@@ -4,7 +4,7 @@ ghost use Rattle.vol_layout.specs.Geometry.{Fits};
 ghost use Rattle.vol_losses.specs.Losses.{is_unsure};
 ghost use Rattle.vol_losses.specs.Ranges.{is_in, AreApart};
 
-use crate::sure_blocks::{next_sure, next_unsure};
+use crate::sure_blocks::next_block;
 use pdp_words::Image;
 use std::alloc::{AllocError, Global};
 use vol_layout::Geometry;
@@ -21,7 +21,7 @@ pub struct LostRange {
 /// Returns the ranges of the logical blocks below `end` of i-node `i`, an i-number of the volume, that can't be trusted. If the block of the
 /// i-node is lost, they say nothing.
 ///
-/// Costs what [`next_unsure`] and [`next_sure`] cost from the first to the last. An error: memory ran out.
+/// Costs what [`next_block`] costs from the first to the last. An error: memory ran out.
 pub fn losses(
     alloc: Global,
     image: &Image,
@@ -37,11 +37,11 @@ pub fn losses(
     ensures apart { IfOk result (λ ranges. AreApart 0 ranges.items (end + 1)) }
 {
     let mut ranges = Vec::new(alloc);
-    let mut first = next_unsure(image, geometry, lost, i, 0, end);
+    let mut first = next_block(image, geometry, lost, i, true, 0, end);
     while first < end {
-        let stop = next_sure(image, geometry, lost, i, first, end);
+        let stop = next_block(image, geometry, lost, i, false, first, end);
         ranges.push(LostRange { first, end: stop })?;
-        first = next_unsure(image, geometry, lost, i, stop, end);
+        first = next_block(image, geometry, lost, i, true, stop, end);
     }
     Ok(ranges)
 }

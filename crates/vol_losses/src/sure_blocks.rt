@@ -84,52 +84,12 @@ pub fn is_unsure(image: &Image, geometry: &Geometry, lost: &[bool], i: u16, b: u
     stretch_at(image, geometry, lost, i, b).unsure
 }
 
-/// Returns the first logical block in `from..end` of i-node `i`, an i-number of the volume, that can't be trusted, or `end` if there is none.
+/// Returns the first logical block in `from..end` of i-node `i`, an i-number of the volume, that can't be trusted, or that can if `unsure` is false.
+/// Returns `end` if there is none.
 ///
-/// Costs nothing if there are no marks. Else costs a block-map lookup for each block of an indirect block that is stored, and one for all of an indirect
-/// block that isn't, as in a long hole.
-pub fn next_unsure(
-    image: &Image,
-    geometry: &Geometry,
-    lost: &[bool],
-    i: u16,
-    from: u32,
-    end: u32,
-) -> u32
-    requires fits { Fits geometry.now image.now }
-    requires first { 1 ≤ i }
-    requires last { i ≤ geometry.now.last_inode }
-    requires order { from ≤ end }
-    ensures { IsNext geometry.now image.now lost.now i true from end result }
-{
-    if lost.is_empty() {
-        return end;
-    }
-    next_block(image, geometry, lost, i, true, from, end)
-}
-
-/// Returns the first logical block in `from..end` of i-node `i`, an i-number of the volume, that can be trusted, or `end` if there is none.
-///
-/// Costs a block-map lookup for each lost data block, and one for all of a lost indirect block.
-pub fn next_sure(
-    image: &Image,
-    geometry: &Geometry,
-    lost: &[bool],
-    i: u16,
-    from: u32,
-    end: u32,
-) -> u32
-    requires fits { Fits geometry.now image.now }
-    requires first { 1 ≤ i }
-    requires last { i ≤ geometry.now.last_inode }
-    requires order { from ≤ end }
-    ensures { IsNext geometry.now image.now lost.now i false from end result }
-{
-    next_block(image, geometry, lost, i, false, from, end)
-}
-
-/// Returns the first logical block in `from..end` that can't be trusted, or that can if `unsure` is false; `end` if there is none.
-fn next_block(
+/// Costs a block-map lookup for each block that it passes; one for all of an indirect block that is lost, or that isn't stored, as in a long hole; and
+/// nothing if `unsure` is true and there are no marks.
+pub fn next_block(
     image: &Image,
     geometry: &Geometry,
     lost: &[bool],
@@ -144,6 +104,9 @@ fn next_block(
     requires order { from ≤ end }
     ensures { IsNext geometry.now image.now lost.now i unsure from end result }
 {
+    if unsure && lost.is_empty() {
+        return end;
+    }
     let mut b = from;
     while b < end {
         let stretch = stretch_at(image, geometry, lost, i, b);
@@ -169,7 +132,7 @@ pub fn is_whole(image: &Image, geometry: &Geometry, lost: &[bool], i: u16) -> bo
     }
     let bytes = size(image, geometry, i).min(geometry.edition.constants().greatest);
     let end = bytes.div_ceil(BLOCK as u32);
-    next_unsure(image, geometry, lost, i, 0, end) == end
+    next_block(image, geometry, lost, i, true, 0, end) == end
 }
 
 /// Returns the block in which i-node `i` is stored.

@@ -7,7 +7,7 @@ use pdp_words::Image;
 use std::alloc::Global;
 use std::process::Abort;
 use vol_layout::{Edition, Geometry};
-use vol_losses::{filled, is_lost, is_unsure, is_whole, losses, next_sure, next_unsure};
+use vol_losses::{filled, is_lost, is_unsure, is_whole, losses, next_block};
 
 /// A regular file of 12 blocks, as i-node 3 of the seventh edition: blocks 20 to 29, but for a hole in the place of 24, and block 30, an indirect block
 /// that points to blocks 40 and 41.
@@ -47,8 +47,8 @@ fn check_cut(rt: &impl Abort, alloc: Global, image: &Image, geometry: &Geometry,
     assert!(rt; is_lost(lost, 25));
     assert!(rt; !is_unsure(image, geometry, lost, 3, 4));
     assert!(rt; is_unsure(image, geometry, lost, 3, 5));
-    assert_eq!(rt; next_unsure(image, geometry, lost, 3, 0, 12), 5);
-    assert_eq!(rt; next_sure(image, geometry, lost, 3, 5, 12), 12);
+    assert_eq!(rt; next_block(image, geometry, lost, 3, true, 0, 12), 5);
+    assert_eq!(rt; next_block(image, geometry, lost, 3, false, 5, 12), 12);
     assert!(rt; !is_whole(image, geometry, lost, 3));
     assert!(rt; is_whole(image, geometry, lost, 4));
     assert!(rt; is_whole(image, geometry, &[], 3));

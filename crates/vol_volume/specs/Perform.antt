@@ -16,7 +16,7 @@ use Rattle.vol_volume.specs.declared.calls.Call.{Call}
 use Rattle.vol_volume.specs.declared.calls.Call.TheVariants.{Create, Mkdir, Link, Unlink, Rmdir, Write, Truncate, Chmod, Chown, Times}
 use Rattle.vol_volume.specs.declared.calls.Done.{Done}
 use Rattle.vol_volume.specs.declared.calls.Done.TheVariants.{Made, Wrote, Plain}
-use Rattle.vol_volume.specs.declared.checked_calls.Caller.{Caller}
+use Rattle.vol_volume.specs.declared.calls.Caller.{Caller}
 use Rattle.vol_volume.specs.declared.checked_calls.found.EntryPlace.{EntryPlace}
 
 -- a path leads to directory d and the last name `name` (Lions on namei)
@@ -58,6 +58,19 @@ cred_of (Times cred now path atime mtime) = cred
 -- the user and the time of a call (this project)
 abbrev pub caller_of : Call → Caller
 caller_of call = record { cred = cred_of call; moment = moment_of call }
+
+-- the first path of a call (this project)
+abbrev pub path_of : Call → List ℕ
+path_of (Create cred now path perm) = path
+path_of (Mkdir cred now path perm) = path
+path_of (Link cred now source target) = source
+path_of (Unlink cred now path) = path
+path_of (Rmdir cred now path) = path
+path_of (Write cred now path offset bytes) = path
+path_of (Truncate cred now path size) = path
+path_of (Chmod cred now path perm) = path
+path_of (Chown cred now path uid gid) = path
+path_of (Times cred now path atime mtime) = path
 
 -- the i-number in a recorded answer, if there is one (this project)
 abbrev pub recorded_number : Option Done → Option ℕ

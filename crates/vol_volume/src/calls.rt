@@ -1,4 +1,7 @@
 //! Calls, which change a volume, and the records of them in the journal.
+ghost use Rattle.std.specs.Prelude.{◌≡◌};
+ghost use Rattle.vol_volume.specs.Perform.{caller_of, path_of};
+
 use pdp_words::Bytes;
 use vol_dir::Cred;
 
@@ -137,6 +140,57 @@ pub enum Call {
         /// The time of its last modification, in seconds since the beginning of 1970.
         mtime: u32,
     },
+}
+
+/// The user and the time of a call.
+#[derive(Clone, Copy)]
+pub struct Caller {
+    /// The user and group.
+    pub cred: Cred,
+    /// The time, in seconds since the beginning of 1970.
+    pub moment: u32,
+}
+
+impl Call {
+    /// Returns the user and the time of the call.
+    pub fn caller(&self) -> Caller
+        ensures { result ≡ caller_of self.now }
+    {
+        let (cred, now) = match self {
+            Call::Create { cred, now, .. }
+            | Call::Mkdir { cred, now, .. }
+            | Call::Link { cred, now, .. }
+            | Call::Unlink { cred, now, .. }
+            | Call::Rmdir { cred, now, .. }
+            | Call::Write { cred, now, .. }
+            | Call::Truncate { cred, now, .. }
+            | Call::Chmod { cred, now, .. }
+            | Call::Chown { cred, now, .. }
+            | Call::Times { cred, now, .. } => (cred, now),
+        };
+        Caller {
+            cred: *cred,
+            moment: *now,
+        }
+    }
+
+    /// Returns the first path of the call.
+    pub fn path(&self) -> &[u8]
+        ensures { result.now ≡ path_of self.now }
+    {
+        match self {
+            Call::Create { path, .. }
+            | Call::Mkdir { path, .. }
+            | Call::Link { source: path, .. }
+            | Call::Unlink { path, .. }
+            | Call::Rmdir { path, .. }
+            | Call::Write { path, .. }
+            | Call::Truncate { path, .. }
+            | Call::Chmod { path, .. }
+            | Call::Chown { path, .. }
+            | Call::Times { path, .. } => path.as_slice(),
+        }
+    }
 }
 
 /// The answer to an accepted call.

@@ -1,13 +1,13 @@
 //! Calls, each in a module of its own, with its checks and its change. The checks walk each path once and search the last directory once, and the
 //! change uses their results.
 ghost use Rattle.std.specs.Prelude.{◌≡◌, ◌↔◌, IsTrue, IfSome, IfOk, OnErr};
-ghost use Rattle.std.specs.Result.{result_err};
+ghost use Rattle.std.specs.Result.{result_and, result_err};
 ghost use Rattle.vol_layout.specs.Geometry.{geometry_of};
 ghost use Rattle.vol_dir.specs.Tree.{state};
 ghost use Rattle.vol_judge.specs.Sound.{IsSound};
 ghost use Rattle.vol_change.specs.Ready.{Rules1To12, free_in};
 ghost use Rattle.vol_volume.specs.Journal.{MayAnswer};
-ghost use Rattle.vol_volume.specs.Perform.{IsPerformed, caller_of, recorded_number};
+ghost use Rattle.vol_volume.specs.Perform.{IsPerformed, recorded_number};
 ghost use Rattle.vol_volume.specs.Stands.{Rules3To7And9};
 ghost use Rattle.vol_volume.specs.Verdict.{verdict};
 
@@ -24,7 +24,7 @@ mod truncate;
 mod unlink;
 mod write;
 
-use crate::calls::{Call, Done};
+use crate::calls::{Call, Caller, Done};
 use crate::checked_calls::asked::{find_owned, is_free_number};
 use pdp_words::Image;
 use vol_change::NewNode;
@@ -39,15 +39,6 @@ pub(crate) struct Performed {
     pub done: Done,
     /// The number of free blocks.
     pub free: u32,
-}
-
-/// The user and the time of a call.
-#[derive(Clone, Copy)]
-pub(crate) struct Caller {
-    /// The user and group.
-    pub cred: Cred,
-    /// The time, in seconds since the beginning of 1970.
-    pub moment: u32,
 }
 
 /// Returns the answer that a call would get, or the first refusal that applies, in the order of the definition `verdict`. NoMemory is never returned.
@@ -68,73 +59,43 @@ pub(crate) fn check(
     ensures refusal { result_err result ≡ verdict (state geometry.now image.now) call.now }
     ensures answered { IfOk result (λ done. MayAnswer (state geometry.now image.now) call.now done) }
 {
+    let cred = call.caller().cred;
+    let path = call.path();
     match call {
-        Call::Create { cred, path, .. } => {
-            let (_, number) = create::check(image, geometry, free, *cred, path.as_slice())?;
+        Call::Create { .. } => {
+            let (_, number) = create::check(image, geometry, free, cred, path)?;
             Ok(Done::Made(number))
         }
-        Call::Mkdir { cred, path, .. } => {
-            let (_, number) = mkdir::check(image, geometry, free, *cred, path.as_slice())?;
+        Call::Mkdir { .. } => {
+            let (_, number) = mkdir::check(image, geometry, free, cred, path)?;
             Ok(Done::Made(number))
         }
-        Call::Link {
-            cred,
-            source,
-            target,
-            ..
-        } => {
-            let source = source.as_slice();
-            link::check(image, geometry, free, *cred, source, target.as_slice())?;
-            Ok(Done::Plain)
+        Call::Link { target, .. } => {
+            plain(link::check(image, geometry, free, cred, path, target.as_slice()))
         }
-        Call::Unlink { cred, path, .. } => {
-            unlink::check(image, geometry, *cred, path.as_slice())?;
-            Ok(Done::Plain)
-        }
-        Call::Rmdir { cred, path, .. } => {
-            rmdir::check(image, geometry, *cred, path.as_slice())?;
-            Ok(Done::Plain)
-        }
-        Call::Write {
-            cred,
-            path,
-            offset,
-            bytes,
-            ..
-        } => {
+        Call::Unlink { .. } => plain(unlink::check(image, geometry, cred, path)),
+        Call::Rmdir { .. } => plain(rmdir::check(image, geometry, cred, path)),
+        Call::Write { offset, bytes, .. } => {
             let len = bytes.as_slice().len();
-            write::check(image, geometry, free, *cred, path.as_slice(), *offset, len)?;
+            write::check(image, geometry, free, cred, path, *offset, len)?;
             Ok(Done::Wrote(len as u32))
         }
-        Call::Truncate {
-            cred,
-            path,
-            length,
-            ..
-        } => {
-            truncate::check(image, geometry, *cred, path.as_slice(), *length)?;
-            Ok(Done::Plain)
+        Call::Truncate { length, .. } => {
+            plain(truncate::check(image, geometry, cred, path, *length))
         }
-        Call::Chmod { cred, path, .. } => {
-            find_owned(image, geometry, *cred, path.as_slice())?;
-            Ok(Done::Plain)
+        Call::Chmod { .. } => plain(find_owned(image, geometry, cred, path)),
+        Call::Chown { uid, gid, .. } => {
+            plain(chown::check(image, geometry, cred, path, new_owner(*uid, *gid)))
         }
-        Call::Chown {
-            cred,
-            path,
-            uid,
-            gid,
-            ..
-        } => {
-            let owner = new_owner(*uid, *gid);
-            chown::check(image, geometry, *cred, path.as_slice(), owner)?;
-            Ok(Done::Plain)
-        }
-        Call::Times { cred, path, .. } => {
-            find_owned(image, geometry, *cred, path.as_slice())?;
-            Ok(Done::Plain)
-        }
+        Call::Times { .. } => plain(find_owned(image, geometry, cred, path)),
     }
+}
+
+/// Returns the plain answer if no check failed.
+fn plain<T: Drop>(checked: Result<T, Refusal>) -> Result<Done, Refusal>
+    ensures { result ≡ result_and checked (Ok Done.Plain) }
+{
+    checked.and(Ok(Done::Plain))
 }
 
 /// Makes a call. If [`check`] refuses it, returns the refusal and changes nothing. `free` is the number of free blocks. If a recorded answer is
@@ -156,50 +117,36 @@ pub(crate) fn make(
     ensures performed { IfOk result (λ performed. IsPerformed geometry.now image.old image.new call.now performed.done performed.free) }
     ensures recorded { IfSome recorded (λ done. IfOk result (λ performed. performed.done ≡ done)) }
 {
-    let caller = caller_of(call);
+    let caller = call.caller();
+    let path = call.path();
     let number = recorded_number(recorded);
     match call {
-        Call::Create { path, perm, .. } => {
+        Call::Create { perm, .. } => {
             let node = new_node(caller, *perm);
-            create::make(image, geometry, free, node, path.as_slice(), number)
+            create::make(image, geometry, free, node, path, number)
         }
-        Call::Mkdir { path, perm, .. } => {
+        Call::Mkdir { perm, .. } => {
             let node = new_node(caller, *perm);
-            mkdir::make(image, geometry, free, node, path.as_slice(), number)
+            mkdir::make(image, geometry, free, node, path, number)
         }
-        Call::Link { source, target, .. } => {
-            let source = source.as_slice();
-            link::make(image, geometry, free, caller, source, target.as_slice())
+        Call::Link { target, .. } => {
+            link::make(image, geometry, free, caller, path, target.as_slice())
         }
-        Call::Unlink { path, .. } => unlink::make(image, geometry, free, caller, path.as_slice()),
-        Call::Rmdir { path, .. } => rmdir::make(image, geometry, free, caller, path.as_slice()),
-        Call::Write {
-            path,
-            offset,
-            bytes,
-            ..
-        } => {
-            let path = path.as_slice();
+        Call::Unlink { .. } => unlink::make(image, geometry, free, caller, path),
+        Call::Rmdir { .. } => rmdir::make(image, geometry, free, caller, path),
+        Call::Write { offset, bytes, .. } => {
             let bytes = bytes.as_slice();
             write::make(image, geometry, free, caller, path, *offset, bytes)
         }
-        Call::Truncate { path, length, .. } => {
-            truncate::make(image, geometry, free, caller, path.as_slice(), *length)
+        Call::Truncate { length, .. } => {
+            truncate::make(image, geometry, free, caller, path, *length)
         }
-        Call::Chmod { path, perm, .. } => {
-            chmod::make(image, geometry, free, caller, path.as_slice(), *perm)
-        }
-        Call::Chown { path, uid, gid, .. } => {
+        Call::Chmod { perm, .. } => chmod::make(image, geometry, free, caller, path, *perm),
+        Call::Chown { uid, gid, .. } => {
             let owner = new_owner(*uid, *gid);
-            chown::make(image, geometry, free, caller, path.as_slice(), owner)
+            chown::make(image, geometry, free, caller, path, owner)
         }
-        Call::Times {
-            path,
-            atime,
-            mtime,
-            ..
-        } => {
-            let path = path.as_slice();
+        Call::Times { atime, mtime, .. } => {
             times::make(image, geometry, free, caller, path, *atime, *mtime)
         }
     }
@@ -226,28 +173,6 @@ pub(crate) fn may_answer(image: &Image, geometry: &Geometry, call: &Call, done: 
             Done::Plain,
         ) => true,
         _ => false,
-    }
-}
-
-/// Returns the user and the time of a call.
-fn caller_of(call: &Call) -> Caller
-    ensures { result ≡ caller_of call.now }
-{
-    let (cred, now) = match call {
-        Call::Create { cred, now, .. }
-        | Call::Mkdir { cred, now, .. }
-        | Call::Link { cred, now, .. }
-        | Call::Unlink { cred, now, .. }
-        | Call::Rmdir { cred, now, .. }
-        | Call::Write { cred, now, .. }
-        | Call::Truncate { cred, now, .. }
-        | Call::Chmod { cred, now, .. }
-        | Call::Chown { cred, now, .. }
-        | Call::Times { cred, now, .. } => (cred, now),
-    };
-    Caller {
-        cred: *cred,
-        moment: *now,
     }
 }
 

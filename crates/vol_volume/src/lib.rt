@@ -13,7 +13,7 @@ pub mod volume;
 
 pub use answer::ask_image;
 pub use apply_records::apply;
-pub use calls::{Call, Done, Record};
+pub use calls::{Call, Caller, Done, Record};
 pub use image_queries::ask;
 pub use pdp_words::Bytes;
 pub use queries::{Listing, Query, Reply, Stat};

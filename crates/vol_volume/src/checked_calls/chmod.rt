@@ -6,9 +6,9 @@ ghost use Rattle.vol_change.specs.Ready.{Rules1To12, free_in};
 ghost use Rattle.vol_volume.specs.Perform.{IsPerformed};
 ghost use Rattle.vol_volume.specs.Verdict.{verdict};
 
-use crate::calls::{Call, Done};
+use crate::calls::{Call, Caller, Done};
 use crate::checked_calls::asked::find_owned;
-use crate::checked_calls::{Caller, Performed, ready_stands};
+use crate::checked_calls::{Performed, ready_stands};
 use pdp_words::Image;
 use vol_dir::Refusal;
 use vol_layout::Geometry;

@@ -9,13 +9,13 @@ ghost use Rattle.vol_volume.specs.Perform.{LeadsToParent, LeadsToNode, IsEntryPl
 ghost use Rattle.vol_volume.specs.Stands.{Rules3To7And9};
 ghost use Rattle.vol_volume.specs.Verdict.{first_of, then_others, of_node, link_tests, link_refusal, verdict};
 
-use crate::calls::{Call, Done};
+use crate::calls::{Call, Caller, Done};
 use crate::checked_calls::asked::{
     entry_need, first_tests, has_zero, is_directory, is_full, is_granted, is_too_great_with_entry,
     parent, refuse_if, vacant,
 };
 use crate::checked_calls::found::{EntryPlace, NewEntry};
-use crate::checked_calls::{Caller, Performed, ready_stands};
+use crate::checked_calls::{Performed, ready_stands};
 use pdp_words::Image;
 use vol_dir::{Access, Cred, Refusal, walk};
 use vol_layout::Geometry;

@@ -9,12 +9,12 @@ ghost use Rattle.vol_volume.specs.Perform.{LeadsToParent, IsEntry, IsPerformed};
 ghost use Rattle.vol_volume.specs.Stands.{Rules3To7And9};
 ghost use Rattle.vol_volume.specs.Verdict.{first_of, then_others, of_parent, rmdir_tests, verdict};
 
-use crate::calls::{Call, Done};
+use crate::calls::{Call, Caller, Done};
 use crate::checked_calls::asked::{
     entry_of, find_parent, has_others, is_directory, is_granted, refuse_if,
 };
 use crate::checked_calls::found::OldEntry;
-use crate::checked_calls::{Caller, Performed, ready_stands};
+use crate::checked_calls::{Performed, ready_stands};
 use pdp_words::Image;
 use vol_dir::{Access, Cred, Entry, Refusal, is_dots};
 use vol_layout::Geometry;

@@ -10,9 +10,9 @@ ghost use Rattle.vol_volume.specs.Perform.{LeadsToNode, IsPerformed};
 ghost use Rattle.vol_volume.specs.Stands.{Rules3To7And9};
 ghost use Rattle.vol_volume.specs.Verdict.{first_of, then_others, of_node, truncate_tests, verdict};
 
-use crate::calls::{Call, Done};
+use crate::calls::{Call, Caller, Done};
 use crate::checked_calls::asked::{body_tests, find_node, refuse_if};
-use crate::checked_calls::{Caller, Performed, ready_stands};
+use crate::checked_calls::{Performed, ready_stands};
 use pdp_words::Image;
 use vol_dir::{Access, Cred, Refusal};
 use vol_layout::i_list::size;

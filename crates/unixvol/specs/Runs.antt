@@ -110,9 +110,9 @@ GaveImage edition remaining image =
 abbrev pub IsUnread : {F : Type 0} → (F → Option (List ℕ)) → ℕ → Type 0
 IsUnread {F} remaining status = (status ≡ 3) ⊎ ((status ≡ 4) × (old : F) × (new : F) × LosesFront (remaining old) (remaining new))
 
--- the effects of files on the program: none could be read, with this status; these bytes were read from one; these bytes of a file to put
--- into a volume of an edition were read from it; this script was read from one; this image of a volume of an edition was read from one; this image for `check` was read from one; such an image was read from a file that will be changed and that had this stamp
--- before; these bytes were written to one; the file at some path had this stamp (this project)
+-- the effects of files on the program: none could be read, with this status; these bytes, these bytes to put into a volume of an edition, this
+-- script, this image of a volume of an edition, or this image for `check` was read from a file; such an image was read from a file that will be
+-- changed and had this stamp; these bytes were written to a file; the file at some path had this stamp (this project)
 pub record HostFiles : Type 1 where
   pub unread : ℕ → Type 0
   pub given : List ℕ → Type 0

@@ -4,6 +4,7 @@ ghost use Rattle.vol_layout.specs.Edition.{constants};
 ghost use Rattle.vol_layout.specs.Geometry.{Fits};
 ghost use Rattle.vol_layout.specs.BlockPointers.{pointer_in};
 
+use crate::block_lookup::entry;
 use pdp_words::{BLOCK, Image};
 use vol_layout::Geometry;
 
@@ -16,8 +17,23 @@ const SMALL: usize = 16;
 /// Returns the index of the first block number in indirect block `m`, at index `from` or later, that isn't 0. Returns the number of block numbers in
 /// a block if there is none, or if `m` is outside the data zone.
 ///
-/// Costs a read of the skipped bytes, up to 64 of them at once.
+/// Costs a read of one block number if that isn't 0, else a read of the skipped bytes, up to 64 of them at once.
 pub fn next_pointer(image: &Image, geometry: &Geometry, m: u32, from: u32) -> u32
+    requires fits { Fits geometry.now image.now }
+    requires within { from ≤ (constants geometry.now.edition).pointers }
+    ensures order { from ≤ result }
+    ensures within { result ≤ (constants geometry.now.edition).pointers }
+    ensures zeros { (k : ℕ) → from ≤ k → k < result → pointer_in geometry.now image.now m k ≡ 0 }
+    ensures some { result < (constants geometry.now.edition).pointers → pointer_in geometry.now image.now m result ≢ 0 }
+{
+    if from < geometry.edition.constants().pointers && entry(image, geometry, m, from) != 0 {
+        return from;
+    }
+    past_zeros(image, geometry, m, from)
+}
+
+/// Does the work of [`next_pointer`], piece by piece.
+fn past_zeros(image: &Image, geometry: &Geometry, m: u32, from: u32) -> u32
     requires fits { Fits geometry.now image.now }
     requires within { from ≤ (constants geometry.now.edition).pointers }
     ensures order { from ≤ result }

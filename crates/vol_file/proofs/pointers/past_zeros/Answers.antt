@@ -4,7 +4,7 @@ use Rattle.vol_layout.specs.Geometry.{in_zone}
 use Rattle.vol_layout.specs.BlockPointers.{pointer_in}
 use Rattle.vol_layout.proofs.NameLaws.{entry_in, entry_out}
 use Rattle.vol_file.proofs.ZeroNumbers.{zeros_before, some_at, found_within}
-use Rattle.vol_file.proofs.pointers.next_pointer.Goals as goal
+use Rattle.vol_file.proofs.pointers.past_zeros.Goals as goal
 
 pub returns-then-not-in_zone-clause-zeros : goal.returns-then-not-in_zone-clause-zeros
 returns-then-not-in_zone-clause-zeros c = λ k low high.

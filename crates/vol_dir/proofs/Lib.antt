@@ -6,6 +6,7 @@ pub mod GoneEntries
 pub mod NameMaps
 pub mod NewEntries
 pub mod NextEntries
+mod OtherNames
 pub mod ListedNames
 pub mod PlaceTests
 pub mod PutSlots

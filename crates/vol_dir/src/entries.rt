@@ -2,7 +2,8 @@
 ghost use Rattle.std.specs.Prelude.{◌≡◌, ℕ, ◌+◌, ◌-◌, ◌*◌, ◌<◌, ◌≤◌, not, true, false, length, OnErr, IfOk, IfErr, Some, None};
 ghost use Rattle.std.specs.List.{list_any};
 ghost use Rattle.vol_layout.specs.Geometry.{Fits};
-ghost use Rattle.vol_layout.specs.Slot.{slot_at};
+ghost use Rattle.std.specs.Str.{bytes_eq};
+ghost use Rattle.vol_layout.specs.Slot.{slot_at, name_of};
 ghost use Rattle.vol_dir.specs.Entries.{entry_in, slot_count, entry_at, slots, IsDirectory};
 ghost use Rattle.vol_dir.specs.Names.{get, names_of, names_in, is_dots};
 ghost use Rattle.vol_dir.specs.Scan.{GoesOn};
@@ -73,15 +74,31 @@ pub fn slot_count(image: &Image, geometry: &Geometry, dir: u16) -> u32
     size(image, geometry, dir).min(geometry.edition.constants().greatest) / SLOT as u32
 }
 
-/// True if the slot at byte `at` can be skipped because it is empty and the search is for an entry. Reads only the i-number, not the name.
+/// True if the slot at byte `at` can be skipped: it is empty and the search is for an entry, or it has another name than the one that is searched for.
+/// False if only a comparison of the names tells.
 fn is_passed(bytes: &[u8], at: usize, sought: Sought<'_>) -> bool
     requires room { at + 16 ≤ length bytes.now }
     ensures { result ≡ true → is_sought sought.entry (entry_in (slot_at bytes.now at)) ≡ false }
 {
     match sought {
-        Sought::Empty | Sought::NamedOrEmpty(_) => false,
-        _ => word(bytes, at) == 0,
+        Sought::Empty => false,
+        Sought::NamedOrEmpty(name) => word(bytes, at) != 0 && is_other(bytes, at, name),
+        Sought::Named(name) => word(bytes, at) == 0 || is_other(bytes, at, name),
+        Sought::Any | Sought::Other => word(bytes, at) == 0,
     }
+}
+
+/// True if the slot at byte `at` has other bytes where `name` would be. Compares the last byte first, since names in one directory often begin alike.
+fn is_other(bytes: &[u8], at: usize, name: &[u8]) -> bool
+    requires room { at + 16 ≤ length bytes.now }
+    ensures { result ≡ true → bytes_eq name.now (name_of (slot_at bytes.now at).name) ≡ false }
+{
+    for k in (0..name.len().min(NAME)).rev() {
+        if bytes[at + 2 + k] != name[k] {
+            return true;
+        }
+    }
+    false
 }
 
 /// Returns the first slot at or after slot `start` that is a target of the search. There are `count` slots, which begin at byte `at`.

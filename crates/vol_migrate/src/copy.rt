@@ -7,7 +7,7 @@ ghost use Rattle.vol_migrate.specs.Stages.{MayMigrate, HasStage, CarriesTo};
 use crate::count::{is_file, whole_blocks};
 use crate::slots::raised_slots;
 use pdp_words::{BLOCK, Image};
-use vol_file::{BlockNumbers, block_at, write};
+use vol_file::{BlockNumbers, write};
 use vol_layout::i_list::{kind, size};
 use vol_layout::{Geometry, Kind};
 
@@ -35,23 +35,32 @@ fn copy_file(image: &mut Image, to: &Geometry, old: &Image, from: &Geometry, i: 
     let mut numbers = BlockNumbers::of(old, from, i);
     let mut b = numbers.next_block(old, from, 0, end);
     while b < end {
-        copy_block(image, to, old, from, i, b);
+        let Some(m) = numbers.block_at(old, from, b) else {
+            unreachable!()
+        };
+        copy_block(image, to, old, from, i, b, m);
         b = numbers.next_block(old, from, b + 1, end);
     }
 }
 
-/// Copies logical block `b` of file `i`, which is stored, up to the file's size. In a directory the i-numbers are raised by one.
-fn copy_block(image: &mut Image, to: &Geometry, old: &Image, from: &Geometry, i: u16, b: u32)
+/// Copies block `m`, which holds logical block `b` of file `i`, up to the file's size. In a directory the i-numbers are raised by one.
+fn copy_block(
+    image: &mut Image,
+    to: &Geometry,
+    old: &Image,
+    from: &Geometry,
+    i: u16,
+    b: u32,
+    m: u32,
+)
     requires may { MayMigrate old.now from.now to.now }
     requires stage { HasStage from.now to.now old.now image.old i b }
     requires file { IsFile from.now old.now i }
     requires some { stored from.now old.now i (form_at from.now old.now i) b ≢ 0 }
+    requires holds { stored from.now old.now i (form_at from.now old.now i) b ≡ m }
     requires within { 512 * b < size_of from.now old.now i }
     ensures { CarriesTo from.now to.now old.now image.old i b image.new i (b + 1) }
 {
-    let Some(m) = block_at(old, from, i, b) else {
-        unreachable!()
-    };
     let offset = BLOCK as u32 * b;
     let len = (size(old, from, i) - offset).min(BLOCK as u32) as usize;
     let text = &old.block(m)[..len];

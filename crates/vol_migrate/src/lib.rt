@@ -10,4 +10,4 @@ mod refuse;
 mod slots;
 
 pub use fault::MigrateFault;
-pub use migrate_volume::migrate;
+pub use migrate_volume::{migrate, migrate_image};

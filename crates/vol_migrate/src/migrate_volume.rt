@@ -34,8 +34,8 @@ use vol_volume::Volume;
 /// sizes. HasDevice: it has a special file. NoInode: its highest i-number doesn't fit the i-list. NoSpace: the files need more blocks than there are
 /// data blocks. NoMemory comes last, and only if memory runs out.
 ///
-/// Takes memory once for the bytes, and for a while two bytes for each block. Copies each stored block within a size, with a block-map lookup in both
-/// volumes, reads each i-node, and builds the free list twice.
+/// Takes memory once for the bytes, and for a while two bytes for each block. Copies each stored block within a size, with a block-map lookup in the
+/// new volume, reads each i-node, and builds the free list twice.
 pub fn migrate(
     alloc: Global,
     volume: &Volume,
@@ -55,8 +55,11 @@ pub fn migrate(
     }
 }
 
-/// Migrates the image of a sound volume of the sixth edition.
-fn migrate_image(
+/// Migrates a sound image of the sixth edition, as [`migrate`] does. A caller that has judged an image needs no volume, which would keep a copy of its
+/// bytes.
+///
+/// Takes and costs as much as [`migrate`].
+pub fn migrate_image(
     alloc: Global,
     old: &Image,
     blocks: u32,

@@ -7,7 +7,6 @@ use Rattle.vol_layout.proofs.BodyLaws.{zone_room}
 use Rattle.vol_file.specs.Need.{need}
 use Rattle.vol_file.specs.Rules.{size_of}
 use Rattle.vol_dir.specs.Entries.{IsDirectory}
-use Rattle.vol_dir.proofs.ReadSlots.{number_named}
 use Rattle.vol_migrate.proofs.CopiedTexts.{WritesBlock, writes_block, write_number, write_file, write_greatest, write_room, plain_carries, slots_carry, text_number}
 use Rattle.vol_migrate.proofs.StageLaws.{old_rules}
 use Rattle.vol_migrate.proofs.copy.copy_block.Goals as goal
@@ -25,11 +24,11 @@ block-requires c =
     let old = c.args.old.now in
     let i = c.args.i in
     let b = c.args.b in
-    let is = number_named (stored from old i (form_at from old i) b) c.in-Some.m (sym c.in-Some.ensures) in
+    let is = c.requires.holds in
     let size : c.min-len.result ≡ min (size_of from old i - 512 * b) 512 = c.min-len.ensures ∙ ap (λ n. min (n - 512 * b) 512) c.size.ensures in
-    let w : WritesBlock from to old c.args.image.now i b c.in-Some.m c.min-len.result =
-    writes_block from to old c.args.image.now i b c.in-Some.m c.min-len.result c.requires.may c.requires.stage c.requires.file c.requires.some is c.requires.within size in
-    zone_room from old c.in-Some.m w.holds.fits w.holds.zone
+    let w : WritesBlock from to old c.args.image.now i b c.args.m c.min-len.result =
+    writes_block from to old c.args.image.now i b c.args.m c.min-len.result c.requires.may c.requires.stage c.requires.file c.requires.some is c.requires.within size in
+    zone_room from old c.args.m w.holds.fits w.holds.zone
 
 pub overflow_add-i : goal.overflow_add-i
 overflow_add-i c =
@@ -38,11 +37,11 @@ overflow_add-i c =
     let old = c.args.old.now in
     let i = c.args.i in
     let b = c.args.b in
-    let is = number_named (stored from old i (form_at from old i) b) c.in-Some.m (sym c.in-Some.ensures) in
+    let is = c.requires.holds in
     let size : c.min-len.result ≡ min (size_of from old i - 512 * b) 512 = c.min-len.ensures ∙ ap (λ n. min (n - 512 * b) 512) c.size.ensures in
-    let w : WritesBlock from to old c.args.image.now i b c.in-Some.m c.min-len.result =
-    writes_block from to old c.args.image.now i b c.in-Some.m c.min-len.result c.requires.may c.requires.stage c.requires.file c.requires.some is c.requires.within size in
-    let number = write_number from to old c.args.image.now i b c.in-Some.m c.min-len.result w in omega (arith, number)
+    let w : WritesBlock from to old c.args.image.now i b c.args.m c.min-len.result =
+    writes_block from to old c.args.image.now i b c.args.m c.min-len.result c.requires.may c.requires.stage c.requires.file c.requires.some is c.requires.within size in
+    let number = write_number from to old c.args.image.now i b c.args.m c.min-len.result w in omega (arith, number)
 
 pub raised_slots-requires-clause-numbers : goal.raised_slots-requires-clause-numbers
 raised_slots-requires-clause-numbers c =
@@ -51,16 +50,16 @@ raised_slots-requires-clause-numbers c =
     let old = c.args.old.now in
     let i = c.args.i in
     let b = c.args.b in
-    let is = number_named (stored from old i (form_at from old i) b) c.in-Some.m (sym c.in-Some.ensures) in
+    let is = c.requires.holds in
     let size : c.min-len.result ≡ min (size_of from old i - 512 * b) 512 = c.min-len.ensures ∙ ap (λ n. min (n - 512 * b) 512) c.size.ensures in
-    let w : WritesBlock from to old c.args.image.now i b c.in-Some.m c.min-len.result =
-    writes_block from to old c.args.image.now i b c.in-Some.m c.min-len.result c.requires.may c.requires.stage c.requires.file c.requires.some is c.requires.within size in
+    let w : WritesBlock from to old c.args.image.now i b c.args.m c.min-len.result =
+    writes_block from to old c.args.image.now i b c.args.m c.min-len.result c.requires.may c.requires.stage c.requires.file c.requires.some is c.requires.within size in
     let text = take c.min-len.result c.block.result.now in
-    let text_is : text ≡ take c.min-len.result (block_of old c.in-Some.m) = ap (take c.min-len.result) c.block.ensures.bytes in
+    let text_is : text ≡ take c.min-len.result (block_of old c.args.m) = ap (take c.min-len.result) c.block.ensures.bytes in
     let few = w.holds.few in
     let long : length text ≡ c.min-len.result = length-take-le c.min-len.result c.block.result.now (omega (arith, few, c.block.ensures.len)) in
     let directory : IsDirectory from old i = record { first = c.requires.file.first; last = c.requires.file.last; kind = sym c.in-Directory.ensures } in
-    λ s low. text_number from to old text i b c.in-Some.m c.min-len.result s c.requires.may w.holds directory text_is long (omega (arith, low, long))
+    λ s low. text_number from to old text i b c.args.m c.min-len.result s c.requires.may w.holds directory text_is long (omega (arith, low, long))
 
 pub write-requires-clause-file : goal.write-requires-clause-file
 write-requires-clause-file c =
@@ -69,11 +68,11 @@ write-requires-clause-file c =
     let old = c.args.old.now in
     let i = c.args.i in
     let b = c.args.b in
-    let is = number_named (stored from old i (form_at from old i) b) c.in-Some.m (sym c.in-Some.ensures) in
+    let is = c.requires.holds in
     let size : c.min-len.result ≡ min (size_of from old i - 512 * b) 512 = c.min-len.ensures ∙ ap (λ n. min (n - 512 * b) 512) c.size.ensures in
-    let w : WritesBlock from to old c.args.image.now i b c.in-Some.m c.min-len.result =
-    writes_block from to old c.args.image.now i b c.in-Some.m c.min-len.result c.requires.may c.requires.stage c.requires.file c.requires.some is c.requires.within size in
-    write_file from to old c.args.image.now i b c.in-Some.m c.min-len.result w
+    let w : WritesBlock from to old c.args.image.now i b c.args.m c.min-len.result =
+    writes_block from to old c.args.image.now i b c.args.m c.min-len.result c.requires.may c.requires.stage c.requires.file c.requires.some is c.requires.within size in
+    write_file from to old c.args.image.now i b c.args.m c.min-len.result w
 
 pub write-requires-clause-greatest : goal.write-requires-clause-greatest
 write-requires-clause-greatest c =
@@ -82,14 +81,14 @@ write-requires-clause-greatest c =
     let old = c.args.old.now in
     let i = c.args.i in
     let b = c.args.b in
-    let is = number_named (stored from old i (form_at from old i) b) c.in-Some.m (sym c.in-Some.ensures) in
+    let is = c.requires.holds in
     let size : c.min-len.result ≡ min (size_of from old i - 512 * b) 512 = c.min-len.ensures ∙ ap (λ n. min (n - 512 * b) 512) c.size.ensures in
-    let w : WritesBlock from to old c.args.image.now i b c.in-Some.m c.min-len.result =
-    writes_block from to old c.args.image.now i b c.in-Some.m c.min-len.result c.requires.may c.requires.stage c.requires.file c.requires.some is c.requires.within size in
+    let w : WritesBlock from to old c.args.image.now i b c.args.m c.min-len.result =
+    writes_block from to old c.args.image.now i b c.args.m c.min-len.result c.requires.may c.requires.stage c.requires.file c.requires.some is c.requires.within size in
     let few_raised = w.holds.few in
     let raised_long : length (take c.min-len.result c.raised_slots.result) ≡ c.min-len.result =
     length-take-le c.min-len.result c.raised_slots.result (omega arith) in
-    let most = write_greatest from to old c.args.image.now i b c.in-Some.m c.min-len.result w in omega (arith, most, raised_long)
+    let most = write_greatest from to old c.args.image.now i b c.args.m c.min-len.result w in omega (arith, most, raised_long)
 
 pub write-requires-clause-room : goal.write-requires-clause-room
 write-requires-clause-room c =
@@ -98,53 +97,53 @@ write-requires-clause-room c =
     let old = c.args.old.now in
     let i = c.args.i in
     let b = c.args.b in
-    let is = number_named (stored from old i (form_at from old i) b) c.in-Some.m (sym c.in-Some.ensures) in
+    let is = c.requires.holds in
     let size : c.min-len.result ≡ min (size_of from old i - 512 * b) 512 = c.min-len.ensures ∙ ap (λ n. min (n - 512 * b) 512) c.size.ensures in
-    let w : WritesBlock from to old c.args.image.now i b c.in-Some.m c.min-len.result =
-    writes_block from to old c.args.image.now i b c.in-Some.m c.min-len.result c.requires.may c.requires.stage c.requires.file c.requires.some is c.requires.within size in
+    let w : WritesBlock from to old c.args.image.now i b c.args.m c.min-len.result =
+    writes_block from to old c.args.image.now i b c.args.m c.min-len.result c.requires.may c.requires.stage c.requires.file c.requires.some is c.requires.within size in
     let few_raised = w.holds.few in
     let raised_long : length (take c.min-len.result c.raised_slots.result) ≡ c.min-len.result =
     length-take-le c.min-len.result c.raised_slots.result (omega arith) in
     λ blocks rules.
-    let room = write_room from to old c.args.image.now blocks i b c.in-Some.m c.min-len.result w rules in
+    let room = write_room from to old c.args.image.now blocks i b c.args.m c.min-len.result w rules in
     let P : ℕ → Type 0 = λ n. need to c.args.image.now (i + 1) (512 * b) n ≤ length blocks in
     subst P (sym raised_long) room
 
-pub overflow_add-i-in_default-kind : goal.overflow_add-i-in_default-kind
-overflow_add-i-in_default-kind c =
+pub overflow_add-i-in_default : goal.overflow_add-i-in_default
+overflow_add-i-in_default c =
     let from = c.args.from.now in
     let to = c.args.to.now in
     let old = c.args.old.now in
     let i = c.args.i in
     let b = c.args.b in
-    let is = number_named (stored from old i (form_at from old i) b) c.in-Some.m (sym c.in-Some.ensures) in
+    let is = c.requires.holds in
     let size : c.min-len.result ≡ min (size_of from old i - 512 * b) 512 = c.min-len.ensures ∙ ap (λ n. min (n - 512 * b) 512) c.size.ensures in
-    let w : WritesBlock from to old c.args.image.now i b c.in-Some.m c.min-len.result =
-    writes_block from to old c.args.image.now i b c.in-Some.m c.min-len.result c.requires.may c.requires.stage c.requires.file c.requires.some is c.requires.within size in
-    let number = write_number from to old c.args.image.now i b c.in-Some.m c.min-len.result w in omega (arith, number)
+    let w : WritesBlock from to old c.args.image.now i b c.args.m c.min-len.result =
+    writes_block from to old c.args.image.now i b c.args.m c.min-len.result c.requires.may c.requires.stage c.requires.file c.requires.some is c.requires.within size in
+    let number = write_number from to old c.args.image.now i b c.args.m c.min-len.result w in omega (arith, number)
 
-pub write-requires-in_default-kind : goal.write-requires-in_default-kind
-write-requires-in_default-kind c =
+pub write-requires-in_default : goal.write-requires-in_default
+write-requires-in_default c =
     let from = c.args.from.now in
     let to = c.args.to.now in
     let old = c.args.old.now in
     let i = c.args.i in
     let b = c.args.b in
-    let is = number_named (stored from old i (form_at from old i) b) c.in-Some.m (sym c.in-Some.ensures) in
+    let is = c.requires.holds in
     let size : c.min-len.result ≡ min (size_of from old i - 512 * b) 512 = c.min-len.ensures ∙ ap (λ n. min (n - 512 * b) 512) c.size.ensures in
-    let w : WritesBlock from to old c.args.image.now i b c.in-Some.m c.min-len.result =
-    writes_block from to old c.args.image.now i b c.in-Some.m c.min-len.result c.requires.may c.requires.stage c.requires.file c.requires.some is c.requires.within size in
+    let w : WritesBlock from to old c.args.image.now i b c.args.m c.min-len.result =
+    writes_block from to old c.args.image.now i b c.args.m c.min-len.result c.requires.may c.requires.stage c.requires.file c.requires.some is c.requires.within size in
     let text = take c.min-len.result c.block.result.now in
-    let text_is : text ≡ take c.min-len.result (block_of old c.in-Some.m) = ap (take c.min-len.result) c.block.ensures.bytes in
+    let text_is : text ≡ take c.min-len.result (block_of old c.args.m) = ap (take c.min-len.result) c.block.ensures.bytes in
     let few = w.holds.few in
     let long : length text ≡ c.min-len.result = length-take-le c.min-len.result c.block.result.now (omega (arith, few, c.block.ensures.len)) in
-    let most = write_greatest from to old c.args.image.now i b c.in-Some.m c.min-len.result w in
+    let most = write_greatest from to old c.args.image.now i b c.args.m c.min-len.result w in
     record {
-      file = write_file from to old c.args.image.now i b c.in-Some.m c.min-len.result w;
+      file = write_file from to old c.args.image.now i b c.args.m c.min-len.result w;
       sound = record { blocks = c.requires.stage.stage.blocks; sound = c.requires.stage.stage.sound };
       greatest = omega (arith, most, long);
       room = λ blocks rules.
-          let room = write_room from to old c.args.image.now blocks i b c.in-Some.m c.min-len.result w rules in
+          let room = write_room from to old c.args.image.now blocks i b c.args.m c.min-len.result w rules in
           let P : ℕ → Type 0 = λ n. need to c.args.image.now (i + 1) (512 * b) n ≤ length blocks in
           subst P (sym long) room;
     }
@@ -156,12 +155,12 @@ returns-in-Directory c =
     let old = c.args.old.now in
     let i = c.args.i in
     let b = c.args.b in
-    let is = number_named (stored from old i (form_at from old i) b) c.in-Some.m (sym c.in-Some.ensures) in
+    let is = c.requires.holds in
     let size : c.min-len.result ≡ min (size_of from old i - 512 * b) 512 = c.min-len.ensures ∙ ap (λ n. min (n - 512 * b) 512) c.size.ensures in
-    let w : WritesBlock from to old c.args.image.now i b c.in-Some.m c.min-len.result =
-    writes_block from to old c.args.image.now i b c.in-Some.m c.min-len.result c.requires.may c.requires.stage c.requires.file c.requires.some is c.requires.within size in
+    let w : WritesBlock from to old c.args.image.now i b c.args.m c.min-len.result =
+    writes_block from to old c.args.image.now i b c.args.m c.min-len.result c.requires.may c.requires.stage c.requires.file c.requires.some is c.requires.within size in
     let text = take c.min-len.result c.block.result.now in
-    let text_is : text ≡ take c.min-len.result (block_of old c.in-Some.m) = ap (take c.min-len.result) c.block.ensures.bytes in
+    let text_is : text ≡ take c.min-len.result (block_of old c.args.m) = ap (take c.min-len.result) c.block.ensures.bytes in
     let few = w.holds.few in
     let long : length text ≡ c.min-len.result = length-take-le c.min-len.result c.block.result.now (omega (arith, few, c.block.ensures.len)) in
     let directory : IsDirectory from old i = record { first = c.requires.file.first; last = c.requires.file.last; kind = sym c.in-Directory.ensures } in
@@ -169,24 +168,24 @@ returns-in-Directory c =
     let raised_long : length (take c.min-len.result c.raised_slots.result) ≡ c.min-len.result =
     length-take-le c.min-len.result c.raised_slots.result (omega arith) in
     let begun = w.begun in
-    slots_carry from to old c.args.image.now c.write.new.image text c.raised_slots.result i b c.in-Some.m c.min-len.result w directory text_is long size
+    slots_carry from to old c.args.image.now c.write.new.image text c.raised_slots.result i b c.args.m c.min-len.result w directory text_is long size
     c.raised_slots.ensures raised_long (c.write.ensures.written (omega (arith, begun, raised_long)))
 
-pub returns-in_default-kind : goal.returns-in_default-kind
-returns-in_default-kind c =
+pub returns-in_default : goal.returns-in_default
+returns-in_default c =
     let from = c.args.from.now in
     let to = c.args.to.now in
     let old = c.args.old.now in
     let i = c.args.i in
     let b = c.args.b in
-    let is = number_named (stored from old i (form_at from old i) b) c.in-Some.m (sym c.in-Some.ensures) in
+    let is = c.requires.holds in
     let size : c.min-len.result ≡ min (size_of from old i - 512 * b) 512 = c.min-len.ensures ∙ ap (λ n. min (n - 512 * b) 512) c.size.ensures in
-    let w : WritesBlock from to old c.args.image.now i b c.in-Some.m c.min-len.result =
-    writes_block from to old c.args.image.now i b c.in-Some.m c.min-len.result c.requires.may c.requires.stage c.requires.file c.requires.some is c.requires.within size in
+    let w : WritesBlock from to old c.args.image.now i b c.args.m c.min-len.result =
+    writes_block from to old c.args.image.now i b c.args.m c.min-len.result c.requires.may c.requires.stage c.requires.file c.requires.some is c.requires.within size in
     let text = take c.min-len.result c.block.result.now in
-    let text_is : text ≡ take c.min-len.result (block_of old c.in-Some.m) = ap (take c.min-len.result) c.block.ensures.bytes in
+    let text_is : text ≡ take c.min-len.result (block_of old c.args.m) = ap (take c.min-len.result) c.block.ensures.bytes in
     let few = w.holds.few in
     let long : length text ≡ c.min-len.result = length-take-le c.min-len.result c.block.result.now (omega (arith, few, c.block.ensures.len)) in
     let begun = w.begun in
-    plain_carries from to old c.args.image.now c.write-in_default-kind.new.image text i b c.in-Some.m c.min-len.result w
-    (λ e. c.in_default-kind.not-Directory (c.kind.ensures ∙ e)) text_is long (c.write-in_default-kind.ensures.written (omega (arith, begun, long)))
+    plain_carries from to old c.args.image.now c.write-in_default.new.image text i b c.args.m c.min-len.result w
+    (λ e. c.in_default.not-Directory (c.kind.ensures ∙ e)) text_is long (c.write-in_default.ensures.written (omega (arith, begun, long)))

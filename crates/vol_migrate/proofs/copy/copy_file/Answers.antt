@@ -1,10 +1,11 @@
 -- Holes are passed, and each stored block is copied.
-use Rattle.std.proofs.Common.{◌≡◌, ◌∙◌, ap, subst, ◌+◌, arith}
-use Rattle.vol_layout.specs.BlockPointers.{form_at}
+use Rattle.std.proofs.Common.{◌≡◌, ◌∙◌, ap, sym, subst, ◌+◌, Some, arith}
+use Rattle.vol_layout.specs.BlockPointers.{block_named, form_at, stored}
 use Rattle.vol_file.specs.Changes.{whole_blocks}
 use Rattle.vol_file.specs.Holes.{IsNextStored}
 use Rattle.vol_file.specs.Rules.{size_of}
 use Rattle.vol_file.specs.Runs.{LooksUp}
+use Rattle.vol_dir.proofs.ReadSlots.{number_named}
 use Rattle.vol_migrate.specs.Stages.{IsStage}
 use Rattle.vol_migrate.proofs.FileShapes.{names_hole}
 use Rattle.vol_migrate.proofs.StageLaws.{file_is_used, stage_holes, stage_next}
@@ -30,9 +31,14 @@ pub copy_block-requires-clause-stage : goal.copy_block-requires-clause-stage
 copy_block-requires-clause-stage c =
     record { now = c.requires.stage.now; stage = c.loop-b.invariant.carries c.requires.stage.now c.requires.stage.stage }
 
+pub copy_block-requires-clause-holds : goal.copy_block-requires-clause-holds
+copy_block-requires-clause-holds c =
+    let named = subst (λ j. Some c.in-Some.m ≡ block_named c.args.from.now c.args.old.now j c.loop-b.b) c.loop-b.invariant.numbers.inode c.in-Some.ensures.number in
+    number_named (stored c.args.from.now c.args.old.now c.args.i (form_at c.args.from.now c.args.old.now c.args.i) c.loop-b.b) c.in-Some.m (sym named)
+
 pub loop-b-preserved : goal.loop-b-preserved
 loop-b-preserved c =
-    let inode = c.loop-b.invariant.numbers.inode in
+    let inode = c.block_at.ensures.own.inode ∙ c.loop-b.invariant.numbers.inode in
     let own = subst (λ j. LooksUp c.args.from.now c.args.old.now j c.next_block-b-in-loop-b.new.self) inode c.next_block-b-in-loop-b.ensures.own in
     let next = subst (λ j. IsNextStored c.args.from.now c.args.old.now j (form_at c.args.from.now c.args.old.now j) (c.loop-b.b + 1) c.whole_blocks-end.result
     c.next_block-b-in-loop-b.result) inode c.next_block-b-in-loop-b.ensures.next in

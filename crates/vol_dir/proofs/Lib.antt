@@ -3,6 +3,7 @@ mod ParentLaws
 pub mod PathJoins
 pub mod Searches
 pub mod GoneEntries
+pub mod NameKeys
 pub mod NameMaps
 pub mod NewEntries
 pub mod NextEntries

@@ -5,7 +5,6 @@ use Rattle.std.specs.BTreeMap.{insert_entry}
 use Rattle.std.specs.Map.{lookup}
 use Rattle.std.specs.Cmp.Lexicographic.{slice_cmp}
 use Rattle.std.specs.FinMap.Entries.{by_order, put, find-put, is_sorted, is_sorted-put, same_entries}
-use Rattle.std.specs.Global.{Vec}
 use Rattle.std.specs.List.{range_with_len}
 use Rattle.std.specs.Option.{is_some}
 use Rattle.std.specs.Ordering.{nat_cmp, match_ordering, is_eq}
@@ -28,7 +27,10 @@ use Rattle.vol_dir.specs.Names.{Names, get, insert, names_of}
 use Rattle.vol_dir.specs.Repeats.{IsEntryFrom, MarksSlots, PassSlots, entry_in_block, passes_in}
 use Rattle.vol_dir.proofs.NameMaps.{sorted}
 use Rattle.vol_dir.proofs.NextEntries.{entry_some}
-use Rattle.vol_dir.specs.NameList.{by_bytes, put_first}
+use Rattle.vol_dir.specs.NameKeys.{key_of, IsSlotName}
+use Rattle.vol_dir.specs.NameList.{by_bytes, IsKeyed, put_first}
+use Rattle.vol_dir.specs.declared.listing.NameEntry.{NameEntry}
+use Rattle.vol_dir.proofs.NameKeys.{exact_nat, key_cmp}
 
 -- the entries in the slots of directory `d` before slot `n`
 unfoldable pub slots_below : Geometry → List ℕ → ℕ → ℕ → List (Option (List ℕ × ℕ))
@@ -40,11 +42,12 @@ is_met names None = true
 is_met names (Some entry) = is_some (get names entry.0)
 
 -- the names in the slots of directory `d` before slot `n` have been collected, and the map has all names below marked blocks
-pub record HasCollected (geometry : Geometry) (image : List ℕ) (d n : ℕ) (entries : List (Vec ℕ × ℕ)) (marks : List Bool) : Type 0 where
+pub record HasCollected (geometry : Geometry) (image : List ℕ) (d n : ℕ) (entries : List (ℕ × NameEntry)) (marks : List Bool) : Type 0 where
   pub within : n ≤ slot_count geometry image d
   pub known : PassSlots (is_met (by_bytes entries)) geometry image d 0 n
   pub marked : MarksSlots (is_met (by_bytes entries)) geometry image marks
   pub names : by_bytes entries ≡ names_of (slots_below geometry image d n)
+  pub keyed : IsKeyed entries
 
 -- a range with one more number is the range followed by that number
 range_more : (a n j : ℕ) → a + n ≡ j → range_with_len a (suc n) ≡ range_with_len a n ++ j ∷ []
@@ -156,25 +159,47 @@ names_until geometry image d n m h last met =
     ap (λ k. names_of (slots_below geometry image d k)) (sym m_is)
     ∙ names_kept geometry image d n (m - n) (λ t low high. met t low (omega arith) (omega arith))
 
--- inserting a name among entries inserts it in their map
-pub named_insert : (entries : List (Vec ℕ × ℕ)) (key : Vec ℕ) (i : ℕ)
-    → by_bytes (insert_entry (λ x y. slice_cmp nat_cmp x.items y.items) entries key i) ≡ insert (by_bytes entries) key.items i
-named_insert [] key i = refl
-named_insert (e ∷ es) key i =
-    elim (slice_cmp nat_cmp key.items e.0.items) as (λ o. by_bytes (match_ordering o ((key, i) ∷ e ∷ es) ((e.0, i) ∷ es) (e ∷ insert_entry (λ x y. slice_cmp nat_cmp x.items y.items) es key i))
-    ≡ by_order o ((key.items, i) ∷ by_bytes (e ∷ es)) ((e.0.items, i) ∷ by_bytes es) ((e.0.items, e.1) ∷ put (slice_cmp nat_cmp) key.items i (by_bytes es))) [
-      | Less ↦ refl
-      | Equal ↦ refl
-      | Greater ↦ ap (λ rest. (e.0.items, e.1) ∷ rest) (named_insert es key i)
-    ]
+-- the numbers of two names are in the order of the names, for an entry of the map
+entry_cmp : (key : ℕ) (name : List ℕ) (entry : ℕ × NameEntry) → key ≡ key_of name → IsSlotName name → entry.0 ≡ key_of entry.1.name.items
+    → IsSlotName entry.1.name.items → nat_cmp key entry.0 ≡ slice_cmp nat_cmp name entry.1.name.items
+entry_cmp key name entry is stored keyed other =
+    ap (λ k. nat_cmp k entry.0) is ∙ (ap (nat_cmp (key_of name)) keyed ∙ key_cmp name entry.1.name.items stored other)
+
+-- inserting an entry under the number of its name inserts the name in the map
+named_insert : (entries : List (ℕ × NameEntry)) (key : ℕ) (value : NameEntry) → IsKeyed entries → key ≡ key_of value.name.items → IsSlotName value.name.items
+    → by_bytes (insert_entry nat_cmp entries key value) ≡ insert (by_bytes entries) value.name.items value.inode
+named_insert [] key value keyed is stored = refl
+named_insert (e ∷ es) key value keyed is stored =
+    ap (λ o. by_bytes (match_ordering o ((key, value) ∷ e ∷ es) ((e.0, value) ∷ es) (e ∷ insert_entry nat_cmp es key value)))
+    (entry_cmp key value.name.items e is stored keyed.0 keyed.1)
+    ∙ (elim (slice_cmp nat_cmp value.name.items e.1.name.items) as (λ o. slice_cmp nat_cmp value.name.items e.1.name.items ≡ o
+    → by_bytes (match_ordering o ((key, value) ∷ e ∷ es) ((e.0, value) ∷ es) (e ∷ insert_entry nat_cmp es key value))
+    ≡ by_order o ((value.name.items, value.inode) ∷ by_bytes (e ∷ es)) ((e.1.name.items, value.inode) ∷ by_bytes es)
+    ((e.1.name.items, e.1.inode) ∷ put (slice_cmp nat_cmp) value.name.items value.inode (by_bytes es))) [
+      | Less ↦ λ o. refl
+      | Equal ↦ λ o. ap (λ name. (name, value.inode) ∷ by_bytes es) (exact_bytes value.name.items e.1.name.items o)
+      | Greater ↦ λ o. ap (λ rest. (e.1.name.items, e.1.inode) ∷ rest) (named_insert es key value keyed.2 is stored)
+    ] refl)
+
+-- inserting an entry under the number of its name keeps each entry under the number of its name
+keyed_insert : (entries : List (ℕ × NameEntry)) (key : ℕ) (value : NameEntry) → IsKeyed entries → key ≡ key_of value.name.items → IsSlotName value.name.items
+    → IsKeyed (insert_entry nat_cmp entries key value)
+keyed_insert [] key value keyed is stored = (is, stored, tt)
+keyed_insert (e ∷ es) key value keyed is stored =
+    elim (nat_cmp key e.0) as (λ o. nat_cmp key e.0 ≡ o → IsKeyed (match_ordering o ((key, value) ∷ e ∷ es) ((e.0, value) ∷ es) (e ∷ insert_entry nat_cmp es key value))) [
+      | Less ↦ λ o. (is, stored, keyed)
+      | Equal ↦ λ o. (sym (exact_nat key e.0 o) ∙ is, stored, keyed.2)
+      | Greater ↦ λ o. (keyed.0, keyed.1, keyed_insert es key value keyed.2 is stored)
+    ] refl
 
 -- before the first slot, no names have been collected
-pub collected_none : (geometry : Geometry) (image : List ℕ) (d : ℕ) (entries : List (Vec ℕ × ℕ)) (marks : List Bool) → entries ≡ []
+pub collected_none : (geometry : Geometry) (image : List ℕ) (d : ℕ) (entries : List (ℕ × NameEntry)) (marks : List Bool) → entries ≡ []
     → ((k : ℕ) → slice_index_or marks k false ≡ false) → HasCollected geometry image d 0 entries marks
 unfolding slots_below
 collected_none geometry image d entries marks empty clear = record {
   within = omega arith;
   names = ap by_bytes empty;
+  keyed = subst IsKeyed (sym empty) tt;
   known = λ t low high within. absurd (omega arith);
   marked = clear_passes (passes_in (is_met (by_bytes entries)) geometry image) geometry image marks clear;
 }
@@ -211,17 +236,18 @@ passes_more names name i geometry image m part = elim (nat_lt part 32) as (λ z.
     ]
 
 -- after `put_first` of the next entry's name, the names in the slots up to this entry have been collected
-pub collected_next : (geometry : Geometry) (image : List ℕ) (d from s : ℕ) (slot : Slot) (name : List ℕ) (old new : List (Vec ℕ × ℕ)) (before after : List Bool)
+pub collected_next : (geometry : Geometry) (image : List ℕ) (d from s : ℕ) (slot : Slot) (name : List ℕ) (old new : List (ℕ × NameEntry)) (before after : List Bool)
     → HasCollected geometry image d from old before
     → IsEntryFrom geometry image d from s slot → PassSlots (is_met (by_bytes old)) geometry image d from s
     → MarksSlots (is_met (by_bytes old)) geometry image after → name ≡ name_of slot.name
-    → by_bytes new ≡ put_first (by_bytes old) name slot.inode → HasCollected geometry image d (s + 1) new after
-collected_next geometry image d from s slot name old new before after collected next passed marked is put =
+    → by_bytes new ≡ put_first (by_bytes old) name slot.inode → IsKeyed new → HasCollected geometry image d (s + 1) new after
+collected_next geometry image d from s slot name old new before after collected next passed marked is put keyed =
     let here : entry_at geometry image d s ≡ Some (name_of slot.name, slot.inode) = next.holds ∙ entry_some slot next.some in
     let more : s + 1 ≡ suc s = omega arith in
     let put_here : by_bytes new ≡ put_first (by_bytes old) (name_of slot.name) slot.inode = put ∙ ap (λ n. put_first (by_bytes old) n slot.inode) is in
     record {
       within = let within = next.within in omega arith;
+      keyed = keyed;
       names = put
           ∙ (ap (λ names. put_first names name slot.inode) (collected.names ∙ sym (names_until geometry image d from s next.reached (let within = next.within in omega arith)
           (subst (λ names. PassSlots (is_met names) geometry image d from s) collected.names passed)))
@@ -245,7 +271,7 @@ collected_next geometry image d from s slot name old new before after collected 
     }
 
 -- if all later slots are empty or have names in the map, all names of the directory have been collected
-pub collected_all : (geometry : Geometry) (image : List ℕ) (d from : ℕ) (entries : List (Vec ℕ × ℕ)) (marks : List Bool)
+pub collected_all : (geometry : Geometry) (image : List ℕ) (d from : ℕ) (entries : List (ℕ × NameEntry)) (marks : List Bool)
     → HasCollected geometry image d from entries marks
     → PassSlots (is_met (by_bytes entries)) geometry image d from (slot_count geometry image d)
     → by_bytes entries ≡ names_of (slots geometry image d)
@@ -254,25 +280,35 @@ collected_all geometry image d from entries marks collected passed =
     collected.names ∙ sym (names_until geometry image d from (slot_count geometry image d) collected.within (omega arith)
     (subst (λ names. PassSlots (is_met names) geometry image d from (slot_count geometry image d)) collected.names passed))
 
--- looking up a name among entries gives the same result as in their map
-lookup_listed : (name : List ℕ) (entries : List (Vec ℕ × ℕ)) → lookup (λ k. is_eq (slice_cmp nat_cmp name k.items)) entries ≡ get (by_bytes entries) name
-lookup_listed name [] = refl
-lookup_listed name (e ∷ es) = ap (cond (is_eq (slice_cmp nat_cmp name e.0.items)) (Some e.1)) (lookup_listed name es)
+-- the entries have the number of a name exactly if the map has the name
+lookup_listed : (key : ℕ) (name : List ℕ) (entries : List (ℕ × NameEntry)) → key ≡ key_of name → IsSlotName name → IsKeyed entries
+    → is_some (lookup (λ k. is_eq (nat_cmp key k)) entries) ≡ is_some (get (by_bytes entries) name)
+lookup_listed key name [] is stored keyed = refl
+lookup_listed key name (e ∷ es) is stored keyed =
+    ap (λ o. is_some (cond (is_eq o) (Some e.1) (lookup (λ k. is_eq (nat_cmp key k)) es))) (entry_cmp key name e is stored keyed.0 keyed.1)
+    ∙ elim (is_eq (slice_cmp nat_cmp name e.1.name.items)) as (λ b. is_some (cond b (Some e.1) (lookup (λ k. is_eq (nat_cmp key k)) es))
+    ≡ is_some (cond b (Some e.1.inode) (get (by_bytes es) name))) [
+      | true ↦ refl
+      | false ↦ lookup_listed key name es is stored keyed.2
+    ]
 
 -- if the entries don't have a name, inserting it is `put_first`
-pub listed_put : (entries new : List (Vec ℕ × ℕ)) (key : Vec ℕ) (name : List ℕ) (i : ℕ)
-    → is_some (lookup (λ k. is_eq (slice_cmp nat_cmp name k.items)) entries) ≡ false
-    → new ≡ insert_entry (λ x y. slice_cmp nat_cmp x.items y.items) entries key i → key.items ≡ name → by_bytes new ≡ put_first (by_bytes entries) name i
+pub listed_put : (entries new : List (ℕ × NameEntry)) (key : ℕ) (value : NameEntry) (name : List ℕ) → IsKeyed entries → key ≡ key_of name → IsSlotName name
+    → is_some (lookup (λ k. is_eq (nat_cmp key k)) entries) ≡ false → new ≡ insert_entry nat_cmp entries key value → value.name.items ≡ name
+    → (by_bytes new ≡ put_first (by_bytes entries) name value.inode) × IsKeyed new
 unfolding put_first
-listed_put entries new key name i missing put is =
-    ap by_bytes put ∙ (named_insert entries key i ∙ (ap (λ n. insert (by_bytes entries) n i) is
-    ∙ sym (ap (λ found. cond (is_some found) (by_bytes entries) (insert (by_bytes entries) name i)) (sym (lookup_listed name entries))
-    ∙ ap (λ b. cond b (by_bytes entries) (insert (by_bytes entries) name i)) missing)))
+listed_put entries new key value name keyed is stored missing put same =
+    let here : key ≡ key_of value.name.items = is ∙ ap key_of (sym same) in
+    let kept : IsSlotName value.name.items = subst IsSlotName (sym same) stored in
+    let absent : is_some (get (by_bytes entries) name) ≡ false = sym (lookup_listed key name entries is stored keyed) ∙ missing in (
+      ap by_bytes put ∙ (named_insert entries key value keyed here kept ∙ (ap (λ n. insert (by_bytes entries) n value.inode) same
+          ∙ sym (ap (λ b. cond b (by_bytes entries) (insert (by_bytes entries) name value.inode)) absent))),
+      subst IsKeyed (sym put) (keyed_insert entries key value keyed here kept),
+    )
 
 -- if the entries have a name, `put_first` of it changes nothing
-pub listed_kept : (entries : List (Vec ℕ × ℕ)) (name : List ℕ) (i : ℕ)
-    → is_some (lookup (λ k. is_eq (slice_cmp nat_cmp name k.items)) entries) ≡ true → by_bytes entries ≡ put_first (by_bytes entries) name i
+pub listed_kept : (entries : List (ℕ × NameEntry)) (key : ℕ) (name : List ℕ) (i : ℕ) → IsKeyed entries → key ≡ key_of name → IsSlotName name
+    → is_some (lookup (λ k. is_eq (nat_cmp key k)) entries) ≡ true → by_bytes entries ≡ put_first (by_bytes entries) name i
 unfolding put_first
-listed_kept entries name i there =
-    sym (ap (λ found. cond (is_some found) (by_bytes entries) (insert (by_bytes entries) name i)) (sym (lookup_listed name entries))
-    ∙ ap (λ b. cond b (by_bytes entries) (insert (by_bytes entries) name i)) there)
+listed_kept entries key name i keyed is stored there =
+    sym (ap (λ b. cond b (by_bytes entries) (insert (by_bytes entries) name i)) (sym (lookup_listed key name entries is stored keyed) ∙ there))

@@ -8,6 +8,7 @@ pub mod Access
 pub mod DirectoryLaws
 pub mod EntryEdits
 pub mod Entries
+pub mod NameKeys
 pub mod NameList
 pub mod Names
 pub mod PathLaws

@@ -1,8 +1,10 @@
 //! The names of a directory, in ascending order.
-ghost use Rattle.std.specs.Prelude.{◌≡◌, ℕ, false, slice_index_or, IfOk, OnOk};
+ghost use Rattle.std.specs.Prelude.{◌≡◌, ◌<◌, ◌≤◌, ℕ, false, length, slice_index, slice_index_or, IfOk, OnOk};
 ghost use Rattle.vol_layout.specs.Geometry.{Fits};
+ghost use Rattle.vol_layout.specs.Slot.{name_of};
 ghost use Rattle.vol_dir.specs.Entries.{slots, IsDirectory};
-ghost use Rattle.vol_dir.specs.NameList.{by_bytes, put_first};
+ghost use Rattle.vol_dir.specs.NameKeys.{key_of};
+ghost use Rattle.vol_dir.specs.NameList.{IsKeyed, by_bytes, put_first};
 ghost use Rattle.vol_dir.specs.Names.{names_of};
 
 use crate::entries::{SLOTS, slot_count};
@@ -11,7 +13,15 @@ use pdp_words::{Bytes, Image};
 use std::alloc::{AllocError, Global};
 use std::collections::BTreeMap;
 use vol_file::no_marks;
-use vol_layout::Geometry;
+use vol_layout::slot::NAME;
+use vol_layout::{Geometry, Slot};
+
+/// A name of a directory, and its i-number.
+#[derive(Drop)]
+pub(crate) struct NameEntry {
+    name: Vec<u8>,
+    inode: u16,
+}
 
 /// Returns the names of directory `dir` with their i-numbers, in ascending order of their bytes. If several entries have
 /// the same name, the first counts.
@@ -31,7 +41,7 @@ pub fn list_names(
     let names = collect_names(alloc, image, geometry, dir)?;
     names
         .into_iter()
-        .map(|(name, i)| (Bytes::from_vec(name), i))
+        .map(|(_, entry)| (Bytes::from_vec(entry.name), entry.inode))
         .collect(alloc)
 }
 
@@ -41,7 +51,7 @@ fn collect_names(
     image: &Image,
     geometry: &Geometry,
     dir: u16,
-) -> Result<BTreeMap<Vec<u8>, u16>, AllocError>
+) -> Result<BTreeMap<u128, NameEntry>, AllocError>
     requires fits { Fits geometry.now image.now }
     requires directory { IsDirectory geometry.now image.now dir }
     ensures { IfOk result (λ names. by_bytes names.entries ≡ names_of (slots geometry.now image.now dir)) }
@@ -57,7 +67,7 @@ fn collect_unmarked(
     geometry: &Geometry,
     dir: u16,
     marks: &mut [bool],
-) -> Result<BTreeMap<Vec<u8>, u16>, AllocError>
+) -> Result<BTreeMap<u128, NameEntry>, AllocError>
     requires fits { Fits geometry.now image.now }
     requires directory { IsDirectory geometry.now image.now dir }
     requires clear { (k : ℕ) → slice_index_or marks.old k false ≡ false }
@@ -66,7 +76,7 @@ fn collect_unmarked(
     let mut names = BTreeMap::new(alloc);
     let mut from = 0;
     while let Some((s, slot)) = next_unmarked(image, geometry, dir, from, 0, marks) {
-        put_first(alloc, &mut names, slot.name(), slot.inode)?;
+        put_first(alloc, &mut names, slot)?;
         from = s + 1;
     }
     Ok(names)
@@ -90,17 +100,38 @@ fn marks_for(
     }
 }
 
-/// Adds a name to the map, unless the map has it already.
+/// Adds the name in a slot to the map, unless the map has it already.
 fn put_first(
     alloc: Global,
-    names: &mut BTreeMap<Vec<u8>, u16>,
-    name: &[u8],
-    inode: u16,
+    names: &mut BTreeMap<u128, NameEntry>,
+    slot: Slot,
 ) -> Result<(), AllocError>
-    ensures { OnOk result (by_bytes names.new.entries ≡ put_first (by_bytes names.old.entries) name.now inode) }
+    requires { IsKeyed names.old.entries }
+    ensures put { OnOk result (by_bytes names.new.entries ≡ put_first (by_bytes names.old.entries) (name_of slot.name) slot.inode) }
+    ensures keyed { OnOk result (IsKeyed names.new.entries) }
 {
-    if !names.contains_key(name) {
-        names.insert(Vec::from_slice(alloc, name)?, inode)?;
+    let name = slot.name();
+    let key = key_from(name);
+    if !names.contains_key(&key) {
+        let name = Vec::from_slice(alloc, name)?;
+        let inode = slot.inode;
+        names.insert(key, NameEntry { name, inode })?;
     }
     Ok(())
+}
+
+/// Returns the number of a name: its bytes as digits in base 256, and zeros up to 14 digits. Numbers are in the order of their names, and compared at
+/// once.
+fn key_from(name: &[u8]) -> u128
+    requires { length name.now ≤ 14 }
+    ensures key { result ≡ key_of name.now }
+    ensures few { length name.now ≤ 14 }
+    ensures small { (k : ℕ) → slice_index name.now k < 256 }
+{
+    let mut key = 0;
+    for k in 0..NAME {
+        let byte = if k < name.len() { name[k] } else { 0 };
+        key = 256 * key + u128::from(byte);
+    }
+    key
 }

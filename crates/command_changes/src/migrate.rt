@@ -6,12 +6,12 @@ ghost use Rattle.command_changes.specs.Migrate.{IsObstacle, Migrates, of_migrati
 
 use command_faults::answer::{conclude, tell, unremarked};
 use command_faults::{Answer, Fault};
-use pdp_words::Sink;
+use pdp_words::{Image, Sink};
 use std::alloc::Global;
 use vol_dir::Refusal;
+use vol_judge::judge;
 use vol_layout::Edition;
-use vol_migrate::{MigrateFault, migrate};
-use vol_volume::Volume;
+use vol_migrate::MigrateFault;
 
 /// The sizes and the time of the volume that `migrate` makes.
 #[derive(Clone, Copy)]
@@ -41,9 +41,9 @@ pub fn migrate_command<O: Sink, E: Sink>(
 }
 
 /// Makes a volume of the seventh edition with the files of one of the sixth, for `migrate`. The fault is the first rule that the image breaks, or
-/// the refusal of [`migrate`] for a sound one; or out of memory.
+/// the refusal of [`vol_migrate::migrate_image`] for a sound one; or out of memory.
 ///
-/// Takes the memory of [`Volume::mount`] and [`migrate`].
+/// Takes the memory of [`judge`] and [`vol_migrate::migrate_image`]. The image isn't copied.
 pub fn migrate_image(alloc: Global, image: Vec<u8>, migration: Migration) -> Result<Vec<u8>, Fault>
     ensures migrated { IfOk result (λ bytes. Migrates image.items migration bytes.items) }
     ensures fault { IfErr result (IsObstacle image.items migration) }
@@ -53,9 +53,12 @@ pub fn migrate_image(alloc: Global, image: Vec<u8>, migration: Migration) -> Res
         list_blocks,
         now,
     } = migration;
-    match Volume::mount(alloc, Edition::V6, image) {
-        Ok(volume) => migrate(alloc, &volume, blocks, list_blocks, now).map_err(unmigrated),
-        Err((fault, _)) => Err(Fault::from(fault)),
+    let image = Image::from_bytes(image);
+    match judge(alloc, Edition::V6, &image, true)? {
+        None => vol_migrate::migrate_image(alloc, &image, blocks, list_blocks, now).map_err(
+            unmigrated,
+        ),
+        Some(rule) => Err(Fault::Unsound(rule)),
     }
 }
 

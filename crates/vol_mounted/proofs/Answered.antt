@@ -1,5 +1,5 @@
 -- Operations that are answered.
-use Rattle.std.proofs.Common.{◌≡◌, ℕ, List, Result, Ok, Err, inl, inr}
+use Rattle.std.proofs.Common.{ℕ, List, Result, Ok, Err, inr}
 use Rattle.fuse_words.specs.declared.operation.Operation.{Operation}
 use Rattle.fuse_words.specs.declared.request.Header.{Header}
 use Rattle.vol_mounted.specs.Refusals.{Puts}

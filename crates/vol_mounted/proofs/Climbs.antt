@@ -1,8 +1,6 @@
 -- Walking up from a node, directory by directory.
-use Rattle.std.proofs.Common.{◌≡◌, ◌≢◌, ℕ, zero, suc, ◌+◌, ◌-◌, ◌≤◌, ◌∷◌, ◌++◌, List, None, Some, arith, rules}
+use Rattle.std.proofs.Common.{◌≡◌, ◌≢◌, ℕ, zero, suc, ◌-◌, ◌≤◌, ◌∷◌, ◌++◌, List, None, Some, arith, rules}
 use Rattle.std.specs.Prelude.{slice_get}
-use Rattle.std.proofs.lemmas.Bool.Decides.{nat_tests}
-use Rattle.std.proofs.lemmas.Grind.{common_steps}
 use Rattle.vol_layout.specs.Slot.{name_of}
 use Rattle.vol_mounted.specs.Paths.{climb}
 use Rattle.vol_mounted.specs.declared.known.KnownNode.{KnownNode}

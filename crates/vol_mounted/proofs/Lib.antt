@@ -1,9 +1,11 @@
 pub mod Answered
 pub mod Asked
 pub mod Climbs
+pub mod ClosedFiles
 pub mod FirstValues
 pub mod Held
 pub mod Makings
 pub mod Stores
 pub mod TurnLaws
 pub mod Upwards
+pub mod WrittenBytes

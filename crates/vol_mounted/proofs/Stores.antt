@@ -1,9 +1,9 @@
 -- The image in the file, from turn to turn: by `Stores` it is the server's, unless the server's is marked as changed.
-use Rattle.std.proofs.Common.{◌≡◌, ◌∙◌, refl, sym, ap, subst, true≢false, ℕ, List, [], ◌∷◌, ◌++◌, length, Option, None, Some, Result, Ok, Err, inl, inr}
+use Rattle.std.proofs.Common.{◌≡◌, ◌∙◌, refl, sym, ap, subst, true≢false, ℕ, List, [], ◌++◌, length, Option, None, Some, Result, Ok, Err, inl, inr}
 use Rattle.std.proofs.lemmas.List.{append-nil}
 use Rattle.std.proofs.lemmas.List.Sums.{fold-append}
 use Rattle.std.proofs.lemmas.Option.{none-some}
-use Rattle.std.specs.Prelude.{Bool, true, false, MatchBool, fold, unwrap_or}
+use Rattle.std.specs.Prelude.{Bool, true, false, MatchBool, unwrap_or}
 use Rattle.fuse_words.specs.Requests.{wants_reply}
 use Rattle.fuse_words.specs.declared.operation.Operation.{Operation}
 use Rattle.fuse_words.specs.declared.request.Header.{Header}

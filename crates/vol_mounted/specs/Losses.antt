@@ -1,27 +1,22 @@
 -- The files that lose their last name while they are open.
-use Rattle.std.specs.Prelude.{◌≡◌, ◌≢◌, ◌<◌, ◌≤◌, ℕ, ◌/◌, ◌==◌, if◌then◌else◌, List, slice_get, Option, None, Some, Result, Ok, Err}
-use Rattle.std.specs.Option.{option_map, option_map_or}
+use Rattle.std.specs.Prelude.{◌≡◌, ◌≢◌, ◌<◌, ◌≤◌, ℕ, ◌/◌, ◌==◌, ◌||◌, not, if◌then◌else◌, List, ◌++◌, replicate, slice_get, Option, None, Some, Result, Ok, Err}
+use Rattle.std.specs.Option.{is_some, option_map, option_map_or, option_and_then, option_to_list}
 use Rattle.fuse_words.specs.declared.operation.Operation.{Operation}
 use Rattle.fuse_words.specs.declared.operation.Operation.TheVariants as operations
 use Rattle.fuse_words.specs.declared.reply.Attributes.{Attributes}
 use Rattle.fuse_words.specs.declared.request.Header.{Header}
+use Rattle.vol_layout.specs.declared.geometry.Geometry.{Geometry}
 use Rattle.vol_dir.specs.Tree.{tree}
-use Rattle.vol_dir.specs.declared.refusal.Refusal.TheVariants as refusals
-use Rattle.vol_nodes.specs.Nodes.{look_up}
+use Rattle.vol_nodes.specs.Nodes.{stat_in, look_up, read_in, filled}
 use Rattle.vol_nodes.specs.declared.fault.NodeFault.{NodeFault}
 use Rattle.vol_serve.specs.Attributes.{attributes_in}
-use Rattle.vol_mounted.specs.Numbers.{i_number}
-use Rattle.vol_mounted.specs.Orphans.{size_if}
+use Rattle.vol_mounted.specs.Numbers.{i_number, node_number}
+use Rattle.vol_mounted.specs.Orphans.{KeptFile, size_if}
 use Rattle.vol_mounted.specs.Plans.{Sight}
-use Rattle.vol_mounted.specs.Refusals.{no_memory}
+use Rattle.vol_mounted.specs.Refusals.{no_memory, no_space}
 use Rattle.vol_mounted.specs.declared.known.KnownNode.{KnownNode}
 use Rattle.vol_mounted.specs.declared.loss.Loss.{Loss}
 use Rattle.vol_mounted.specs.declared.refusal.MountedRefusal.{MountedRefusal}
-use Rattle.vol_mounted.specs.declared.refusal.MountedRefusal.TheVariants.{Call}
-
--- the refusal if there is no room (errno.h: ENOSPC)
-abbrev pub no_space : MountedRefusal
-no_space = Call refusals.NoSpace
 
 -- the number of times that the file of i-number i is open (open; close)
 abbrev pub opened_at : List KnownNode → ℕ → ℕ
@@ -59,6 +54,32 @@ lost_node sight header operation = None
 abbrev pub kept_bytes : Sight → ℕ → ℕ
 kept_bytes sight i = kept_size (opened_at sight.nodes i) (attributes_in (tree sight.geometry sight.image) i)
 
+-- node i as it is kept in memory when it loses a name, if it is an open regular file without another name: with the bytes that are read of it, and no
+-- links (unlink; stat.h: S_IFREG)
+abbrev pub kept_of : Sight → ℕ → Result Attributes NodeFault → Option KeptFile
+kept_of sight i (Ok attributes) =
+    if (opened_at sight.nodes i == 0) || (not (attributes.links == 1) || not (attributes.mode / 4096 == 8)) then None
+    else Some (record {
+      node = node_number sight.geometry.edition sight.nodes i;
+      attributes = record attributes { links = 0 };
+      content = filled (read_in (tree sight.geometry sight.image) i 0 attributes.size) (replicate attributes.size 0);
+      opened = opened_at sight.nodes i;
+    })
+kept_of sight i (Err fault) = None
+
+-- node i as it is kept in memory when it loses a name, if it is kept (unlink)
+abbrev pub kept_at : Sight → ℕ → Option KeptFile
+kept_at sight i = kept_of sight i (attributes_in (tree sight.geometry sight.image) i)
+
+-- the file that loses its last name through an operation, as it is kept in memory, if it is open (unlink; rename)
+abbrev pub lost_file : Sight → Header → Operation → Option KeptFile
+lost_file sight header operation = option_and_then (kept_at sight) (lost_node sight header operation)
+
+-- the files without a name after a node lost a name: the file is kept, if the node was freed (unlink)
+abbrev pub kept_after : Geometry → List ℕ → List KeptFile → Option ℕ → Option KeptFile → List KeptFile
+kept_after geometry image files None file = files
+kept_after geometry image files (Some i) file = if is_some (stat_in (tree geometry image) i) then files else files ++ option_to_list file
+
 -- the number of bytes that are kept of the file that loses a name through an operation (unlink; rename)
 abbrev pub lost_bytes : Sight → Header → Operation → ℕ
 lost_bytes sight header operation = option_map_or (kept_bytes sight) (lost_node sight header operation) 0
@@ -66,6 +87,10 @@ lost_bytes sight header operation = option_map_or (kept_bytes sight) (lost_node 
 -- the node that loses a name, if there is one (this project)
 abbrev pub node_of : Option Loss → Option ℕ
 node_of loss = option_map (λ (loss : Loss). loss.i) loss
+
+-- the file that is kept in memory, if there is one (this project)
+abbrev pub file_of : Option Loss → Option KeptFile
+file_of loss = option_and_then (λ (loss : Loss). loss.orphan) loss
 
 -- the number of bytes that are kept of a file that loses a name, if there is one (this project)
 abbrev pub loss_size : Option Loss → ℕ

@@ -1,5 +1,5 @@
 -- The calls that requests make.
-use Rattle.std.specs.Prelude.{ℕ, ◌-◌, ◌%◌, ◌/◌, ◌^◌, ◌==◌, ◌&&◌, ◌||◌, nat_lt, nat_le, min, Bool, true, false, unwrap_or, is_none, if◌then◌else◌, List, [], ◌∷◌, ◌++◌, length, Option, None, Some, Result, Ok, Err}
+use Rattle.std.specs.Prelude.{ℕ, ◌-◌, ◌%◌, ◌/◌, ◌^◌, ◌==◌, ◌&&◌, ◌||◌, nat_lt, nat_le, min, Bool, true, false, unwrap_or, is_none, if◌then◌else◌, List, [], ◌∷◌, ◌++◌, Option, None, Some, Result, Ok, Err}
 use Rattle.std.specs.Option.{ok_or, option_to_list}
 use Rattle.fuse_words.specs.declared.attribute_changes.AttributeChanges.{AttributeChanges}
 use Rattle.fuse_words.specs.declared.attribute_changes.NewTime.{NewTime}

@@ -1,9 +1,7 @@
 -- Refusals of requests, and results that depend on others.
 use Rattle.std.specs.Prelude.{◌≡◌, ◌≢◌, ℕ, List, Result, Ok, Err}
-use Rattle.vol_dir.specs.declared.refusal.Refusal.{Refusal}
 use Rattle.vol_dir.specs.declared.refusal.Refusal.TheVariants as refusals
 use Rattle.vol_nodes.specs.declared.fault.NodeFault.{NodeFault}
-use Rattle.vol_nodes.specs.declared.fault.NodeFault.TheVariants as faults
 use Rattle.vol_serve.specs.declared.errno.RequestRefusal.TheVariants as requests
 use Rattle.vol_mounted.specs.declared.refusal.MountedRefusal.{MountedRefusal}
 use Rattle.vol_mounted.specs.declared.refusal.MountedRefusal.TheVariants.{Request, Call}
@@ -15,6 +13,10 @@ no_node fault = Request (requests.Node fault)
 -- the refusal if memory ran out (errno.h: ENOMEM)
 abbrev pub no_memory : MountedRefusal
 no_memory = Call refusals.NoMemory
+
+-- the refusal if there is no room (errno.h: ENOSPC)
+abbrev pub no_space : MountedRefusal
+no_space = Call refusals.NoSpace
 
 -- the next step, if the first one succeeded; otherwise the refusal (this project)
 abbrev pub and_then : {X Y : Type 0} → Result X MountedRefusal → (X → Result Y MountedRefusal) → Result Y MountedRefusal

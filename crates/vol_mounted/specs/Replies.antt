@@ -1,5 +1,5 @@
 -- The replies to requests, on the tree after their calls.
-use Rattle.std.specs.Prelude.{ℕ, ◌-◌, ◌^◌, ◌==◌, nat_lt, bit_and, if◌then◌else◌, List, [], ◌∷◌, length, Option, None, Some, Result, Ok, Err}
+use Rattle.std.specs.Prelude.{ℕ, ◌-◌, ◌^◌, ◌==◌, nat_lt, bit_and, if◌then◌else◌, List, [], length, Option, None, Some, Result, Ok, Err}
 use Rattle.std.specs.Option.{ok_or}
 use Rattle.fuse_words.specs.Replies.{status_message, init_message, entry_message, attributes_message, open_message, written_message, statfs_message}
 use Rattle.fuse_words.specs.declared.operation.Operation.{Operation}

@@ -1,13 +1,14 @@
 -- The server of a mounted volume, as contracts see it.
-use Rattle.std.specs.Prelude.{◌≡◌, ◌≢◌, ◌⊎◌, ◌≤◌, ℕ, ◌-◌, Bool, true, false, List, length, [], Option, None, Some, Result, Ok, Err}
+use Rattle.std.specs.Prelude.{◌≡◌, ◌⊎◌, ◌≤◌, ℕ, ◌-◌, true, List, length, Option, Result, Ok}
+use Rattle.vol_layout.specs.Edition.{constants}
 use Rattle.vol_layout.specs.Geometry.{geometry_of}
 use Rattle.vol_dir.specs.declared.refusal.Refusal.{Refusal}
 use Rattle.vol_volume.specs.Volume.{Mounted}
 use Rattle.vol_volume.specs.declared.calls.Call.{Call}
 use Rattle.vol_import.specs.Make.{AreMade, AreStopped}
-use Rattle.vol_mounted.specs.Orphans.{held_by}
+use Rattle.vol_mounted.specs.Orphans.{KeptFile, held_by}
 use Rattle.vol_mounted.specs.Plans.{Sight}
-use Rattle.vol_mounted.specs.Refusals.{no_memory}
+use Rattle.vol_mounted.specs.declared.orphan.Limits.{Limits}
 use Rattle.vol_mounted.specs.declared.owner.Owner.{Owner}
 use Rattle.vol_mounted.specs.declared.refusal.MountedRefusal.{MountedRefusal}
 use Rattle.vol_mounted.specs.declared.refusal.MountedRefusal.TheVariants as mounted
@@ -21,9 +22,13 @@ volume_in server = server.volume
 abbrev pub owner_in : MountedServer → Option Owner
 owner_in server = server.owner
 
+-- the files without a name (this project)
+abbrev pub files_in : MountedServer → List KeptFile
+files_in server = server.orphans.files.items
+
 -- the number of bytes of the files without a name (this project)
 abbrev pub held_in : MountedServer → ℕ
-held_in server = held_by server.orphans.files.items
+held_in server = held_by (files_in server)
 
 -- the files without a name take at most as many bytes as the image (this project)
 abbrev pub IsBounded : MountedServer → Type 0
@@ -32,6 +37,10 @@ IsBounded server = held_in server ≤ length server.volume.image
 -- the number of further bytes that files without a name can take (this project)
 abbrev pub spare_in : MountedServer → ℕ
 spare_in server = length server.volume.image - held_in server
+
+-- the limits of a file without a name (manual section 5, file system; the bytes are this project's)
+abbrev pub limits_in : MountedServer → Limits
+limits_in server = record { greatest = (constants server.volume.edition).greatest; spare = spare_in server }
 
 -- the image and the mark that it was changed are as before, or the image is marked as changed (this project)
 abbrev pub IsNoted : MountedServer → MountedServer → Type 0

@@ -14,12 +14,12 @@ use Rattle.vol_volume.specs.declared.calls.Call.{Call}
 use Rattle.vol_serve.specs.declared.errno.RequestRefusal.TheVariants as requests
 use Rattle.vol_mounted.specs.Errno.{errno}
 use Rattle.vol_layout.specs.Geometry.{geometry_of}
-use Rattle.vol_mounted.specs.Losses.{no_space, lost_bytes, lost_node}
+use Rattle.vol_mounted.specs.Losses.{lost_bytes, lost_node, lost_file, kept_after}
+use Rattle.vol_mounted.specs.Orphans.{KeptFile, files_after}
 use Rattle.vol_mounted.specs.Records.{remembered}
-use Rattle.vol_mounted.specs.Refusals.{and_then, no_memory}
+use Rattle.vol_mounted.specs.Refusals.{and_then, no_memory, no_space}
 use Rattle.vol_mounted.specs.Replies.{calls_of, reply_of}
-use Rattle.vol_mounted.specs.Servers.{sight_at, spare_in, Kept, Made, IsStopped}
-use Rattle.vol_mounted.specs.declared.orphan.Orphan.{Orphan}
+use Rattle.vol_mounted.specs.Servers.{sight_at, files_in, limits_in, spare_in, Kept, Made, IsStopped}
 use Rattle.vol_mounted.specs.declared.refusal.MountedRefusal.{MountedRefusal}
 use Rattle.vol_mounted.specs.declared.refusal.MountedRefusal.TheVariants as mounted
 use Rattle.vol_mounted.specs.declared.server.MountedServer.{MountedServer}
@@ -35,22 +35,25 @@ planned server now header operation =
     and_then (calls_of (sight_at server now) header operation) (λ calls.
     if nat_lt (spare_in server) (lost_bytes (sight_at server now) header operation) then Err no_space else Ok calls)
 
--- the records of the i-numbers after an operation, whose calls were all made or not, in the volume after the calls (this project)
+-- the records of the i-numbers, and the files without a name, after an operation, whose calls were all made or not, in the volume after the calls (this
+-- project)
 abbrev pub Remembers : MountedServer → MountedServer → ℕ → Header → Operation → Bool → Type 0
 Remembers old new now header operation is_made =
-    new.nodes ≡ remembered (geometry_of new.volume.edition new.volume.image) new.volume.image old.nodes header operation is_made
-    (lost_node (sight_at old now) header operation)
+    (new.nodes ≡ remembered (geometry_of new.volume.edition new.volume.image) new.volume.image old.nodes header operation is_made
+    (lost_node (sight_at old now) header operation))
+    × (files_in new ≡ kept_after (geometry_of new.volume.edition new.volume.image) new.volume.image (files_in old)
+    (lost_node (sight_at old now) header operation) (lost_file (sight_at old now) header operation))
 
 -- all the calls of an operation were made, and the records are those after it (this project)
 abbrev pub IsMade : MountedServer → MountedServer → ℕ → Header → Operation → Type 0
 IsMade old new now header operation =
     Made old.volume (planned old now header operation) new.volume × Remembers old new now header operation true
 
--- the volume and the records are unchanged, since the plan failed for this reason or memory ran out; or some calls were made, and the next one was
+-- the volume, the records and the files without a name are unchanged, since the plan failed for this reason or memory ran out; or some calls were made, and the next one was
 -- refused with this refusal (this project)
 abbrev pub IsUnmade : MountedServer → MountedServer → ℕ → Header → Operation → MountedRefusal → Type 0
 IsUnmade old new now header operation refusal =
-    ((new.volume ≡ old.volume) × (new.nodes ≡ old.nodes) × (refusal ≢ no_memory → planned old now header operation ≡ Err refusal))
+    ((new.volume ≡ old.volume) × (new.nodes ≡ old.nodes) × (files_in new ≡ files_in old) × (refusal ≢ no_memory → planned old now header operation ≡ Err refusal))
     ⊎ ((calls : List Call) × (planned old now header operation ≡ Ok calls) × IsStopped old.volume calls new.volume refusal
     × Remembers old new now header operation false)
 
@@ -65,13 +68,23 @@ IsAnswered old new now header operation (Err refusal) =
 
 -- true if a file without a name that is still open has this node number (this project)
 abbrev pub is_orphan : MountedServer → ℕ → Bool
-is_orphan server node = list_any (λ (file : Orphan). file.node == node) server.orphans.files.items
+is_orphan server node = list_any (λ (file : KeptFile). file.node == node) (files_in server)
+
+-- the files without a name and the reply are those after an operation on one of them; or it is refused, and the files are unchanged (this project)
+abbrev pub IsReplied : MountedServer → MountedServer → ℕ → Header → Operation → Result (List ℕ) MountedRefusal → Type 0
+IsReplied old new now header operation (Ok reply) =
+    files_after (limits_in old) now header operation (files_in old) ≡ Ok (record { files = files_in new; reply = reply })
+IsReplied old new now header operation (Err refusal) =
+    (files_in new ≡ files_in old)
+    × (refusal ≢ no_memory → files_after (limits_in old) now header operation (files_in old) ≡ Err refusal)
 
 -- an operation on a file without a name changes neither the volume nor the records; any other is answered (this project)
 abbrev pub IsServed : MountedServer → MountedServer → ℕ → Header → Operation → Result (List ℕ) MountedRefusal → Type 0
 IsServed old new now header operation outcome =
     Kept old new
-    × MatchBool (is_orphan old header.node) ((new.volume ≡ old.volume) × (new.nodes ≡ old.nodes)) (IsAnswered old new now header operation outcome)
+    × MatchBool (is_orphan old header.node)
+    ((new.volume ≡ old.volume) × (new.nodes ≡ old.nodes) × IsReplied old new now header operation outcome)
+    (IsAnswered old new now header operation outcome)
 
 -- the image was saved, or wasn't changed since it was last saved; or it couldn't be saved (this project)
 abbrev pub IsSaved : MountedServer → MountedServer → List (List ℕ) → Bool → Type 0

@@ -16,15 +16,16 @@ use vol_serve::errno::RequestRefusal;
 use vol_serve::memory::Room;
 
 impl MountedServer {
-    ghost use Rattle.std.specs.Prelude.{◌≡◌, ◌≢◌, ◌≤◌, ◌+◌, ℕ, List, Some, None, Ok, Err, if◌then◌else◌, IfOk, OnOk, IfErr};
+    ghost use Rattle.std.specs.Prelude.{◌≡◌, ◌≢◌, ◌<◌, ◌≤◌, ◌+◌, ℕ, List, length, IsSome, Some, None, Ok, Err, if◌then◌else◌, IfOk, OnOk, IfErr};
     ghost use Rattle.fuse_words.specs.Requests.{request_of};
     ghost use Rattle.vol_serve.specs.Messages.{Grows};
-    ghost use Rattle.vol_mounted.specs.Losses.{loss_size, lost_node, node_of};
+    ghost use Rattle.vol_mounted.specs.Losses.{loss_size, lost_node, lost_file, kept_after, node_of, file_of};
+    ghost use Rattle.std.specs.Vec.{vec_capacity};
     ghost use Rattle.vol_layout.specs.Geometry.{geometry_of};
     ghost use Rattle.vol_mounted.specs.Records.{after_loss};
     ghost use Rattle.vol_mounted.specs.Refusals.{Puts, no_memory};
     ghost use Rattle.vol_mounted.specs.Replies.{reply_of};
-    ghost use Rattle.vol_mounted.specs.Servers.{sight_at, held_in, spare_in, Kept};
+    ghost use Rattle.vol_mounted.specs.Servers.{sight_at, files_in, held_in, spare_in, Kept};
     ghost use Rattle.vol_mounted.specs.Turns.{planned, IsMade, IsUnmade, IsAnswered, IsServed, HasOutcome, Answers, put_by};
 
     /// Puts the reply to a request into `room`; returns false if none is sent.
@@ -182,6 +183,7 @@ impl MountedServer {
         ensures refused { IfErr result (λ refusal. refusal ≢ no_memory → planned self.now now header.now operation.now ≡ Err refusal) }
         ensures room { IfOk result (λ (calls, loss). loss_size loss ≤ spare_in self.now) }
         ensures node { IfOk result (λ (calls, loss). node_of loss ≡ lost_node (sight_at self.now now) header.now operation.now) }
+        ensures file { IfOk result (λ (calls, loss). file_of loss ≡ lost_file (sight_at self.now now) header.now operation.now) }
     {
         let scene = self.scene(alloc, now);
         let calls = scene.plan(header, operation)?;
@@ -191,11 +193,13 @@ impl MountedServer {
 
     /// Records that a file lost a name, if one did.
     fn lose(&mut self, loss: Option<Loss>)
+        requires { IsSome loss → length (files_in self.old) < vec_capacity self.old.orphans.files }
         ensures volume { self.new.volume ≡ self.old.volume }
         ensures owner { self.new.owner ≡ self.old.owner }
         ensures is_changed { self.new.is_changed ≡ self.old.is_changed }
         ensures weight { self.new.weight ≡ self.old.weight }
         ensures nodes { self.new.nodes ≡ after_loss (geometry_of self.old.volume.edition self.old.volume.image) self.old.volume.image self.old.nodes (node_of loss) }
+        ensures files { files_in self.new ≡ kept_after (geometry_of self.old.volume.edition self.old.volume.image) self.old.volume.image (files_in self.old) (node_of loss) (file_of loss) }
         ensures held { held_in self.new ≤ held_in self.old + loss_size loss }
     {
         if let Some(loss) = loss {

@@ -24,8 +24,9 @@ impl Scene<'_> {
     ghost use Rattle.vol_dir.specs.Tree.{tree};
     ghost use Rattle.vol_serve.specs.Attributes.{attributes_in};
     ghost use Rattle.std.specs.Prelude.{IfOk};
-    ghost use Rattle.std.specs.Option.{option_map_or};
-    ghost use Rattle.vol_mounted.specs.Losses.{Keeps, lost_bytes, lost_node, kept_bytes, kept_size, loss_size, node_named, node_of};
+    ghost use Rattle.std.specs.Prelude.{◌≡◌};
+    ghost use Rattle.std.specs.Option.{option_map_or, option_and_then};
+    ghost use Rattle.vol_mounted.specs.Losses.{Keeps, lost_bytes, lost_node, lost_file, kept_at, kept_bytes, kept_size, loss_size, node_named, node_of, file_of};
     ghost use Rattle.vol_mounted.specs.Orphans.{size_if};
     ghost use Rattle.vol_mounted.specs.Scenes.{sight_of};
 
@@ -40,6 +41,7 @@ impl Scene<'_> {
     ) -> Result<Option<Loss>, MountedRefusal>
         ensures kept { Keeps loss_size spare (lost_bytes (sight_of self.now) header.now operation.now) result }
         ensures node { IfOk result (λ loss. node_of loss ≡ lost_node (sight_of self.now) header.now operation.now) }
+        ensures file { IfOk result (λ loss. file_of loss ≡ lost_file (sight_of self.now) header.now operation.now) }
     {
         match operation {
             Operation::Unlink { name } => self.loss_of(header.node, name.as_slice(), spare),
@@ -66,6 +68,7 @@ impl Scene<'_> {
     ) -> Result<Option<Loss>, MountedRefusal>
         ensures kept { Keeps loss_size spare (option_map_or (kept_bytes (sight_of self.now)) (node_named (sight_of self.now) directory name.now) 0) result }
         ensures node { IfOk result (λ loss. node_of loss ≡ node_named (sight_of self.now) directory name.now) }
+        ensures file { IfOk result (λ loss. file_of loss ≡ option_and_then (kept_at (sight_of self.now)) (node_named (sight_of self.now) directory name.now)) }
     {
         let Some(dir) = self.nodes.i_number(self.geometry.edition, directory) else {
             return Ok(None);
@@ -81,7 +84,8 @@ impl Scene<'_> {
 
     /// Returns file `i` as it will be kept in memory, if it is open and loses its last name.
     fn orphan(&self, i: u16, spare: usize) -> Result<Option<Orphan>, MountedRefusal>
-        ensures { Keeps size_if spare (kept_bytes (sight_of self.now) i) result }
+        ensures size { Keeps size_if spare (kept_bytes (sight_of self.now) i) result }
+        ensures file { IfOk result (λ file. file ≡ kept_at (sight_of self.now) i) }
     {
         let opened = opened_at(self.nodes, i);
         let Ok(attributes) = node_attributes(self.volume.image(), self.geometry, i) else {

@@ -1,4 +1,7 @@
 //! Replies to operations on files without a name that are still open.
+ghost use Rattle.std.specs.Prelude.{◌≡◌};
+ghost use Rattle.vol_mounted.specs.Orphans.{is_release};
+
 use crate::orphan::{Limits, Orphan, Orphans};
 use crate::refusal::MountedRefusal;
 use crate::reply::count_of;
@@ -14,6 +17,7 @@ const SECONDS: u64 = 3600;
 impl MountedServer {
     ghost use Rattle.std.specs.Prelude.{◌≡◌};
     ghost use Rattle.vol_mounted.specs.Servers.{Kept};
+    ghost use Rattle.vol_mounted.specs.Turns.{IsReplied, put_by};
 
     /// Puts the reply to an operation on a file without a name into `room`. The volume isn't changed.
     pub(crate) fn answer_orphan(
@@ -25,9 +29,10 @@ impl MountedServer {
     ) -> Result<(), MountedRefusal>
         ensures volume { self.new.volume ≡ self.old.volume }
         ensures nodes { self.new.nodes ≡ self.old.nodes }
+        ensures replied { IsReplied self.old self.new now header.now operation.now (put_by result room.new.reply) }
         ensures kept { Kept self.old self.new }
     {
-        if matches!(operation, Operation::Release { .. }) {
+        if is_release(operation) {
             self.orphans.close(header.node);
             room.reply.put_status(header.unique, 0);
             return Ok(());
@@ -41,10 +46,12 @@ impl MountedServer {
 }
 
 impl Orphans {
-    ghost use Rattle.std.specs.Prelude.{◌≡◌, ◌≤◌, ◌+◌};
-    ghost use Rattle.vol_mounted.specs.Orphans.{held_by};
+    ghost use Rattle.std.specs.Prelude.{◌≡◌, ◌≢◌, ◌≤◌, ◌+◌, Ok, Err, OnOk, IfErr, OnErr};
+    ghost use Rattle.vol_nodes.specs.declared.fault.NodeFault.TheVariants as faults;
+    ghost use Rattle.vol_mounted.specs.Orphans.{held_by, with_file, replied_at};
+    ghost use Rattle.vol_mounted.specs.Refusals.{no_node, no_memory};
 
-    /// Puts the reply to an operation on a file other than RELEASE into `room`.
+    /// Puts the reply to an operation on a file other than RELEASE into `room`. If it is refused, no file is changed.
     fn answer(
         &mut self,
         now: u32,
@@ -53,7 +60,12 @@ impl Orphans {
         limits: Limits,
         room: &mut Room,
     ) -> Result<(), MountedRefusal>
-        ensures { held_by self.new.files.items ≤ held_by self.old.files.items + limits.spare }
+        ensures replied { OnOk result (with_file header.now.node self.old.files.items (Err (no_node faults.Stale))
+            (replied_at limits now header.now.unique operation.now self.old.files.items) ≡ Ok (record { files = self.new.files.items; reply = room.new.reply })) }
+        ensures refused { IfErr result (λ refusal. refusal ≢ no_memory → with_file header.now.node self.old.files.items (Err (no_node faults.Stale))
+            (replied_at limits now header.now.unique operation.now self.old.files.items) ≡ Err refusal) }
+        ensures same { OnErr result (self.new.files.items ≡ self.old.files.items) }
+        ensures held { held_by self.new.files.items ≤ held_by self.old.files.items + limits.spare }
     {
         let Some(place) = self.place(header.node) else {
             return Err(MountedRefusal::STALE);
@@ -66,10 +78,13 @@ impl Orphans {
 }
 
 impl Orphan {
-    ghost use Rattle.std.specs.Prelude.{◌≡◌, ◌≤◌, ◌+◌};
-    ghost use Rattle.vol_mounted.specs.Orphans.{size_of};
+    ghost use Rattle.std.specs.Prelude.{◌≡◌, ◌≢◌, ◌≤◌, ◌+◌, Ok, Err, OnOk, IfErr, OnErr};
+    ghost use Rattle.fuse_words.specs.Replies.{attributes_message};
+    ghost use Rattle.vol_mounted.specs.Orphans.{size_of, file_after, file_reply, present_attributes};
+    ghost use Rattle.vol_mounted.specs.Refusals.{no_memory};
 
-    /// Puts the reply to an operation on this file into `room`.
+    /// Puts the reply to an operation on this file other than RELEASE into `room`. If it is refused, the file is unchanged.
+    #[tactic(auto, unfolding(crate::specs::Orphans::file_after, crate::specs::Orphans::file_reply))]
     fn answer(
         &mut self,
         now: u32,
@@ -78,14 +93,16 @@ impl Orphan {
         limits: Limits,
         room: &mut Room,
     ) -> Result<(), MountedRefusal>
-        ensures { size_of self.new ≤ size_of self.old + limits.spare }
+        ensures after { OnOk result (file_after limits now operation.now self.old ≡ Ok self.new) }
+        ensures replied { OnOk result (room.new.reply ≡ file_reply unique operation.now self.new) }
+        ensures refused { IfErr result (λ refusal. refusal ≢ no_memory → file_after limits now operation.now self.old ≡ Err refusal) }
+        ensures same { OnErr result (self.new ≡ self.old) }
+        ensures bounded { size_of self.new ≤ size_of self.old + limits.spare }
     {
         match operation {
             Operation::GetAttr => self.put_attributes(unique, room),
             Operation::SetAttr { changes } => {
-                if let Some(size) = changes.size {
-                    self.resize(size, limits)?;
-                }
+                self.resize(changes.size, limits)?;
                 self.set(now, changes);
                 self.put_attributes(unique, room);
             }
@@ -106,22 +123,24 @@ impl Orphan {
                 room.reply.put_open(unique, 0, KEEP_CACHE);
             }
             Operation::Fsync { .. } => room.reply.put_status(unique, 0),
-            other => return Err(unserved(other)),
+            Operation::Link { .. } => return Err(MountedRefusal::from(NodeFault::NoEntry)),
+            _ => return Err(MountedRefusal::Request(RequestRefusal::Unserved)),
         }
         Ok(())
     }
 
     /// Puts its attributes into `room`.
-    fn put_attributes(&self, unique: u64, room: &mut Room) {
+    fn put_attributes(&self, unique: u64, room: &mut Room)
+        ensures { room.new.reply ≡ attributes_message unique 3600 (present_attributes self.now) }
+    {
         room.reply
             .put_attributes(unique, SECONDS, &self.attributes());
     }
 }
 
-/// Returns the reason for refusing an operation on a file without a name.
-fn unserved(operation: &Operation<'_>) -> MountedRefusal {
-    match operation {
-        Operation::Link { .. } => MountedRefusal::from(NodeFault::NoEntry),
-        _ => MountedRefusal::Request(RequestRefusal::Unserved),
-    }
+/// True for RELEASE.
+fn is_release(operation: &Operation<'_>) -> bool
+    ensures { result ≡ is_release operation.now }
+{
+    matches!(operation, Operation::Release { .. })
 }

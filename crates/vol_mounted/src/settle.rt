@@ -1,10 +1,12 @@
 //! Updates of the known nodes after a request.
-ghost use Rattle.std.specs.Prelude.{◌≡◌, ◌≢◌, ◌≤◌, ◌+◌, ◌==◌, ◌||◌, length, slice_get, None, Some, MatchOption, if◌then◌else◌};
+ghost use Rattle.std.specs.Prelude.{◌≡◌, ◌≢◌, ◌<◌, ◌≤◌, ◌+◌, ◌==◌, ◌||◌, length, slice_get, None, Some, MatchOption, if◌then◌else◌};
 ghost use Rattle.vol_layout.specs.Edition.{constants};
 ghost use Rattle.vol_layout.specs.Geometry.{Fits, geometry_of};
 ghost use Rattle.vol_layout.specs.Slot.{name_of};
 ghost use Rattle.vol_dir.specs.Entries.{entry_in};
 ghost use Rattle.vol_dir.specs.Tree.{tree};
+ghost use Rattle.std.specs.Vec.{vec_capacity};
+ghost use Rattle.vol_mounted.specs.Losses.{kept_after};
 ghost use Rattle.vol_mounted.specs.Orphans.{held_by, size_if};
 ghost use Rattle.vol_mounted.specs.Paths.{place_of};
 ghost use Rattle.vol_mounted.specs.Records.{name_for, name_in, place_for, leads_there, met_again, after_loss};
@@ -109,7 +111,9 @@ impl NodeTable {
 
 /// Records that a file lost a name. If the file was freed, its bytes are kept while it is open; if it has other names, looks for one of them.
 pub(crate) fn settle_loss(nodes: &mut NodeTable, orphans: &mut Orphans, volume: &Volume, loss: Loss)
+    requires { length orphans.old.files.items < vec_capacity orphans.old.files }
     ensures nodes { nodes.new ≡ after_loss (geometry_of volume.now.edition volume.now.image) volume.now.image nodes.old (Some loss.i) }
+    ensures files { orphans.new.files.items ≡ kept_after (geometry_of volume.now.edition volume.now.image) volume.now.image orphans.old.files.items (Some loss.i) loss.orphan }
     ensures held { held_by orphans.new.files.items ≤ held_by orphans.old.files.items + size_if loss.orphan }
 {
     let Loss { i, orphan } = loss;

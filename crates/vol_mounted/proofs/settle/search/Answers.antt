@@ -1,4 +1,4 @@
-use Rattle.std.proofs.Common.{◌≡◌, ◌≤◌, ◌∙◌, ap, ℕ, ◌+◌, ◌-◌, arith, Option, List}
+use Rattle.std.proofs.Common.{◌≡◌, ◌∙◌, ap, ℕ, ◌+◌, ◌-◌, arith, Option, List}
 use Rattle.std.specs.Option.{option_map, option_or}
 use Rattle.vol_mounted.specs.Records.{first_value, name_in}
 use Rattle.vol_mounted.proofs.FirstValues.{value_step, value_none}

@@ -1,4 +1,4 @@
-use Rattle.std.proofs.Common.{◌∙◌, sym, ap, subst, ◌≡◌, ◌≢◌, ◌-◌, ◌+◌, ◌∷◌, ◌++◌, ℕ, List, Option, None, Some, arith, rules, length}
+use Rattle.std.proofs.Common.{◌∙◌, sym, ap, ◌≡◌, ◌-◌, ◌+◌, ◌∷◌, ◌++◌, Some, arith, rules, length}
 use Rattle.vol_layout.specs.Slot.{name_of}
 use Rattle.vol_mounted.specs.Paths.{climb}
 use Rattle.vol_mounted.proofs.Climbs.{climb_none, climb_end, climb_unknown, climb_unmet, climb_up}

@@ -1,7 +1,7 @@
 -- The journal of a volume, in the format of a script.
 use Rattle.std.specs.Prelude.{ℕ, ◌++◌, Bool, if◌then◌else◌, List, [], ◌∷◌, codes, decimal}
 use Rattle.vol_dir.specs.declared.cred.Cred.{Cred}
-use Rattle.vol_volume.specs.Perform.{caller_of}
+use Rattle.vol_volume.specs.Perform.{caller_of, path_of}
 use Rattle.vol_volume.specs.declared.calls.Call.{Call}
 use Rattle.vol_volume.specs.declared.calls.Call.TheVariants as calls
 use Rattle.vol_volume.specs.declared.calls.Record.{Record}
@@ -22,19 +22,6 @@ command_of (calls.Truncate cred now path size) = commands.Truncate
 command_of (calls.Chmod cred now path perm) = commands.Chmod
 command_of (calls.Chown cred now path uid gid) = commands.Chown
 command_of (calls.Times cred now path atime mtime) = commands.Times
-
--- the first path of a call (this project)
-abbrev pub path_of : Call → List ℕ
-path_of (calls.Create cred now path perm) = path
-path_of (calls.Mkdir cred now path perm) = path
-path_of (calls.Link cred now source target) = source
-path_of (calls.Unlink cred now path) = path
-path_of (calls.Rmdir cred now path) = path
-path_of (calls.Write cred now path offset bytes) = path
-path_of (calls.Truncate cred now path size) = path
-path_of (calls.Chmod cred now path perm) = path
-path_of (calls.Chown cred now path uid gid) = path
-path_of (calls.Times cred now path atime mtime) = path
 
 -- the words after a call's first path, each with a space before it (this project)
 abbrev pub words_after : Call → List ℕ

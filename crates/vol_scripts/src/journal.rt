@@ -1,9 +1,8 @@
 //! The journal of a volume, in the format of a script.
 ghost use Rattle.std.specs.Prelude.{◌≡◌, ◌++◌, IfOk, OnOk, codes, decimal};
 ghost use Rattle.std.specs.String.{string_bytes};
-ghost use Rattle.vol_volume.specs.Perform.{caller_of};
 ghost use Rattle.vol_scripts.specs.Grammar.{command_word};
-ghost use Rattle.vol_scripts.specs.Journal.{call_text, command_of, journal_if, path_of, words_after, words_before};
+ghost use Rattle.vol_scripts.specs.Journal.{call_text, command_of, journal_if, words_after, words_before};
 ghost use Rattle.vol_scripts.specs.Texts.{bytes_text, permissions_text};
 
 use crate::commands::Command;
@@ -33,11 +32,11 @@ pub(crate) fn push_journal(
 fn push_call(alloc: Global, text: &mut Vec<u8>, call: &Call) -> Result<(), AllocError>
     ensures { OnOk result (text.new.items ≡ text.old.items ++ call_text call.now) }
 {
-    let (cred, now) = caller_of(call);
-    let before = words_before(alloc, now, cred, command_of(call).name())?;
+    let caller = call.caller();
+    let before = words_before(alloc, caller.moment, caller.cred, command_of(call).name())?;
     let after = words_after(alloc, call)?;
     text.extend_from_slice(before.as_bytes())?;
-    text.extend_from_slice(path_of(call))?;
+    text.extend_from_slice(call.path())?;
     text.extend_from_slice(&after)?;
     Ok(text.push(b'\n')?)
 }
@@ -49,26 +48,6 @@ fn words_before(alloc: Global, now: u32, cred: Cred, command: &str) -> Result<St
 {
     let Cred { uid, gid } = cred;
     format!(in alloc; "{now} {uid} {gid} {command} ")
-}
-
-/// Returns the user and the time of a call.
-fn caller_of(call: &Call) -> (Cred, u32)
-    ensures cred { result.0 ≡ (caller_of call.now).cred }
-    ensures now { result.1 ≡ (caller_of call.now).moment }
-{
-    let (cred, now) = match call {
-        Call::Create { cred, now, .. }
-        | Call::Mkdir { cred, now, .. }
-        | Call::Link { cred, now, .. }
-        | Call::Unlink { cred, now, .. }
-        | Call::Rmdir { cred, now, .. }
-        | Call::Write { cred, now, .. }
-        | Call::Truncate { cred, now, .. }
-        | Call::Chmod { cred, now, .. }
-        | Call::Chown { cred, now, .. }
-        | Call::Times { cred, now, .. } => (cred, now),
-    };
-    (*cred, *now)
 }
 
 /// Returns the command for a call.
@@ -86,24 +65,6 @@ fn command_of(call: &Call) -> Command
         Call::Chmod { .. } => Command::Chmod,
         Call::Chown { .. } => Command::Chown,
         Call::Times { .. } => Command::Times,
-    }
-}
-
-/// Returns the first path of a call.
-fn path_of(call: &Call) -> &[u8]
-    ensures { result.now ≡ path_of call.now }
-{
-    match call {
-        Call::Create { path, .. }
-        | Call::Mkdir { path, .. }
-        | Call::Link { source: path, .. }
-        | Call::Unlink { path, .. }
-        | Call::Rmdir { path, .. }
-        | Call::Write { path, .. }
-        | Call::Truncate { path, .. }
-        | Call::Chmod { path, .. }
-        | Call::Chown { path, .. }
-        | Call::Times { path, .. } => path.as_slice(),
     }
 }
 

@@ -1,14 +1,11 @@
 //! A new file of the host that keeps the holes of the file that it replaces.
-ghost use Rattle.std.specs.Prelude.{◌≡◌, ◌≢◌, ◌<◌, false, length, IfErr, IfOk};
-ghost use Rattle.std.specs.Io.{WritesAtMost};
-ghost use Rattle.std.specs.Io.KnownBytes.{WriteAppends};
-ghost use Rattle.std.specs.IoError.{error_kind};
+ghost use Rattle.std.specs.Prelude.{◌≡◌, false};
 ghost use Rattle.std.specs.Option.{is_some};
 
 use crate::holes::{HoleSink, SinkFailed};
 use crate::image_file::ImageFiles;
-use pdp_words::Sink;
-use std::io::{self, ErrorKind, Write};
+use pdp_words::{Sink, write_uninterrupted};
+use std::io;
 
 /// A new file that bytes are appended to, zeros as holes.
 #[derive(Drop)]
@@ -71,21 +68,4 @@ impl<R: ImageFiles> HoleSink for HoledFile<'_, R> {
         }
         Ok(())
     }
-}
-
-/// Writes bytes from the front of `buf` once, and again if a signal interrupts the write, as `IntoWrite` does.
-fn write_uninterrupted<F: Write>(file: &mut F, buf: &[u8]) -> io::Result<usize>
-    ensures bound { WritesAtMost result buf.now }
-    ensures bytes { WriteAppends (F.contents file.old) (F.contents file.new) result buf.now }
-    ensures progress { 0 < length buf.now → IfOk result (λ n. 0 < n) }
-    ensures retried { IfErr result (λ e. error_kind e ≢ ErrorKind.Interrupted) }
-{
-    'tries: for _ in 0..u64::MAX {
-        match file.write(buf) {
-            Ok(0) if !buf.is_empty() => return Err(io::Error::from(ErrorKind::WriteZero)),
-            Err(error) if error.kind() == ErrorKind::Interrupted => {}
-            result => return result,
-        }
-    }
-    Err(io::Error::from(ErrorKind::TimedOut))
 }

@@ -57,8 +57,9 @@ impl<W: Write> Sink for IntoWrite<W> {
     }
 }
 
-// Writes once, and again if a signal interrupts the write. A write that accepts none of the bytes is an error.
-fn write_uninterrupted<W: Write>(writer: &mut W, buf: &[u8]) -> io::Result<usize>
+/// Writes bytes from the front of `buf` once, and again if a signal interrupts the write. A write that accepts none of the bytes is `WriteZero`. After
+/// 2^64 - 1 interrupts in a row the call returns `TimedOut`.
+pub fn write_uninterrupted<W: Write>(writer: &mut W, buf: &[u8]) -> io::Result<usize>
     ensures bound { WritesAtMost result buf.now }
     ensures bytes { WriteAppends (W.contents writer.old) (W.contents writer.new) result buf.now }
     ensures progress { 0 < length buf.now → IfOk result (λ n. 0 < n) }
@@ -66,14 +67,9 @@ fn write_uninterrupted<W: Write>(writer: &mut W, buf: &[u8]) -> io::Result<usize
 {
     'tries: for _ in 0..u64::MAX {
         match writer.write(buf) {
-            Ok(count) => {
-                if count == 0 && !buf.is_empty() {
-                    return Err(Error::from(ErrorKind::WriteZero));
-                }
-                return Ok(count);
-            }
-            Err(error) if error.kind() != ErrorKind::Interrupted => return Err(error),
-            Err(_) => {}
+            Ok(0) if !buf.is_empty() => return Err(Error::from(ErrorKind::WriteZero)),
+            Err(error) if error.kind() == ErrorKind::Interrupted => {}
+            result => return result,
         }
     }
     Err(Error::from(ErrorKind::TimedOut))

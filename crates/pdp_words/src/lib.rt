@@ -16,7 +16,7 @@ pub use bytes::Bytes;
 pub use device::{Sink, Source};
 pub use from_read::FromRead;
 pub use image::{BLOCK, Image};
-pub use into_write::IntoWrite;
+pub use into_write::{IntoWrite, write_uninterrupted};
 pub use load_image::{LoadFault, load, load_with_capacity};
 pub use save_image::{SaveFault, save, write_all};
 pub use words::{addr3, long, put_addr3, put_long, put_word, word};

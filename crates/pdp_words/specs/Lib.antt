@@ -1,4 +1,5 @@
 pub mod Adapters
 pub mod Devices
 pub mod Mishaps
+pub mod Steps
 pub mod Words

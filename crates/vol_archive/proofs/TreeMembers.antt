@@ -12,7 +12,8 @@ use Rattle.vol_file.specs.Rules.{kind_at}
 use Rattle.vol_dir.specs.Entries.{slots, IsDirectory}
 use Rattle.vol_dir.specs.Names.{get, names_of}
 use Rattle.vol_dir.specs.Tree.{tree, is_number}
-use Rattle.vol_dir.specs.Walk.{components, and_then, walk_from}
+use Rattle.pdp_words.specs.Steps.{and_then}
+use Rattle.vol_dir.specs.Walk.{components, walk_from}
 use Rattle.vol_dir.proofs.Components.{components-nil}
 use Rattle.vol_dir.proofs.PathJoins.{walk_from-append}
 use Rattle.vol_dir.proofs.WalkLaws.{search-directory}

@@ -15,7 +15,8 @@ use Rattle.vol_file.proofs.PlaceLists.{same_bytes}
 use Rattle.vol_dir.specs.Entries.{slots, IsDirectory, HasEntries}
 use Rattle.vol_dir.specs.Names.{Names, get, names_of, is_dots}
 use Rattle.vol_dir.specs.Tree.{tree, is_number}
-use Rattle.vol_dir.specs.Walk.{search, components, and_then, walk_from}
+use Rattle.pdp_words.specs.Steps.{and_then}
+use Rattle.vol_dir.specs.Walk.{search, components, walk_from}
 use Rattle.vol_dir.proofs.WalkLaws.{search-outside, search-directory, search-other}
 use Rattle.vol_dir.specs.declared.refusal.Refusal.TheVariants as refusals
 use Rattle.vol_dir.specs.Access.{user}

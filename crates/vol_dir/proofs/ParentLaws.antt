@@ -4,7 +4,8 @@ use Rattle.std.specs.Option.{option_map}
 use Rattle.vol_layout.specs.Edition.{constants}
 use Rattle.vol_layout.specs.declared.geometry.Geometry.{Geometry}
 use Rattle.vol_dir.specs.Tree.{Tree, tree}
-use Rattle.vol_dir.specs.Walk.{components, search, and_then, find_in, walk_from, split_last, parent_over, walk_parent}
+use Rattle.pdp_words.specs.Steps.{and_then}
+use Rattle.vol_dir.specs.Walk.{components, search, find_in, walk_from, split_last, parent_over, walk_parent}
 use Rattle.vol_dir.specs.declared.cred.Cred.{Cred}
 use Rattle.vol_dir.specs.declared.refusal.Refusal.{Refusal}
 

@@ -4,7 +4,8 @@ use Rattle.std.specs.Prelude.{not}
 use Rattle.std.proofs.lemmas.List.{map-append, append-nil}
 use Rattle.std.proofs.lemmas.List.Elements.{filter-append}
 use Rattle.vol_dir.specs.Tree.{Tree}
-use Rattle.vol_dir.specs.Walk.{root, onto_first, pieces, is_nil, components, parent_over, and_then, find_in, walk_from, walk, walk_parent}
+use Rattle.pdp_words.specs.Steps.{and_then}
+use Rattle.vol_dir.specs.Walk.{root, onto_first, pieces, is_nil, components, parent_over, find_in, walk_from, walk, walk_parent}
 use Rattle.vol_dir.specs.PathLaws.{JoinsComponents, HasNoOuterSlashes, CountsSlashesOnce, BeginsAtRoot, WalksOn}
 use Rattle.vol_dir.proofs.Components.{kept, has_first, components-nil}
 use Rattle.vol_dir.specs.declared.cred.Cred.{Cred}

@@ -1,7 +1,8 @@
 -- Laws of paths and walks.
 use Rattle.std.specs.Prelude.{◌≡◌, ℕ, List, [], ◌∷◌, ◌++◌, None, Ok}
 use Rattle.vol_dir.specs.Tree.{Tree}
-use Rattle.vol_dir.specs.Walk.{root, components, and_then, walk_from, walk, walk_parent}
+use Rattle.pdp_words.specs.Steps.{and_then}
+use Rattle.vol_dir.specs.Walk.{root, components, walk_from, walk, walk_parent}
 use Rattle.vol_dir.specs.declared.cred.Cred.{Cred}
 
 -- the components of two paths joined by a slash are the components of the first, followed by those of the second (Lions on namei)

@@ -2,6 +2,7 @@
 use Rattle.std.specs.Prelude.{◌≡◌, ℕ, ◌≤◌, ◌==◌, Bool, true, false, not, if◌then◌else◌, List, [], ◌∷◌, length, map, filter, take, Option, None, Some, Result, Ok, Err}
 use Rattle.std.specs.List.{list_any}
 use Rattle.std.specs.Option.{option_map, option_map_or, ok_or, is_some}
+use Rattle.pdp_words.specs.Steps.{and_then}
 use Rattle.vol_layout.specs.Edition.{constants}
 use Rattle.vol_dir.specs.Access.{grants, may_execute}
 use Rattle.vol_dir.specs.Names.{Names, get}
@@ -62,11 +63,6 @@ search_node cred node =
 -- the map of the node with i-number i if it is a directory that may be searched, else the refusal (Lions on namei)
 abbrev pub search : Tree → Cred → ℕ → Result Names Refusal
 search tree cred i = option_map_or (search_node cred) (tree.nodes i) (Err refusals.NotDirectory)
-
--- the result of the next step after an Ok; a refusal ends the walk (this project)
-abbrev pub and_then : {X Y : Type 0} → Result X Refusal → (X → Result Y Refusal) → Result Y Refusal
-and_then (Ok x) next = next x
-and_then (Err refusal) next = Err refusal
 
 -- one step of a walk: the node must be a directory, grant execute, and have the name (Lions on namei)
 abbrev pub find_in : Tree → Cred → ℕ → List ℕ → Result ℕ Refusal

@@ -18,7 +18,8 @@ use Rattle.vol_dir.specs.Entries.{HasEntries, entry_at}
 use Rattle.vol_dir.specs.Names.{Names, get, dot}
 use Rattle.vol_dir.specs.Search.{holds}
 use Rattle.vol_dir.specs.Tree.{Tree, tree}
-use Rattle.vol_dir.specs.Walk.{onto_first, pieces, is_nil, components, root, has_zero, search, and_then, find_in, walk_from, walk}
+use Rattle.pdp_words.specs.Steps.{and_then}
+use Rattle.vol_dir.specs.Walk.{onto_first, pieces, is_nil, components, root, has_zero, search, find_in, walk_from, walk}
 use Rattle.vol_dir.proofs.Searches.{found_number}
 use Rattle.vol_dir.proofs.PathJoins.{components-join, walk_from-append, walk-onward}
 use Rattle.vol_dir.specs.declared.refusal.Refusal.{Refusal}

@@ -15,7 +15,8 @@ use Rattle.vol_dir.specs.declared.cred.Cred.{Cred}
 use Rattle.vol_volume.specs.declared.calls.Call.{Call}
 use Rattle.vol_volume.specs.declared.calls.Call.TheVariants as calls
 use Rattle.vol_import.specs.MadeMembers.{is_among, is_for, is_made_at}
-use Rattle.vol_import.specs.Plan.{Drafted, and_next, and_then, below, check, check_link, check_path, directory_calls, file_calls, given_calls, is_crowded, is_dot_dot, is_known, is_long, is_long_path, is_there, joined, made_as, moment_of, names_of, onto, owner_of, permissions_of, plan_onto, steps_of, way_of, with_made, with_path, with_way}
+use Rattle.pdp_words.specs.Steps.{and_then}
+use Rattle.vol_import.specs.Plan.{Drafted, and_next, below, check, check_link, check_path, directory_calls, file_calls, given_calls, is_crowded, is_dot_dot, is_known, is_long, is_long_path, is_there, joined, made_as, moment_of, names_of, onto, owner_of, permissions_of, plan_onto, steps_of, way_of, with_made, with_path, with_way}
 use Rattle.vol_import.specs.declared.member_check.MadeAs.{MadeAs}
 use Rattle.vol_import.specs.declared.member_check.MadeAs.TheVariants.{File, Directory, Link}
 use Rattle.vol_import.specs.declared.member_check.MemberFault.{MemberFault}

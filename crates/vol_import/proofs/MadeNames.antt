@@ -13,7 +13,8 @@ use Rattle.vol_file.proofs.PlaceLists.{bytes_same, same_bytes}
 use Rattle.vol_dir.specs.Access.{user}
 use Rattle.vol_dir.specs.Names.{Names, get, insert, is_dots}
 use Rattle.vol_dir.specs.Tree.{Content, Body, Directory, Device, Node, Tree}
-use Rattle.vol_dir.specs.Walk.{root, components, map_of, is_directory, and_then, find_in, walk_from, walk}
+use Rattle.pdp_words.specs.Steps.{and_then}
+use Rattle.vol_dir.specs.Walk.{root, components, map_of, is_directory, find_in, walk_from, walk}
 use Rattle.vol_dir.proofs.PathJoins.{walk_from-append}
 use Rattle.vol_dir.specs.declared.refusal.Refusal.{Refusal}
 use Rattle.vol_dir.specs.declared.refusal.Refusal.TheVariants as refusals

@@ -14,7 +14,8 @@ use Rattle.vol_dir.specs.Access.{user}
 use Rattle.vol_dir.specs.Entries.{slots, IsDirectory, IsInUse, HasEntries}
 use Rattle.vol_dir.specs.Names.{Names, get, names_of}
 use Rattle.vol_dir.specs.Tree.{Node, Tree, tree, is_number}
-use Rattle.vol_dir.specs.Walk.{root, has_zero, components, search, search_node, and_then, walk_from, walk, split_last, parent_from, walk_parent}
+use Rattle.pdp_words.specs.Steps.{and_then}
+use Rattle.vol_dir.specs.Walk.{root, has_zero, components, search, search_node, walk_from, walk, split_last, parent_from, walk_parent}
 use Rattle.vol_dir.proofs.WalkLaws.{found_in_use, IsInUse-root, search-outside, search-directory, search-other}
 use Rattle.vol_dir.specs.declared.refusal.Refusal.{Refusal}
 use Rattle.vol_dir.specs.declared.refusal.Refusal.TheVariants as refusals

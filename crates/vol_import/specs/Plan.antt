@@ -7,6 +7,7 @@ use Rattle.std.specs.List.{find, flat_map, list_any, slice_split}
 use Rattle.std.specs.Option.{option_map}
 use Rattle.std.specs.Ordering.{nat_cmp}
 use Rattle.std.specs.Str.{bytes_eq}
+use Rattle.pdp_words.specs.Steps.{and_then}
 use Rattle.ustar.specs.declared.header.MemberKind.TheVariants as members
 use Rattle.ustar.specs.declared.read.ReadHeader.{ReadHeader}
 use Rattle.ustar.specs.declared.read.TypeFlag.{TypeFlag}
@@ -34,11 +35,6 @@ use Rattle.vol_import.specs.declared.draft.Draft.{Draft}
 use Rattle.vol_import.specs.declared.import_plan.PlanFault.{PlanFault}
 use Rattle.vol_import.specs.declared.import_plan.PlanFault.TheVariants as plans
 use Rattle.vol_import.specs.declared.archive_members.Member.{Member}
-
--- the result of the next step after an Ok, or the fault (this project)
-abbrev pub and_then : {X Y : Type 0} → Result X MemberFault → (X → Result Y MemberFault) → Result Y MemberFault
-and_then (Ok x) next = next x
-and_then (Err fault) next = Err fault
 
 -- true if a path is longer than the 4,096 bytes that a member's path may have (this project)
 abbrev pub is_long_path : List ℕ → Bool

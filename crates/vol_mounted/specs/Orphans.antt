@@ -8,12 +8,13 @@ use Rattle.fuse_words.specs.declared.operation.Operation.{Operation}
 use Rattle.fuse_words.specs.declared.operation.Operation.TheVariants as operations
 use Rattle.fuse_words.specs.declared.reply.Attributes.{Attributes}
 use Rattle.fuse_words.specs.declared.request.Header.{Header}
+use Rattle.pdp_words.specs.Steps.{and_then}
 use Rattle.vol_dir.specs.declared.refusal.Refusal.TheVariants as refusals
 use Rattle.vol_file.specs.Changes.{spliced}
 use Rattle.vol_nodes.specs.declared.fault.NodeFault.TheVariants as faults
 use Rattle.vol_serve.specs.declared.errno.RequestRefusal.TheVariants as requests
 use Rattle.vol_mounted.specs.Plans.{set_time}
-use Rattle.vol_mounted.specs.Refusals.{no_node, no_space, and_then}
+use Rattle.vol_mounted.specs.Refusals.{no_node, no_space}
 use Rattle.vol_mounted.specs.Replies.{count_of}
 use Rattle.vol_mounted.specs.declared.orphan.Limits.{Limits}
 use Rattle.vol_mounted.specs.declared.refusal.MountedRefusal.{MountedRefusal}

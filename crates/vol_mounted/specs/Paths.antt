@@ -11,7 +11,8 @@ use Rattle.vol_dir.specs.Walk.{walk}
 use Rattle.vol_dir.specs.declared.refusal.Refusal.{Refusal}
 use Rattle.vol_nodes.specs.declared.fault.NodeFault.TheVariants as faults
 use Rattle.vol_serve.specs.declared.errno.RequestRefusal.TheVariants as requests
-use Rattle.vol_mounted.specs.Refusals.{no_node, and_then}
+use Rattle.pdp_words.specs.Steps.{and_then}
+use Rattle.vol_mounted.specs.Refusals.{no_node}
 use Rattle.vol_mounted.specs.declared.refusal.MountedRefusal.{MountedRefusal}
 use Rattle.vol_mounted.specs.declared.refusal.MountedRefusal.TheVariants.{Request}
 use Rattle.vol_mounted.specs.declared.known.KnownNode.{KnownNode}

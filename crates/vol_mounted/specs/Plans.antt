@@ -24,7 +24,8 @@ use Rattle.vol_nodes.specs.Nodes.{stat_in, look_up}
 use Rattle.vol_nodes.specs.declared.fault.NodeFault.{NodeFault}
 use Rattle.vol_nodes.specs.declared.fault.NodeFault.TheVariants as faults
 use Rattle.vol_mounted.specs.Paths.{path_to, path_of_name}
-use Rattle.vol_mounted.specs.Refusals.{no_node, and_then, of_nodes}
+use Rattle.pdp_words.specs.Steps.{and_then}
+use Rattle.vol_mounted.specs.Refusals.{no_node, of_nodes}
 use Rattle.vol_mounted.specs.declared.known.KnownNode.{KnownNode}
 use Rattle.vol_mounted.specs.declared.owner.Owner.{Owner}
 use Rattle.vol_mounted.specs.declared.refusal.MountedRefusal.{MountedRefusal}

@@ -18,11 +18,6 @@ no_memory = Call refusals.NoMemory
 abbrev pub no_space : MountedRefusal
 no_space = Call refusals.NoSpace
 
--- the next step, if the first one succeeded; otherwise the refusal (this project)
-abbrev pub and_then : {X Y : Type 0} → Result X MountedRefusal → (X → Result Y MountedRefusal) → Result Y MountedRefusal
-and_then (Ok x) next = next x
-and_then (Err refusal) next = Err refusal
-
 -- a result whose fault is turned into a refusal (this project)
 abbrev pub of_nodes : {X : Type 0} → Result X NodeFault → Result X MountedRefusal
 of_nodes (Ok x) = Ok x

@@ -21,7 +21,8 @@ use Rattle.vol_serve.specs.declared.errno.RequestRefusal.TheVariants as requests
 use Rattle.vol_volume.specs.declared.calls.Call.{Call}
 use Rattle.vol_mounted.specs.Numbers.{node_number, i_number}
 use Rattle.vol_mounted.specs.Plans.{Sight, stat_at, file_calls, directory_calls, unlink_calls, rmdir_calls, link_calls, rename_calls, write_calls, attribute_calls}
-use Rattle.vol_mounted.specs.Refusals.{no_node, and_then, of_nodes}
+use Rattle.pdp_words.specs.Steps.{and_then}
+use Rattle.vol_mounted.specs.Refusals.{no_node, of_nodes}
 use Rattle.vol_mounted.specs.declared.owner.Owner.{Owner}
 use Rattle.vol_mounted.specs.declared.refusal.MountedRefusal.{MountedRefusal}
 use Rattle.vol_mounted.specs.declared.refusal.MountedRefusal.TheVariants as mounted

@@ -17,7 +17,8 @@ use Rattle.vol_layout.specs.Geometry.{geometry_of}
 use Rattle.vol_mounted.specs.Losses.{lost_bytes, lost_node, lost_file, kept_after}
 use Rattle.vol_mounted.specs.Orphans.{KeptFile, files_after}
 use Rattle.vol_mounted.specs.Records.{remembered}
-use Rattle.vol_mounted.specs.Refusals.{and_then, no_memory, no_space}
+use Rattle.pdp_words.specs.Steps.{and_then}
+use Rattle.vol_mounted.specs.Refusals.{no_memory, no_space}
 use Rattle.vol_mounted.specs.Replies.{calls_of, reply_of}
 use Rattle.vol_mounted.specs.Servers.{sight_at, files_in, limits_in, spare_in, Kept, Made, IsStopped}
 use Rattle.vol_mounted.specs.declared.refusal.MountedRefusal.{MountedRefusal}

@@ -12,7 +12,8 @@ use Rattle.vol_judge.proofs.Parts.{sound_files, sound_entries}
 use Rattle.vol_dir.specs.Access.{user, may_read}
 use Rattle.vol_dir.specs.Names.{Names, get, names_of}
 use Rattle.vol_dir.specs.Tree.{Content, Body, Directory, Device, Node, Tree, tree}
-use Rattle.vol_dir.specs.Walk.{IsComponent, and_then, components, find_in, has_zero, map_of, search, search_node, walk, walk_from}
+use Rattle.pdp_words.specs.Steps.{and_then}
+use Rattle.vol_dir.specs.Walk.{IsComponent, components, find_in, has_zero, map_of, search, search_node, walk, walk_from}
 use Rattle.vol_dir.proofs.PathJoins.{walk-onward}
 use Rattle.vol_dir.specs.declared.refusal.Refusal.{Refusal}
 use Rattle.vol_dir.specs.declared.refusal.Refusal.TheVariants as refusals

@@ -15,7 +15,8 @@ use Rattle.vol_judge.specs.Graph.{kind_in}
 use Rattle.vol_dir.specs.Access.{user}
 use Rattle.vol_dir.specs.Names.{Names, get, remove}
 use Rattle.vol_dir.specs.Tree.{Content, Body, Directory, Device, Node, Tree, State, tree, node_of, is_number}
-use Rattle.vol_dir.specs.Walk.{root, components, map_of, is_directory, and_then, walk_from, walk, walk_parent}
+use Rattle.pdp_words.specs.Steps.{and_then}
+use Rattle.vol_dir.specs.Walk.{root, components, map_of, is_directory, walk_from, walk, walk_parent}
 use Rattle.vol_dir.proofs.PathJoins.{walk_from-append}
 use Rattle.vol_dir.specs.declared.refusal.Refusal.{Refusal}
 use Rattle.vol_dir.specs.declared.refusal.Refusal.TheVariants as refusals

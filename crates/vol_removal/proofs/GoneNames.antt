@@ -4,7 +4,8 @@ use Rattle.std.specs.Prelude.{Option, Result}
 use Rattle.std.specs.Option.{ok_or}
 use Rattle.vol_dir.specs.Names.{Names, get}
 use Rattle.vol_dir.specs.Tree.{Tree}
-use Rattle.vol_dir.specs.Walk.{search, and_then, walk_from}
+use Rattle.pdp_words.specs.Steps.{and_then}
+use Rattle.vol_dir.specs.Walk.{search, walk_from}
 use Rattle.vol_dir.specs.declared.cred.Cred.{Cred}
 use Rattle.vol_dir.specs.declared.refusal.Refusal.{Refusal}
 use Rattle.vol_dir.specs.declared.refusal.Refusal.TheVariants as refusals

@@ -6,7 +6,8 @@ use Rattle.std.proofs.lemmas.Bool.{false≢true}
 use Rattle.vol_dir.specs.Access.{grants, may_execute, may_read}
 use Rattle.vol_dir.specs.Names.{Names, get}
 use Rattle.vol_dir.specs.Tree.{Node, Tree, State}
-use Rattle.vol_dir.specs.Walk.{has_zero, map_of, search_node, search, and_then, find_in, walk_from, walk, parent_from, walk_parent, split_last, components, root, is_directory}
+use Rattle.pdp_words.specs.Steps.{and_then}
+use Rattle.vol_dir.specs.Walk.{has_zero, map_of, search_node, search, find_in, walk_from, walk, parent_from, walk_parent, split_last, components, root, is_directory}
 use Rattle.vol_layout.specs.Ids.{is_bad_id}
 use Rattle.vol_change.specs.Nodes.{node_at}
 use Rattle.vol_volume.specs.Journal.{Refuses}

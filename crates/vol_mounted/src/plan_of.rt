@@ -3,7 +3,7 @@ use crate::calls::Calls;
 use crate::refusal::MountedRefusal;
 use crate::rename::Renaming;
 use crate::scene::Scene;
-use fuse_words::{Header, Operation};
+use fuse_words::{Header, Name, Operation};
 
 impl Scene<'_> {
     ghost use Rattle.vol_mounted.specs.Refusals.{Gives};
@@ -21,20 +21,14 @@ impl Scene<'_> {
     {
         match operation {
             Operation::MkNod { mode, name, .. } => {
-                let dir = self.number(header.node)?;
-                self.make_file(header, dir, name.as_slice(), *mode)
+                self.make_file(header, self.number(header.node)?, name.as_slice(), *mode)
             }
             Operation::MkDir { mode, name } => {
-                let dir = self.number(header.node)?;
-                self.make_directory(header, dir, name.as_slice(), *mode)
+                self.make_directory(header, self.number(header.node)?, name.as_slice(), *mode)
             }
-            Operation::Unlink { name } => {
-                let dir = self.number(header.node)?;
-                self.unlink(dir, name.as_slice())
-            }
+            Operation::Unlink { name } => self.unlink(self.number(header.node)?, name.as_slice()),
             Operation::RmDir { name } => {
-                let dir = self.number(header.node)?;
-                self.remove_directory(dir, name.as_slice())
+                self.remove_directory(self.number(header.node)?, name.as_slice())
             }
             Operation::Link { node, name } => {
                 let dir = self.number(header.node)?;
@@ -45,30 +39,20 @@ impl Scene<'_> {
                 directory,
                 name,
                 new_name,
-            } => self.renamed(header, *directory, 0, name.as_slice(), new_name.as_slice()),
+            } => self.renamed(header, *directory, 0, name, new_name),
             Operation::Rename2 {
                 directory,
                 flags,
                 name,
                 new_name,
-            } => self.renamed(
-                header,
-                *directory,
-                *flags,
-                name.as_slice(),
-                new_name.as_slice(),
-            ),
+            } => self.renamed(header, *directory, *flags, name, new_name),
             Operation::Write {
                 offset,
                 content,
                 ..
-            } => {
-                let i = self.number(header.node)?;
-                self.write(i, *offset, content.as_slice())
-            }
+            } => self.write(self.number(header.node)?, *offset, content.as_slice()),
             Operation::SetAttr { changes } => {
-                let i = self.number(header.node)?;
-                self.set_attributes(i, changes)
+                self.set_attributes(self.number(header.node)?, changes)
             }
             _ => Ok(Calls::none(self.alloc)),
         }
@@ -80,8 +64,8 @@ impl Scene<'_> {
         header: &Header,
         directory: u64,
         flags: u32,
-        name: &[u8],
-        new_name: &[u8],
+        name: &Name<'_>,
+        new_name: &Name<'_>,
     ) -> Result<Calls, MountedRefusal>
         ensures { Gives (renamed (sight_of self.now) header.now directory flags name.now new_name.now) result }
     {
@@ -89,9 +73,9 @@ impl Scene<'_> {
         let new_dir = self.number(directory)?;
         self.rename(&Renaming {
             dir,
-            name,
+            name: name.as_slice(),
             new_dir,
-            new_name,
+            new_name: new_name.as_slice(),
             flags,
         })
     }

@@ -1,7 +1,7 @@
 //! What a file that is put keeps of the host's file, besides its bytes.
 
 /// What to keep of the host's file, besides its bytes.
-#[derive(Clone, Copy, PartialEq, Eq)]
+#[derive(Clone, Copy)]
 pub enum Keep {
     /// Nothing: a new file has permissions 0644, and an existing one keeps its own.
     Nothing,

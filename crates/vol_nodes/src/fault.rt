@@ -1,7 +1,7 @@
 //! Errors of a node.
 
 /// The reason why a request for a node failed.
-#[derive(Clone, Copy, PartialEq, Eq)]
+#[derive(Clone, Copy)]
 pub enum NodeFault {
     /// No node has this number: it is outside the volume, its i-node is free, or the i-node's kind isn't one of the edition's.
     Stale,

@@ -42,46 +42,32 @@ fn main(rt: HostRuntime) -> ExitCode {
             return ExitCode::from(explain::explain_words(&rt, &error, place));
         }
     };
-    let is_watched = rt.stderr().is_terminal();
-    let host = Surroundings {
-        rt: &rt,
-        words: words.as_slice(),
-        is_watched,
-        explains: command_line::asks_to_explain(words.as_slice())
-            || looks::wants_meanings(&rt, is_watched),
-    };
+    let errors = rt.stderr();
+    let host = Surroundings::new(&rt, words.as_slice(), errors.is_terminal());
     let output = rt.stdout();
     let screen = looks::screen(&rt, output.is_terminal());
     match command_line::read(rt.alloc(), moment(&rt), words.as_slice()) {
         Ok(Invocation::Work { volume, work }) => {
-            threads::run_to_end(&host, screen, output, rt.stderr(), volume, work)
+            threads::run_to_end(&host, screen, output, errors, volume, work)
         }
         Ok(Invocation::Look { volume, look }) => {
-            looks::run_to_end(&host, screen, output, rt.stderr(), volume, look)
+            looks::run_to_end(&host, screen, output, errors, volume, look)
         }
         Ok(Invocation::Change { volume, change }) => {
             let input = rt.stdin();
             let is_terminal = input.is_terminal();
-            changes::run_to_end(
-                &host,
-                input,
-                is_terminal,
-                output,
-                rt.stderr(),
-                volume,
-                change,
-            )
+            changes::run_to_end(&host, input, is_terminal, output, errors, volume, change)
         }
         Ok(Invocation::Copy { volume, copying }) => {
-            copy::run_to_end(&host, output, rt.stderr(), volume, copying)
+            copy::run_to_end(&host, output, errors, volume, copying)
         }
         Ok(Invocation::Serve { volume, serving }) => {
-            serve::run_to_end(&host, rt.stdin(), output, rt.stderr(), volume, serving)
+            serve::run_to_end(&host, rt.stdin(), output, errors, volume, serving)
         }
         Ok(Invocation::Identify { images }) => {
-            identify::run_to_end(&host, output, rt.stderr(), &images)
+            identify::run_to_end(&host, output, errors, &images)
         }
-        read => commands::run_to_end(&host, output, rt.stderr(), read),
+        read => commands::run_to_end(&host, output, errors, read),
     }
 }
 

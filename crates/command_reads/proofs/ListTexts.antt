@@ -20,7 +20,7 @@ use Rattle.command_reads.specs.Inode.{inode_back, inode_data, inode_front, inode
 use Rattle.vol_listing.specs.Json.{count}
 use Rattle.command_reads.specs.Json.{between_braces, count_or_null, counts, extent_data, item_text, later_text, listed_text}
 
--- the items after the first, with the bracket behind them
+-- the items after the first, with the bracket after them
 items_later : {X : Type 0} (shown : X → Data) (xs : List X) → items_text true (items_of (map shown xs)) ≡ flat_map (later_text shown) xs ++ 93 ∷ []
 unfolding item_text
 items_later shown [] = refl
@@ -28,7 +28,7 @@ items_later shown (x ∷ xs) =
     ap (λ rest. 44 ∷ (compact_text (shown x) ++ rest)) (items_later shown xs)
     ∙ ap (λ rest. 44 ∷ rest) (sym (append_assoc (compact_text (shown x)) (flat_map (later_text shown) xs) (93 ∷ [])))
 
--- the items of a list, with the bracket behind them
+-- the items of a list, with the bracket after them
 items_listed : {X : Type 0} (shown : X → Data) (xs : List X) → items_text false (items_of (map shown xs)) ≡ listed_text shown xs ++ 93 ∷ []
 unfolding item_text
 items_listed shown [] = refl
@@ -53,9 +53,9 @@ few_around f xs from few =
     ∙ (ap (λ front. front ++ flat_map f (drop (from + few) xs)) (sym (few_more f xs from few))
     ∙ append_assoc (flat_map f (take from xs)) (flat_map f (slice_range xs from (from + few))) (flat_map f (drop (from + few) xs))))
 
--- the brackets and the newline behind the items are the last piece of a report
-behind : (items : List ℕ) → items ++ codes "]}\n" ≡ ((items ++ 93 ∷ []) ++ 125 ∷ []) ++ codes "\n"
-behind items = sym (append_assoc (items ++ 93 ∷ []) (125 ∷ []) (codes "\n") ∙ append_assoc items (93 ∷ []) (125 ∷ codes "\n"))
+-- the brackets and the newline after the items are the last piece of a report
+after_items : (items : List ℕ) → items ++ codes "]}\n" ≡ ((items ++ 93 ∷ []) ++ 125 ∷ []) ++ codes "\n"
+after_items items = sym (append_assoc (items ++ 93 ∷ []) (125 ∷ []) (codes "\n") ∙ append_assoc items (93 ∷ []) (125 ∷ codes "\n"))
 
 -- a report is written in three pieces
 in_three : (faults : Bool) (items : List ℕ)
@@ -63,8 +63,8 @@ in_three : (faults : Bool) (items : List ℕ)
     ≡ (123 ∷ (compact_text (string (codes "faults")) ++ 58 ∷ (compact_text (boolean faults)
     ++ (44 ∷ (compact_text (string (codes "lines")) ++ 58 ∷ (91 ∷ ((items ++ 93 ∷ []) ++ 125 ∷ []))))))) ++ codes "\n"
 unfolding serde_json_on_literals
-in_three true items = ap (λ rest. codes "{\"faults\":true,\"lines\":[" ++ rest) (behind items)
-in_three false items = ap (λ rest. codes "{\"faults\":false,\"lines\":[" ++ rest) (behind items)
+in_three true items = ap (λ rest. codes "{\"faults\":true,\"lines\":[" ++ rest) (after_items items)
+in_three false items = ap (λ rest. codes "{\"faults\":false,\"lines\":[" ++ rest) (after_items items)
 
 -- the pieces of a checker's report are its text
 pub report_pieces : (report : List Line) → report_front report ++ (listed_text line_data report ++ codes "]}\n") ≡ checker_json report
@@ -73,22 +73,22 @@ report_pieces report =
     ∙ ap (λ items. (123 ∷ (compact_text (string (codes "faults")) ++ 58 ∷ (compact_text (boolean (has_faults report))
     ++ (44 ∷ (compact_text (string (codes "lines")) ++ 58 ∷ (91 ∷ (items ++ 125 ∷ []))))))) ++ codes "\n") (sym (items_listed line_data report))
 
--- the text of a member and of the others, with more text behind them
-behind_member : (comma key value rest more : List ℕ)
+-- the text of a member and of the others, with more text after them
+after_member : (comma key value rest more : List ℕ)
     → comma ++ (key ++ 58 ∷ (value ++ (rest ++ more))) ≡ (comma ++ (key ++ 58 ∷ (value ++ rest))) ++ more
-behind_member comma key value rest more =
+after_member comma key value rest more =
     ap (λ r. comma ++ (key ++ 58 ∷ r)) (sym (append_assoc value rest more))
     ∙ (ap (λ r. comma ++ r) (sym (append_assoc key (58 ∷ (value ++ rest)) more))
     ∙ sym (append_assoc comma (key ++ 58 ∷ (value ++ rest)) more))
 
--- the text of an object's members, with its brace behind them
+-- the text of an object's members, with its brace after them
 pub closed : (later : Bool) (ms : Members) → members_text later ms ≡ between_braces later ms ++ 125 ∷ []
 closed later no_members = refl
 closed later (member k d ms) =
     let key = compact_text (string k) in
     let value = compact_text d in
     ap (λ rest. comma_if later ++ (key ++ 58 ∷ (value ++ rest))) (closed true ms)
-    ∙ behind_member (comma_if later) key value (between_braces true ms) (125 ∷ [])
+    ∙ after_member (comma_if later) key value (between_braces true ms) (125 ∷ [])
 
 -- some members, followed by others
 join : Members → Members → Members
@@ -103,7 +103,7 @@ joined (member k d ms) more =
     let key = compact_text (string k) in
     let value = compact_text d in
     ap (λ rest. 44 ∷ (key ++ 58 ∷ (value ++ rest))) (joined ms more)
-    ∙ behind_member (44 ∷ []) key value (between_braces true ms) (members_text true more)
+    ∙ after_member (44 ∷ []) key value (between_braces true ms) (members_text true more)
 
 joined_first : (k : List ℕ) (d : Data) (ms more : Members)
     → members_text false (join (member k d ms) more) ≡ between_braces false (member k d ms) ++ members_text true more
@@ -112,17 +112,17 @@ joined_first k d ms more =
     let key = compact_text (string k) in
     let value = compact_text d in
     ap (λ rest. key ++ 58 ∷ (value ++ rest)) (joined ms more)
-    ∙ behind_member [] key value (between_braces true ms) (members_text true more)
+    ∙ after_member [] key value (between_braces true ms) (members_text true more)
 
 -- the last piece of an i-node's report is the rest of its text
-behind_extents : (items back : List ℕ)
+after_extents : (items back : List ℕ)
     → items ++ (codes "]," ++ (back ++ codes "}\n")) ≡ ((items ++ 93 ∷ []) ++ (44 ∷ (back ++ 125 ∷ []))) ++ codes "\n"
-behind_extents items back =
+after_extents items back =
     sym (append_assoc (items ++ 93 ∷ []) (44 ∷ (back ++ 125 ∷ [])) (codes "\n")
     ∙ (ap (λ rest. (items ++ 93 ∷ []) ++ 44 ∷ rest) (append_assoc back (125 ∷ []) (codes "\n"))
     ∙ append_assoc items (93 ∷ []) (44 ∷ (back ++ codes "}\n"))))
 
--- the text of an i-node's report behind its first members
+-- the text of an i-node's report after its first members
 abbrev from_extents : List ℕ → List ℕ → List ℕ
 from_extents items back = 44 ∷ (compact_text (string (codes "extents")) ++ 58 ∷ (91 ∷ (items ++ (44 ∷ back))))
 
@@ -133,7 +133,7 @@ around_extents : (front items back : List ℕ)
 unfolding serde_json_on_literals
 around_extents front items back =
     ap (λ rest. 123 ∷ rest) (append_assoc front (codes ",\"extents\":[") (items ++ (codes "]," ++ (back ++ codes "}\n")))
-    ∙ (ap (λ rest. front ++ (codes ",\"extents\":[" ++ rest)) (behind_extents items back)
+    ∙ (ap (λ rest. front ++ (codes ",\"extents\":[" ++ rest)) (after_extents items back)
     ∙ sym (append_assoc front (from_extents (items ++ 93 ∷ []) (back ++ 125 ∷ [])) (codes "\n"))))
 
 -- the text of an i-node's members, from those before the extents on
@@ -180,13 +180,13 @@ pub has_first : (ms : Members) (text : List ℕ) → text ≡ compact_text (obje
 has_first ms text is = subst (λ (t : List ℕ). 1 ≤ length t) (sym is) (omega arith)
 
 -- the text of an object without its first brace
-pub behind_brace : (ms : Members) (text : List ℕ) → text ≡ compact_text (object ms) → drop 1 text ≡ between_braces false ms ++ 125 ∷ []
-behind_brace ms text is = ap (drop 1) is ∙ closed false ms
+pub after_brace : (ms : Members) (text : List ℕ) → text ≡ compact_text (object ms) → drop 1 text ≡ between_braces false ms ++ 125 ∷ []
+after_brace ms text is = ap (drop 1) is ∙ closed false ms
 
--- the text behind a list is put together from three pieces
-pub behind_pieces : (back first second third members : List ℕ) → third ≡ second ++ 10 ∷ [] → second ≡ first ++ members → first ≡ codes "],"
+-- the text after a list is put together from three pieces
+pub after_pieces : (back first second third members : List ℕ) → third ≡ second ++ 10 ∷ [] → second ≡ first ++ members → first ≡ codes "],"
     → members ≡ back ++ 125 ∷ [] → third ≡ codes "]," ++ (back ++ codes "}\n")
-behind_pieces back first second third members last middle front is =
+after_pieces back first second third members last middle front is =
     last
     ∙ (ap (λ text. text ++ 10 ∷ []) (middle ∙ (ap (λ text. text ++ members) front ∙ ap (λ text. codes "]," ++ text) is))
     ∙ (append_assoc (codes "],") (back ++ 125 ∷ []) (10 ∷ [])

@@ -66,7 +66,7 @@ members_back report =
 unfoldable pub inode_front : InodeReport → List ℕ
 inode_front report = 123 ∷ (between_braces false (members_front report) ++ codes ",\"extents\":[")
 
--- the text of the report behind its extents (RFC 8259)
+-- the text of the report after its extents (RFC 8259)
 unfoldable pub inode_back : InodeReport → List ℕ
 inode_back report = codes "]," ++ (between_braces false (members_back report) ++ codes "}\n")
 

@@ -122,7 +122,7 @@ fn put_front<O: Sink>(alloc: Global, report: &InodeReport, output: &mut O) -> Re
     put(&front, output)
 }
 
-/// Writes the extents, and the text behind them.
+/// Writes the extents, and the text after them.
 fn put_rest<O: Sink>(alloc: Global, report: &InodeReport, output: &mut O) -> Result<(), WriteFault>
     ensures { Writes (O.contents output.old) (O.contents output.new) (O.failed output.old) (O.failed output.new)
         (listed_text extent_data report.now.extents.items ++ inode_back report.now) result }
@@ -131,7 +131,7 @@ fn put_rest<O: Sink>(alloc: Global, report: &InodeReport, output: &mut O) -> Res
     put_back(alloc, report, output)
 }
 
-/// Writes the text behind the extents.
+/// Writes the text after the extents.
 fn put_back<O: Sink>(alloc: Global, report: &InodeReport, output: &mut O) -> Result<(), WriteFault>
     ensures { Writes (O.contents output.old) (O.contents output.new) (O.failed output.old) (O.failed output.new) (inode_back report.now) result }
 {
@@ -149,14 +149,14 @@ fn inode_front(alloc: Global, report: &InodeReport) -> Result<Vec<u8>, AllocErro
     Ok(text)
 }
 
-/// Returns the text behind the extents: that of an object with the members after them, without its first brace.
+/// Returns the text after the extents: that of an object with the members after them, without its first brace.
 fn inode_back(alloc: Global, report: &InodeReport) -> Result<Vec<u8>, AllocError>
     ensures { IfOk result (λ text. text.items ≡ inode_back report.now) }
 {
     let members = back_text(alloc, report)?;
     let mut text = Vec::new(alloc);
     text.extend_from_slice(b"],")?;
-    text.extend_from_slice(behind_first(members.as_bytes()))?;
+    text.extend_from_slice(after_first(members.as_bytes()))?;
     text.push(b'\n')?;
     Ok(text)
 }
@@ -169,8 +169,8 @@ fn before_last(text: &[u8]) -> &[u8]
     &text[..text.len() - 1]
 }
 
-/// Returns the bytes behind the first one.
-fn behind_first(text: &[u8]) -> &[u8]
+/// Returns the bytes after the first one.
+fn after_first(text: &[u8]) -> &[u8]
     requires { 1 ≤ length text.now }
     ensures { result.now ≡ drop 1 text.now }
 {

@@ -1,6 +1,5 @@
 use Rattle.std.proofs.Common.{◌≡◌, ◌∙◌, ap, sym, subst}
 use Rattle.vol_layout.specs.Geometry.{geometry_of}
-use Rattle.vol_layout.specs.declared.edition.Edition.{Edition}
 use Rattle.vol_layout.specs.declared.geometry.Geometry.{Geometry}
 use Rattle.vol_layout.proofs.GeometryLaws.{geometry_is}
 use Rattle.vol_judge.specs.Sound.{IsSound}

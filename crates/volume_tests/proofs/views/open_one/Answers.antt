@@ -1,4 +1,4 @@
-use Rattle.std.proofs.Common.{◌≡◌, [], ◌∷◌, All, Some, ap, subst}
+use Rattle.std.proofs.Common.{◌≡◌, All, Some, ap, subst}
 use Rattle.vol_shared.proofs.Lists.{all_last}
 use Rattle.vol_shared.specs.Sessions.{Known}
 use Rattle.vol_views.specs.Views.{Watched}

@@ -1,10 +1,11 @@
 -- Lemmas on images that were cut off.
-use Rattle.std.proofs.Common.{◌≡◌, ℕ, ◌+◌, ◌-◌, ◌*◌, ◌/◌, ◌<◌, ◌≤◌, ◌∙◌, sym, ap, Bool, true, false, not, nat_le, List, [], ◌++◌, length, replicate, get_or, refl, arith, inl, inr}
+use Rattle.std.proofs.Common.{◌≡◌, ℕ, ◌+◌, ◌-◌, ◌*◌, ◌/◌, ◌<◌, ◌≤◌, ◌∙◌, sym, ap, Bool, true, false, not, nat_le, List, [], ◌++◌, length, replicate, get_or, refl, arith, inl, inr, nat_lt, cond, subst, take, drop, append_assoc}
 use Rattle.std.proofs.lemmas.Bool.{cases_lt, lt-leb, le-leb, leb-true, true≢false}
-use Rattle.std.proofs.lemmas.List.{append-nil, get_or_append_left}
+use Rattle.std.proofs.lemmas.List.{append-nil, get_or_append_left, take-append-drop}
+use Rattle.vol_layout.specs.Geometry.{Fits, block_count}
 use Rattle.vol_layout.specs.declared.geometry.Geometry.{Geometry}
 use Rattle.vol_losses.specs.Losses.{is_lost, AgreesOutside}
-use Rattle.vol_losses.specs.CutImages.{IsFilled}
+use Rattle.vol_losses.specs.CutImages.{IsCompleted, IsCompletedIf, IsFilled}
 use Rattle.vol_losses.proofs.LostPaths.{no_marks}
 
 -- a block that isn't lost is whole in the bytes that are left
@@ -44,3 +45,29 @@ marks_from bytes lost k below above = elim (cases_lt k (length bytes / 512)) [
       let short : length bytes < 512 * k + 512 = omega arith in
       above high ∙ sym (ap not (lt-leb (512 * k + 512) (length bytes) short))
 ]
+
+-- the bytes after a part of the bytes
+rest_of : (n : ℕ) (bytes rest : List ℕ) → take n bytes ++ (drop n bytes ++ rest) ≡ bytes ++ rest
+rest_of n bytes rest = sym (append_assoc (take n bytes) (drop n bytes) rest) ∙ ap (λ xs. xs ++ rest) (take-append-drop n bytes)
+
+-- an image that was completed agrees with every image that begins with its bytes, outside the lost blocks
+pub completed_agrees : (geometry : Geometry) (lost : List Bool) (bytes rest image : List ℕ) → Fits geometry image
+    → geometry.zone_end ≡ block_count geometry.edition bytes → IsCompleted geometry.edition bytes image lost
+    → AgreesOutside geometry lost image (bytes ++ rest)
+completed_agrees geometry lost bytes rest image fits end completed =
+    let blocks = block_count geometry.edition bytes in
+    elim (nat_le 1024 (length bytes)) as (λ b. IsCompletedIf b geometry.edition bytes image lost → AgreesOutside geometry lost image (bytes ++ rest)) [
+      | false ↦ λ same. record {
+        bytes = λ k r inside low sure.
+            let at : 512 * k + r < length image = omega (arith, inside, low, fits.blocks) in
+            ap (λ xs. get_or (xs ++ rest) (512 * k + r) 0) (sym same.0) ∙ get_or_append_left image rest 0 (512 * k + r) at;
+      }
+      | true ↦ λ filled.
+          let within : (t : List ℕ) (more : List ℕ) → t ++ more ≡ bytes ++ rest → IsFilled t blocks image lost → AgreesOutside geometry lost image (bytes ++ rest) =
+          λ t more whole is. subst (λ all. AgreesOutside geometry lost image all) whole
+          (cut_agrees geometry lost t more image (subst (λ n. IsFilled t n image lost) (sym end) is)) in
+          elim (nat_lt (length bytes / 512) blocks) as (λ b. IsFilled (cond b (take (512 * (length bytes / 512)) bytes) bytes) blocks image lost → AgreesOutside geometry lost image (bytes ++ rest)) [
+            | true ↦ λ is. within (take (512 * (length bytes / 512)) bytes) (drop (512 * (length bytes / 512)) bytes ++ rest) (rest_of (512 * (length bytes / 512)) bytes rest) is
+            | false ↦ λ is. within bytes rest refl is
+          ] filled
+    ] completed

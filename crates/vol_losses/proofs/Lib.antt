@@ -2,4 +2,5 @@ pub mod CutLaws
 pub mod Agreement
 pub mod LostPaths
 pub mod RangeLists
+pub mod SureFlags
 pub mod SureNames

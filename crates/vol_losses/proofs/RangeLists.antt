@@ -1,5 +1,5 @@
 -- Lemmas on ranges of logical blocks.
-use Rattle.std.proofs.Common.{◌≡◌, ℕ, suc, ◌≤◌, ◌<◌, ◌∙◌, ap, ◌&&◌, ◌||◌, Bool, true, false, nat_le, nat_lt, List, [], ◌∷◌, ◌++◌, refl, arith, ◌⊎◌, inl, inr}
+use Rattle.std.proofs.Common.{◌≡◌, ℕ, suc, ◌≤◌, ◌<◌, ◌∙◌, ap, ◌&&◌, ◌||◌, Bool, true, false, nat_le, nat_lt, List, [], ◌∷◌, ◌++◌, ◌+◌, length, refl, arith, ◌⊎◌, inl, inr}
 use Rattle.std.proofs.lemmas.Bool.{le-leb, lt-leb, lt-ltb, le-ltb}
 use Rattle.vol_losses.specs.Ranges.{is_within, is_in, AreApart}
 use Rattle.vol_losses.proofs.LostPaths.{or_true, or_false, and_false}
@@ -41,3 +41,8 @@ in_push_inside ranges range b low high =
     in_push ranges range b
     ∙ or_true (is_in ranges b) (is_within b range)
     (ap (λ t. t && nat_lt b range.end) (le-leb range.first b low) ∙ lt-ltb b range.end high)
+
+-- ranges that don't touch are at most as many as the logical blocks that they lie within
+pub apart_few : (low : ℕ) (ranges : List LostRange) (high : ℕ) → AreApart low ranges high → low + length ranges ≤ high
+apart_few low [] high apart = omega (arith, apart)
+apart_few low (range ∷ ranges) high apart = omega (arith, apart.0, apart.1, apart_few (suc range.end) ranges high apart.2)

@@ -1,7 +1,11 @@
 -- Images that were cut off, with zeros up to the end of their volumes.
-use Rattle.std.specs.Prelude.{◌≡◌, ℕ, ◌+◌, ◌-◌, ◌*◌, ◌<◌, Bool, not, nat_le, List, ◌++◌, length, replicate}
+use Rattle.std.specs.Prelude.{◌≡◌, ℕ, ◌+◌, ◌-◌, ◌*◌, ◌/◌, ◌<◌, ◌≤◌, not, nat_le, nat_lt, if◌then◌else◌, List, [], ◌++◌, length, replicate, take, Bool, true, false}
+use Rattle.vol_layout.specs.Geometry.{block_count}
+use Rattle.vol_layout.specs.declared.edition.Edition.{Edition}
 use Rattle.vol_layout.specs.declared.geometry.Geometry.{Geometry}
 use Rattle.vol_losses.specs.Losses.{is_lost, AgreesOutside}
+use Rattle.vol_losses.specs.declared.cut_images.CutFault.{CutFault}
+use Rattle.vol_losses.specs.declared.cut_images.CutFault.TheVariants.{NoMemory, TooShort}
 
 -- the image has these bytes, and zeros up to the end of a volume of that many blocks; the blocks that aren't whole in these bytes are marked as lost
 -- (this project)
@@ -13,3 +17,24 @@ pub record IsFilled (bytes : List ℕ) (blocks : ℕ) (image : List ℕ) (lost :
 abbrev pub CutsAgree : Type 0
 CutsAgree = (geometry : Geometry) (lost : List Bool) (bytes rest image : List ℕ) → IsFilled bytes geometry.zone_end image lost
     → AgreesOutside geometry lost image (bytes ++ rest)
+
+-- the bytes of an image up to its last whole block, if it has fewer blocks than this; else all of them (this project)
+abbrev pub whole_bytes : List ℕ → ℕ → List ℕ
+whole_bytes bytes blocks = if nat_lt (length bytes / 512) blocks then take (512 * (length bytes / 512)) bytes else bytes
+
+-- the image of a volume, of whose bytes only these first ones are left, and its lost blocks; without a super-block, the bytes stay as they are (this
+-- project)
+abbrev pub IsCompletedIf : Bool → Edition → List ℕ → List ℕ → List Bool → Type 0
+IsCompletedIf false edition bytes image lost = (image ≡ bytes) × (lost ≡ [])
+IsCompletedIf true edition bytes image lost = IsFilled (whole_bytes bytes (block_count edition bytes)) (block_count edition bytes) image lost
+
+-- the image of a volume, of whose bytes only these first ones are left, and its lost blocks (this project)
+abbrev pub IsCompleted : Edition → List ℕ → List ℕ → List Bool → Type 0
+IsCompleted edition bytes image lost = IsCompletedIf (nat_le 1024 (length bytes)) edition bytes image lost
+
+-- the reason why the image of a volume can't be completed: memory ran out, or the super-block of these bytes states at least 1,048,577 blocks that
+-- aren't there (this project)
+abbrev pub IsIncomplete : Edition → List ℕ → CutFault → Type 0
+IsIncomplete edition bytes NoMemory = Unit {0}
+IsIncomplete edition bytes (TooShort there blocks) =
+    (1024 ≤ length bytes) × (there ≡ length bytes / 512) × (blocks ≡ block_count edition bytes) × (there + 1048576 < blocks)

@@ -1,5 +1,6 @@
 pub mod CutImages
 pub mod Losses
+pub mod LossTexts
 pub mod Laws
 pub mod Names
 pub mod Ranges

@@ -1,5 +1,6 @@
 -- The lost blocks of an image: blocks whose bytes aren't known, because they couldn't be read or lie past the image's end.
-use Rattle.std.specs.Prelude.{◌≡◌, ℕ, ◌+◌, ◌*◌, ◌/◌, ◌<◌, ◌≤◌, Bool, false, not, ◌&&◌, ◌||◌, List, [], ◌∷◌, slice_index, slice_index_or}
+use Rattle.std.specs.Prelude.{◌≡◌, ℕ, zero, suc, ◌+◌, ◌*◌, ◌/◌, ◌<◌, ◌≤◌, Bool, true, false, not, ◌&&◌, ◌||◌, List, [], ◌∷◌, slice_index, slice_index_or}
+use Rattle.std.specs.Int.{div_ceil}
 use Rattle.std.specs.Option.{option_map_or}
 use Rattle.vol_layout.specs.Geometry.{in_zone}
 use Rattle.vol_layout.specs.Inode.{inode_place}
@@ -45,3 +46,16 @@ node_block edition i = inode_place edition i / 512
 pub record IsWhole (geometry : Geometry) (image : List ℕ) (lost : List Bool) (i : ℕ) : Type 0 where
   pub node : is_lost lost (node_block geometry.edition i) ≡ false
   pub blocks : (b : ℕ) → 512 * b < body_size geometry image i → is_unsure geometry image lost i b ≡ false
+
+-- true if each of the first n logical blocks of i-node i can be trusted (this project)
+unfoldable pub are_sure : Geometry → List ℕ → List Bool → ℕ → ℕ → Bool
+are_sure geometry image lost i zero = true
+are_sure geometry image lost i (suc b) = not (is_unsure geometry image lost i b) && are_sure geometry image lost i b
+
+-- the number of logical blocks within the size of file i (manual section 5, file system)
+abbrev pub body_blocks : Geometry → List ℕ → ℕ → ℕ
+body_blocks geometry image i = div_ceil (body_size geometry image i) 512
+
+-- true if file i is whole, as `IsWhole` says (this project)
+abbrev pub is_whole : Geometry → List ℕ → List Bool → ℕ → Bool
+is_whole geometry image lost i = not (is_lost lost (node_block geometry.edition i)) && are_sure geometry image lost i (body_blocks geometry image i)

@@ -1,9 +1,10 @@
 //! Images that were cut off, with zeros up to the end of their volumes.
-ghost use Rattle.std.specs.Prelude.{◌≡◌, ◌+◌, ◌/◌, ◌≤◌, length, IfOk};
-ghost use Rattle.vol_losses.specs.CutImages.{IsFilled};
+ghost use Rattle.std.specs.Prelude.{◌≡◌, ◌+◌, ◌/◌, ◌≤◌, length, IfErr, IfOk};
+ghost use Rattle.vol_losses.specs.CutImages.{IsCompleted, IsFilled, IsIncomplete};
 
 use pdp_words::{BLOCK, Image};
 use std::alloc::{AllocError, Global};
+use vol_layout::{Edition, Super};
 
 /// The most blocks that [`filled`] appends: 512 megabytes.
 pub const MOST_MISSING: usize = 1_048_576;
@@ -34,4 +35,45 @@ pub fn filled(alloc: Global, mut bytes: Vec<u8>, blocks: u32) -> Result<CutImage
     }
     let image = Image::from_bytes(bytes);
     Ok(CutImage { image, lost })
+}
+
+/// The reason why an image isn't completed.
+#[derive(Clone, Copy)]
+pub enum CutFault {
+    /// Memory ran out.
+    NoMemory,
+    /// The image has so many whole blocks of those that its super-block states, and more than [`MOST_MISSING`] are missing.
+    TooShort { there: usize, blocks: u32 },
+}
+
+/// The number of bytes up to the end of the super-block.
+const HEAD: usize = 1024;
+
+/// Completes the image of a volume of which only some first bytes are left, as [`filled`] does, up to the last block that its super-block states. A
+/// block that is there in part is lost: zeros take the place of all its bytes, so no entry is read that was cut in two. An image without a super-block
+/// stays as it is, with no marks.
+///
+/// Takes memory as [`filled`] does.
+pub fn completed(alloc: Global, edition: Edition, bytes: Vec<u8>) -> Result<CutImage, CutFault>
+    ensures done { IfOk result (λ cut. IsCompleted edition bytes.items cut.image cut.lost.items) }
+    ensures fault { IfErr result (IsIncomplete edition bytes.items) }
+{
+    let image = Image::from_bytes(bytes);
+    if image.len() < HEAD {
+        let lost = Vec::new(alloc);
+        return Ok(CutImage { image, lost });
+    }
+    let blocks = Super { edition }.block_count(&image);
+    let there = image.len() / BLOCK;
+    if blocks as usize > there && blocks as usize - there > MOST_MISSING {
+        return Err(CutFault::TooShort { there, blocks });
+    }
+    let mut bytes = image.into_bytes();
+    if there < blocks as usize {
+        bytes.truncate(BLOCK * there);
+    }
+    match filled(alloc, bytes, blocks) {
+        Ok(cut) => Ok(cut),
+        Err(_) => Err(CutFault::NoMemory),
+    }
 }

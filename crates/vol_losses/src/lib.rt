@@ -3,9 +3,11 @@
 
 pub mod cut_images;
 pub mod laws;
+pub mod loss_texts;
 pub mod ranges;
 pub mod sure_blocks;
 
-pub use cut_images::{CutImage, MOST_MISSING, filled};
+pub use cut_images::{CutFault, CutImage, MOST_MISSING, completed, filled};
+pub use loss_texts::loss_text;
 pub use ranges::{LostRange, losses};
-pub use sure_blocks::{is_lost, is_unsure, is_whole, next_block};
+pub use sure_blocks::{is_lost, is_node_lost, is_unsure, is_whole, next_block};

@@ -1,8 +1,9 @@
 //! Finds what can be trusted of a file although blocks of the image are lost.
 ghost use Rattle.std.specs.Prelude.{◌≡◌, ℕ, ◌-◌, ◌<◌, ◌≤◌, ◌^◌, ◌↔◌, true, false};
 ghost use Rattle.vol_layout.specs.Geometry.{Fits};
+ghost use Rattle.vol_layout.specs.Body.{body_size};
 ghost use Rattle.vol_layout.specs.BlockPointers.{form_at};
-ghost use Rattle.vol_losses.specs.Losses.{is_lost, is_lost_block, is_unsure, IsNext, IsWhole, node_block};
+ghost use Rattle.vol_losses.specs.Losses.{is_lost, is_lost_block, is_unsure, is_whole, IsNext, IsWhole, node_block};
 
 use pdp_words::{BLOCK, Image};
 use vol_layout::i_list::{address, mode, size};
@@ -125,14 +126,32 @@ pub fn is_whole(image: &Image, geometry: &Geometry, lost: &[bool], i: u16) -> bo
     requires fits { Fits geometry.now image.now }
     requires first { 1 ≤ i }
     requires last { i ≤ geometry.now.last_inode }
-    ensures { (result ≡ true) ↔ IsWhole geometry.now image.now lost.now i }
+    ensures exact { (result ≡ true) ↔ IsWhole geometry.now image.now lost.now i }
+    ensures flag { result ≡ is_whole geometry.now image.now lost.now i }
 {
-    if is_lost(lost, node_block(geometry, i)) {
+    if is_node_lost(geometry, lost, i) {
         return false;
     }
-    let bytes = size(image, geometry, i).min(geometry.edition.constants().greatest);
-    let end = bytes.div_ceil(BLOCK as u32);
+    let end = body_size(image, geometry, i).div_ceil(BLOCK as u32);
     next_block(image, geometry, lost, i, true, 0, end) == end
+}
+
+/// Returns the number of bytes of file `i`.
+pub(crate) fn body_size(image: &Image, geometry: &Geometry, i: u16) -> u32
+    requires fits { Fits geometry.now image.now }
+    requires first { 1 ≤ i }
+    requires last { i ≤ geometry.now.last_inode }
+    ensures { result ≡ body_size geometry.now image.now i }
+{
+    size(image, geometry, i).min(geometry.edition.constants().greatest)
+}
+
+/// True if the block of i-node `i`, an i-number of the volume, is lost.
+pub fn is_node_lost(geometry: &Geometry, lost: &[bool], i: u16) -> bool
+    requires { 1 ≤ i }
+    ensures { result ≡ is_lost lost.now (node_block geometry.now.edition i) }
+{
+    is_lost(lost, node_block(geometry, i))
 }
 
 /// Returns the block in which i-node `i` is stored.

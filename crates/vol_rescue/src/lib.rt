@@ -1,0 +1,7 @@
+//! The entries of a tree of whose image blocks are lost: what is left out, and what of the others is right.
+#![tactic(auto)]
+
+pub mod damage;
+pub mod laws;
+
+pub use damage::{Damage, damage_of, without_damaged};

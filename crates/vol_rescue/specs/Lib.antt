@@ -1,2 +1,3 @@
 pub mod Damage
 pub mod Laws
+pub mod Lines

@@ -1,5 +1,5 @@
 //! The damage of visited entries, and the entries without those that are damaged.
-ghost use Rattle.std.specs.Prelude.{◌≡◌, IfOk, map};
+ghost use Rattle.std.specs.Prelude.{◌≡◌, ◌≢◌, ◌≤◌, None, IfOk, map};
 ghost use Rattle.vol_layout.specs.Geometry.{Fits};
 ghost use Rattle.vol_rescue.specs.Damage.{content_damage, damage_of, is_left_out, kept_entry, kept_entries, marked};
 
@@ -31,7 +31,8 @@ pub fn damage_of(
     found: &MetEntry,
 ) -> Option<Damage>
     requires { Fits geometry.now image.now }
-    ensures { result ≡ damage_of geometry.now image.now lost.now found.now }
+    ensures exact { result ≡ damage_of geometry.now image.now lost.now found.now }
+    ensures number { result ≢ None → (1 ≤ found.now.inode) × (found.now.inode ≤ geometry.now.last_inode) }
 {
     let i = found.inode;
     if i == 0 || i > geometry.last_inode {

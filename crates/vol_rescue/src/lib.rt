@@ -3,5 +3,7 @@
 
 pub mod damage;
 pub mod laws;
+pub mod lines;
 
 pub use damage::{Damage, damage_of, without_damaged};
+pub use lines::{ToldLosses, tell_losses};

@@ -14,4 +14,4 @@ loop-found-preserved c =
     let found = c.in-Some.found in
     kept_more (marked g image lost damaged) c.loop-found.yielded found c.kept_entry.result
     c.loop-found.kept.items c.push.new.self.items
-    (c.kept_entry.ensures ∙ ap (λ (d : Option Damage). kept_entry damaged d found) c.damage_of-damage.ensures) c.in_ok-push.ensures.items c.loop-found.invariant
+    (c.kept_entry.ensures ∙ ap (λ (d : Option Damage). kept_entry damaged d found) c.damage_of-damage.ensures.exact) c.in_ok-push.ensures.items c.loop-found.invariant

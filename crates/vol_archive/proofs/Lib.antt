@@ -11,6 +11,8 @@ pub mod NamedEntries
 pub mod PlainPaths
 pub mod Outputs
 pub mod ProperPaths
+pub mod RescuedNodes
+pub mod Rescues
 pub mod Rings
 pub mod Roles
 pub mod RoomyPaths

@@ -29,7 +29,7 @@ use Rattle.vol_archive.proofs.Roles.{directory_new, again_why}
 use Rattle.vol_archive.proofs.TreeMembers.{rest_of, walk_is, met_directory}
 
 -- an entry is for i-number `i`, and links can refer to it
-abbrev IsFirstFor : ℕ → MetEntry → Type 0
+abbrev pub IsFirstFor : ℕ → MetEntry → Type 0
 IsFirstFor i found = (found.inode ≡ i) × (is_first found.role ≡ true)
 
 -- if a conjunction is true, both parts are
@@ -38,7 +38,7 @@ both_of true b e = (refl, e)
 both_of false b e = absurd (true≢false (sym e))
 
 -- if the first member for an i-number has a position, a member for it exists
-first_there : (i : ℕ) (founds : List MetEntry) → is_some (first_met i founds) ≡ true → Has (IsFirstFor i) founds
+pub first_there : (i : ℕ) (founds : List MetEntry) → is_some (first_met i founds) ≡ true → Has (IsFirstFor i) founds
 unfolding first_met
 first_there i founds e = placed (position test founds) refl e
   where

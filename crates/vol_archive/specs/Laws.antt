@@ -1,5 +1,5 @@
 -- The laws about the entries visited below a directory, stated for the tree that an image reads as.
-use Rattle.std.specs.Prelude.{◌≡◌, ◌≢◌, ℕ, ◌↔◌, ◌/◌, ◌%◌, ◌==◌, Bool, true, false, if◌then◌else◌, List, [], ◌∷◌, ◌++◌, length, slice_get, slice_index, filter, All, AllPairs, Any, Some, Ok}
+use Rattle.std.specs.Prelude.{◌≡◌, ◌≢◌, ◌⊎◌, ◌<◌, ◌≤◌, ℕ, ◌↔◌, ◌/◌, ◌%◌, ◌==◌, Bool, true, false, if◌then◌else◌, List, [], ◌∷◌, ◌++◌, length, slice_get, slice_index, filter, All, AllPairs, Any, Some, Ok}
 use Rattle.std.specs.Cmp.Lexicographic.{slice_cmp}
 use Rattle.std.specs.Ordering.{nat_cmp}
 use Rattle.std.specs.declared.cmp.Ordering.TheVariants.{Less}
@@ -11,9 +11,11 @@ use Rattle.vol_dir.specs.Entries.{slots, IsDirectory, HasEntries}
 use Rattle.vol_dir.specs.Names.{Names, get, names_of, is_dots}
 use Rattle.vol_dir.specs.Tree.{Body, Directory, Device, Node, tree}
 use Rattle.vol_dir.specs.Walk.{components, walk_from}
-use Rattle.vol_judge.specs.Directories.{IsTree}
+use Rattle.vol_judge.specs.Directories.{IsTree, root_of}
 use Rattle.vol_layout.specs.declared.geometry.Geometry.{Geometry}
 use Rattle.vol_dir.specs.Access.{user}
+use Rattle.vol_archive.specs.Export.{is_directory}
+use Rattle.vol_archive.specs.Rescue.{IsRescue}
 use Rattle.vol_archive.specs.Members.{content_at, headed, member_bytes}
 use Rattle.vol_archive.specs.Walk.{path_below, is_first, IsWalk}
 use Rattle.vol_archive.specs.declared.met_entries.MetEntry.{MetEntry}
@@ -137,3 +139,12 @@ abbrev pub MembersHaveNodes : Type 0
 MembersHaveNodes = (geometry : Geometry) (image : List ℕ) (start : ℕ) (founds : List MetEntry) → IsWalk geometry image start founds
     → All (λ (found : MetEntry). (node : Node) × ((tree geometry image).nodes found.inode ≡ Some node)
     × IsForNode founds found node found.role (member_bytes geometry image founds found)) (members_of founds)
+
+-- after a rescue from the root each node of the tree, from the root's i-number on, is a member; only the root's own directory is none. I-numbers have
+-- 16 bits (fsck)
+abbrev pub NodesAreRescued : Type 0
+NodesAreRescued = (geometry : Geometry) (image orphans unreached : List ℕ) (founds : List MetEntry) → geometry.last_inode < 65536
+    → IsRescue geometry image (root_of geometry) orphans unreached founds
+    → (i : ℕ) (node : Node) → (tree geometry image).nodes i ≡ Some node → root_of geometry ≤ i
+    → (i ≢ root_of geometry) ⊎ (is_directory geometry image i ≡ false)
+    → Any (λ (found : MetEntry). (found.inode ≡ i) × (is_first found.role ≡ true)) founds

@@ -9,5 +9,6 @@ pub mod Export
 pub mod Laws
 pub mod Marks
 pub mod Members
+pub mod Rescue
 pub mod Walk
 pub mod Write

@@ -8,6 +8,7 @@ ghost use Rattle.vol_archive.specs.Laws.{
   DirectoriesAreMetOnce,
   MembersAreTheTree,
   MembersHaveNodes,
+  NodesAreRescued,
 };
 
 /// In every image, the path of each member leads from the exported directory to the member's i-number.
@@ -46,4 +47,9 @@ pub fn members_are_the_tree()
 /// regular file also has its size and, after the header, the bytes that a Read returns; another name has the path of the first one.
 pub fn members_have_nodes()
     ensures { MembersHaveNodes }
+{}
+
+/// In every image, a rescue from the root takes out each node from the root's i-number on, except the root's own directory: none is out of reach.
+pub fn nodes_are_rescued()
+    ensures { NodesAreRescued }
 {}

@@ -8,6 +8,7 @@ mod members;
 pub mod met_entries;
 mod names;
 mod pending;
+pub mod rescue;
 pub mod tree_walk;
 pub mod write;
 
@@ -15,5 +16,6 @@ pub use export_tree::{ExportStart, StartFault, export, is_directory, lost_start_
 pub use members::{device_number, put_archive, special_kind};
 pub use met_entries::{MetEntry, Reason, Role};
 pub use names::is_plain;
-pub use tree_walk::{walk, walk_lost, walk_orphans};
+pub use rescue::{Rescue, rescue_below};
+pub use tree_walk::walk;
 pub use write::WriteFault;

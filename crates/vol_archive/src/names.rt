@@ -92,7 +92,7 @@ pub(crate) fn lost_entries(alloc: Global, lost: &[u16]) -> Result<Vec<Pending>, 
 
 /// Returns the entry of a lost i-node.
 #[tactic(auto, unfolding(crate::specs::Walk::lost_entry))]
-fn lost_entry(alloc: Global, inode: u16) -> Result<Pending, AllocError>
+pub(crate) fn lost_entry(alloc: Global, inode: u16) -> Result<Pending, AllocError>
     ensures { IfOk result (λ entry. entry ≡ lost_entry inode) }
 {
     let path = format!(in alloc; "lost+found/#{inode}")?;

@@ -4,11 +4,11 @@ ghost use Rattle.vol_layout.specs.Geometry.{Fits};
 ghost use Rattle.vol_dir.specs.Entries.{IsDirectory};
 ghost use Rattle.vol_layout.specs.declared.geometry.Geometry.{Geometry};
 ghost use Rattle.vol_archive.specs.declared.met_entries.MetEntry.{MetEntry};
-ghost use Rattle.vol_archive.specs.Walk.{first_met, role_of, node_role, file_role, has_room, has_path, entries_below, with_lost_directory, IsWalk, IsLostWalk, IsOrphanWalk, Walks};
+ghost use Rattle.vol_archive.specs.Walk.{first_met, role_of, node_role, file_role, has_room, has_path, entries_below, with_lost_directory, IsWalk, Walks};
 ghost use Rattle.vol_archive.specs.Marks.{AreFirsts};
 
 use crate::met_entries::{MetEntry, Reason, Role};
-use crate::names::{LOST_FOUND, entries_below, lost_entries};
+use crate::names::{LOST_FOUND, entries_below};
 use crate::pending::Pending;
 use pdp_words::{Bytes, Image};
 use std::alloc::{AllocError, Global};
@@ -18,11 +18,11 @@ use vol_layout::{Geometry, Kind};
 
 /// The state of a walk.
 #[derive(Drop)]
-struct Walked {
+pub(crate) struct Walked {
     /// All visited entries, in the order of the walk.
-    founds: Vec<MetEntry>,
+    pub(crate) founds: Vec<MetEntry>,
     /// For each i-number, the position of the first member for it, if there is one.
-    firsts: Vec<Option<usize>>,
+    pub(crate) firsts: Vec<Option<usize>>,
 }
 
 /// Returns all entries below directory `start`: its entries except `.` and `..`, in ascending order of their names, and after each directory the
@@ -42,51 +42,8 @@ pub fn walk(
     Ok(walk_tree(alloc, image, geometry, start)?.founds)
 }
 
-/// Returns everything that [`walk`] visits below directory `start`, then the i-nodes without a directory entry, and everything below the directories
-/// among them. Their paths are `lost+found/#` and the i-number. Before the first comes a directory `lost+found` with the permissions, the owner and
-/// the times of `start`, unless an entry has that path.
-///
-/// Costs as much as [`walk`].
-pub fn walk_lost(
-    alloc: Global,
-    image: &Image,
-    geometry: &Geometry,
-    start: u16,
-    lost: &[u16],
-) -> Result<Vec<MetEntry>, AllocError>
-    requires fits { Fits geometry.now image.now }
-    requires directory { IsDirectory geometry.now image.now start }
-    ensures { IfOk result (λ founds. IsLostWalk geometry.now image.now start lost.now founds.items) }
-{
-    let walked = walk_tree(alloc, image, geometry, start)?;
-    let walked = push_lost_directory(alloc, start, lost, walked)?;
-    let mut pending = Vec::new(alloc);
-    push_all(lost_entries(alloc, lost)?, &mut pending)?;
-    Ok(walk_on(alloc, image, geometry, start, walked, pending)?.founds)
-}
-
-/// Returns the i-nodes without a directory entry, and everything below the directories among them, of a volume whose root, `start`, is no directory.
-/// Their paths are `lost+found/#` and the i-number. There is no entry for `lost+found` itself.
-///
-/// Costs as much as [`walk`].
-pub fn walk_orphans(
-    alloc: Global,
-    image: &Image,
-    geometry: &Geometry,
-    start: u16,
-    lost: &[u16],
-) -> Result<Vec<MetEntry>, AllocError>
-    requires { Fits geometry.now image.now }
-    ensures { IfOk result (λ founds. IsOrphanWalk geometry.now image.now start lost.now founds.items) }
-{
-    let walked = unwalked(alloc, geometry)?;
-    let mut pending = Vec::new(alloc);
-    push_all(lost_entries(alloc, lost)?, &mut pending)?;
-    Ok(walk_on(alloc, image, geometry, start, walked, pending)?.founds)
-}
-
 /// Returns the state of a walk before its first entry.
-fn unwalked(alloc: Global, geometry: &Geometry) -> Result<Walked, AllocError>
+pub(crate) fn unwalked(alloc: Global, geometry: &Geometry) -> Result<Walked, AllocError>
     ensures firsts { IfOk result (λ walked. AreFirsts geometry.now walked.firsts.items walked.founds.items) }
     ensures none { IfOk result (λ walked. walked.founds.items ≡ []) }
 {
@@ -98,7 +55,7 @@ fn unwalked(alloc: Global, geometry: &Geometry) -> Result<Walked, AllocError>
 }
 
 /// Walks everything below directory `start`.
-fn walk_tree(
+pub(crate) fn walk_tree(
     alloc: Global,
     image: &Image,
     geometry: &Geometry,
@@ -116,7 +73,7 @@ fn walk_tree(
 }
 
 /// Continues a walk below directory `start` to its end. The next pending entry is the last in the list.
-fn walk_on(
+pub(crate) fn walk_on(
     alloc: Global,
     image: &Image,
     geometry: &Geometry,
@@ -151,7 +108,7 @@ fn walk_on(
 }
 
 /// Appends the directory of lost i-nodes, if there are any and no entry has its path.
-fn push_lost_directory(
+pub(crate) fn push_lost_directory(
     alloc: Global,
     start: u16,
     lost: &[u16],
@@ -208,7 +165,7 @@ fn push_below(
 }
 
 /// Pushes entries onto the pending ones in reverse order, so that the first is on top.
-fn push_all(entries: Vec<Pending>, pending: &mut Vec<Pending>) -> Result<(), AllocError>
+pub(crate) fn push_all(entries: Vec<Pending>, pending: &mut Vec<Pending>) -> Result<(), AllocError>
     ensures { OnOk result (reverse pending.new.items ≡ entries.items ++ reverse pending.old.items) }
 {
     let mut entries = entries;
@@ -230,7 +187,7 @@ fn mark_first(firsts: &mut Vec<Option<usize>>, inode: u16, role: Role, place: us
 }
 
 /// Returns the role of an entry visited below directory `start`, after the others.
-fn role_of(
+pub(crate) fn role_of(
     image: &Image,
     geometry: &Geometry,
     start: u16,

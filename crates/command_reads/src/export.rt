@@ -1,9 +1,11 @@
 //! The command that writes everything below a directory as an archive.
-ghost use Rattle.std.specs.Prelude.{◌≡◌, ◌==◌, false, IfOk, if◌then◌else◌, length};
+ghost use Rattle.std.specs.Prelude.{◌≡◌, ◌==◌, false, All, IfOk, if◌then◌else◌, length};
 ghost use Rattle.vol_layout.specs.Geometry.{Fits};
 ghost use Rattle.vol_dir.specs.Entries.{IsDirectory};
 ghost use Rattle.command_faults.specs.Faults.{line_after};
 ghost use Rattle.command_faults.specs.Streams.{ErrorStream, Hears, streams};
+ghost use Rattle.vol_inspect.specs.Lost.{IsInList};
+ghost use Rattle.command_reads.specs.Remarks.{AreOutOfReach};
 ghost use Rattle.command_reads.specs.Export.{AreFound, begun, Exports, ExportsTo, ExportsBelow, WritesBelow, told_status, unstarted, unstarted_status, unwritten};
 
 use crate::faults::unmeasured;
@@ -15,20 +17,21 @@ use command_faults::{Ending, Fault};
 use pdp_words::{Image, Sink};
 use std::alloc::{AllocError, Global};
 use vol_archive::{
-    ExportStart, MetEntry, StartFault, WriteFault, is_directory, lost_start_of, put_archive,
-    start_of, walk, walk_lost, walk_orphans,
+    ExportStart, Rescue, StartFault, WriteFault, lost_start_of, put_archive, rescue_below,
+    start_of, walk,
 };
 use vol_dir::Refusal;
 use vol_inspect::lost_inodes;
 use vol_layout::{Edition, Geometry};
 use vol_listing::Screen;
 
-/// Writes an archive of everything below the directory at a path. As an option, the archive also has the i-nodes that no entry names, with everything
-/// below them, under `lost+found`; then the path may lead to a root that is no directory, and the archive has only these. The image must keep rules 1 and 2, and may be any bytes otherwise. The status is 0 for a sound image whose entries
-/// are all in the archive; 1 if the image isn't sound, an entry is left out or the path leads to no directory. A graded status is 5 instead if an
-/// entry or an i-node isn't exported, and 6 if the image breaks rule 1 or 2. It is 3 if `output` failed, 4 if memory ran out. The fault has a line
-/// for each entry that is left out, with unprintable bytes escaped, for each i-node that no entry names, and for each other flaw of the image. An
-/// archive is never written to a terminal.
+/// Writes an archive of everything below the directory at a path. As an option, the archive also has the i-nodes that no entry names and those that are
+/// out of reach, as in a ring of directories, with everything below them, under `lost+found`; then the path may lead to a root that is no directory,
+/// and the archive has only these, with the root's own bytes. The image must keep rules 1 and 2, and may be any bytes otherwise. The status is 0 for a
+/// sound image whose entries are all in the archive; 1 if the image isn't sound, an entry is left out or the path leads to no directory. A graded
+/// status is 5 instead if an entry or an i-node isn't exported, and 6 if the image breaks rule 1 or 2. It is 3 if `output` failed, 4 if memory ran out.
+/// The fault has a line for each entry that is left out, with unprintable bytes escaped, for each i-node that no entry names or, as an option, is out
+/// of reach, and for each other flaw of the image. An archive is never written to a terminal.
 ///
 /// Costs the walk, [`vol_judge::judge`], for an unsound image [`lost_inodes`], and writing the bytes. All memory except for one header at a time is
 /// taken before the first byte is written.
@@ -110,9 +113,9 @@ fn write_below<O: Sink>(
     ensures { WritesBelow edition image.now start.now options (O.contents output.old) (O.contents output.new)
         (O.failed output.old) (O.failed output.new) result }
 {
-    let founds = walk_all(alloc, image, &start.geometry, start.inode, options.lost)?;
-    let remarks = tell_all(alloc, edition, image, &start.geometry, &founds, options)?;
-    match put_archive(alloc, image, &start.geometry, &founds, output) {
+    let rescue = walk_all(alloc, image, &start.geometry, start.inode, options.lost)?;
+    let remarks = tell_all(alloc, edition, image, &start.geometry, &rescue, options)?;
+    match put_archive(alloc, image, &start.geometry, &rescue.founds, output) {
         Ok(()) => Ok(remarks),
         Err(fault) => Err(unwritten(fault)),
     }
@@ -136,28 +139,30 @@ pub(crate) fn begun(
     }
 }
 
-/// Returns everything below a directory. With `lost`, also returns the i-nodes that no entry names, with everything below them; only these, if the
-/// start is no directory.
+/// Returns everything below a directory. With `lost`, also returns the i-nodes that no entry names and those that are out of reach, with everything
+/// below them; only these, if the start is no directory.
+#[tactic(auto, using(crate::proofs::OutOfReach::in_list))]
 pub(crate) fn walk_all(
     alloc: Global,
     image: &Image,
     geometry: &Geometry,
     start: u16,
     lost: bool,
-) -> Result<Vec<MetEntry>, AllocError>
+) -> Result<Rescue, AllocError>
     requires fits { Fits geometry.now image.now }
     requires directory { lost ≡ false → IsDirectory geometry.now image.now start }
-    ensures { IfOk result (λ founds. AreFound lost geometry.now image.now start founds.items) }
+    ensures founds { IfOk result (λ rescue. AreFound lost geometry.now image.now start rescue.founds.items) }
+    ensures unreached { IfOk result (λ rescue. AreOutOfReach lost geometry.now image.now rescue.unreached.items) }
+    ensures numbers { IfOk result (λ rescue. All (IsInList geometry.now) rescue.unreached.items) }
 {
-    if !lost {
-        return walk(alloc, image, geometry, start);
+    if lost {
+        let orphans = lost_inodes(alloc, image, geometry)?;
+        return rescue_below(alloc, image, geometry, start, &orphans);
     }
-    let inodes = lost_inodes(alloc, image, geometry)?;
-    if is_directory(image, geometry, start) {
-        walk_lost(alloc, image, geometry, start, &inodes)
-    } else {
-        walk_orphans(alloc, image, geometry, start, &inodes)
-    }
+    Ok(Rescue {
+        founds: walk(alloc, image, geometry, start)?,
+        unreached: Vec::new(alloc),
+    })
 }
 
 /// Returns the result of an export with some remarks or none.

@@ -72,9 +72,9 @@ fn find_text(
         Ok(start) => start,
         Err(fault) => return Err(unstarted(fault)),
     };
-    let founds = walk_all(alloc, image, &start.geometry, start.inode, lost)?;
-    let text = found_lines(alloc, path, &founds, pattern, screen)?;
-    let remarks = limits(alloc, &founds)?;
+    let rescue = walk_all(alloc, image, &start.geometry, start.inode, lost)?;
+    let text = found_lines(alloc, path, &rescue.founds, pattern, screen)?;
+    let remarks = limits(alloc, &rescue.founds)?;
     Ok(RemarkedText { text, remarks })
 }
 

@@ -58,13 +58,13 @@ fn make_manifest(
         Ok(start) => start,
         Err(fault) => return Err(unstarted(fault)),
     };
-    let founds = walk_all(alloc, image, &start.geometry, start.inode, lost)?;
+    let rescue = walk_all(alloc, image, &start.geometry, start.inode, lost)?;
     let options = ExportOptions {
         lost,
         graded: false,
     };
-    let remarks = tell_all(alloc, edition, image, &start.geometry, &founds, options)?;
-    let text = sums_in(alloc, image, &start.geometry, &founds, form)?;
+    let remarks = tell_all(alloc, edition, image, &start.geometry, &rescue, options)?;
+    let text = sums_in(alloc, image, &start.geometry, &rescue.founds, form)?;
     Ok(RemarkedText { text, remarks })
 }
 

@@ -216,7 +216,7 @@ Status:
 
 pub const JSON: &str = "Print JSON";
 
-pub const LOST: &str = "Include i-nodes that no entry names, below lost+found";
+pub const LOST: &str = "Include i-nodes that no entry names or leads to, below lost+found";
 
 pub const SUPER_ABOUT: &str = "Shows the super-block, and how many blocks and i-nodes are free.";
 

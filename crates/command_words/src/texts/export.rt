@@ -18,13 +18,16 @@ Everything that entries lead to, from PATH on, is exported. Anything left out, a
 has a line on standard error, and the status is then 1. There is a line for
   - an entry that is left out, with the reason
   - an i-node that no entry of the volume names, if rules 1 to 7 hold, or with --lost or --status
+  - with --lost, an i-node that is out of reach and is exported under its number
   - a block that two files use
   - the first rule that the volume breaks
 If a directory has a name more than once, the first entry counts, and the others have no line.
 
 With --lost, i-nodes that no entry names are exported too, with everything below them, each under its number:
-lost+found/#96 is i-node 96, and the line of i-node 96 says so. Each keeps its owner and its time. If the root is no
-directory, these are all that is exported: then names are known only below them.
+lost+found/#96 is i-node 96, and the line of i-node 96 says so. Each keeps its owner and its time. If an i-node is
+still out of reach, as in a ring of directories that name only one another, the least such i-node is exported in the
+same way, and so on. So if PATH is the root, every i-node of a known kind is exported. If the root is no directory,
+these are all that is exported: names are known only below them. A root that is a file has its number too.
 
 Status:
   0  everything was exported, and the volume is sound

@@ -21,9 +21,9 @@ Entries without an i-node are printed too. What is below a directory isn't print
 printed before, nor if its path has more than 4096 bytes: such a path has a line on standard error, and the status
 is then 5. On a terminal, bytes that aren't printable ASCII are shown as a backslash and three octal digits.
 
-With --lost, i-nodes that no entry names are printed too, with everything below them, at the paths below PATH that
-they have in an archive of `unixvol export --lost`: lost+found/#96 is i-node 96. If the root is no directory, these
-are all that is printed.
+With --lost, i-nodes that no entry names, or that are out of reach, are printed too, with everything below them, at
+the paths below PATH that they have in an archive of `unixvol export --lost`: lost+found/#96 is i-node 96. If the
+root is no directory, these are all that is printed.
 
 The volume need not be sound. Only rules 1 and 2 are checked: the image's size, and the sizes in its super-block.
 

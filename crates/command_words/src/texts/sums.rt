@@ -27,9 +27,9 @@ The volume need not be sound. Only rules 1 and 2 are checked: the image's size, 
 Anything left out, and anything wrong with the volume, has a line on standard error, as with `unixvol export`, and
 the status is then 1. Nothing is printed before everything is known.
 
-With --lost, i-nodes that no entry names are in the manifest too, with everything below them, at the paths that they
-have in an archive of `unixvol export --lost`: lost+found/#96 is i-node 96. If the root is no directory, these are all
-that is printed.
+With --lost, i-nodes that no entry names, or that are out of reach, are in the manifest too, with everything below
+them, at the paths that they have in an archive of `unixvol export --lost`: lost+found/#96 is i-node 96. If the root
+is no directory, these are all that is printed.
 
 Status:
   0  everything is in the manifest, and the volume is sound

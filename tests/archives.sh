@@ -212,37 +212,98 @@ put odd.img "$(node_at 7 "$(number 7 odd.img /odd)")" 'A4 11'
 exports 'an i-node of no kind' 1 'unixvol: odd: an i-node of no known kind
 unixvol: unsound, rule 3' 7 odd.img
 
-# A root whose i-node is free, or a file's: with --lost everything that is left is exported, with the names that directories give.
+# A root whose i-node is free, or a file's: with --lost everything that is left is exported, with the names that directories give, and the root's bytes
+# if it is a file.
 for edition in 6 7; do
     played "$edition" rooted.img '1000 3 5 mkdir /d 755' '1000 3 5 create /d/file 644' "1000 0 0 write /d/file 0 $(digits 'rescued\n')" \
         '1000 3 5 mkdir /d/in 755' '1000 3 5 create /d/in/deep 644' '1000 3 5 create /top 644'
+    root=$((edition - 5))
     d=$(number "$edition" rooted.img /d)
     top=$(number "$edition" rooted.img /top)
     for mode in '00 00' 'A4 81'; do
         cp rooted.img rootless.img
-        put rootless.img "$(node_at "$edition" $((edition - 5)))" "$mode"
+        put rootless.img "$(node_at "$edition" "$root")" "$mode"
+        left="lost+found/#$top lost+found/#$d/ lost+found/#$d/file lost+found/#$d/in/ lost+found/#$d/in/deep"
+        lines="unixvol: i-node $top: a file of 0 bytes, which nothing names, rescued as lost+found/#$top
+unixvol: i-node $d: a directory with 4 entries, which nothing names, rescued as lost+found/#$d"
+        if [ "$mode" = 'A4 81' ]; then
+            left="$left lost+found/#$root"
+            lines="$lines
+unixvol: i-node $root: a file of 64 bytes, which is out of reach, rescued as lost+found/#$root"
+        fi
         refuses 1 'unixvol: 20 NotDirectory' export "$edition" rootless.img ''
         "$program" export --lost "$edition" rootless.img > output 2> error
         has 'the status of what is left without a root' 1 $?
-        has 'what is left without a root' "lost+found/#$top lost+found/#$d/ lost+found/#$d/file lost+found/#$d/in/ lost+found/#$d/in/deep" \
-            "$(tar -tf output | paste -s -d ' ' -)"
+        has 'what is left without a root' "$left" "$(tar -tf output | paste -s -d ' ' -)"
         has 'the bytes of a file that is left without a root' rescued "$(tar -xOf output "lost+found/#$d/file")"
-        has 'what is said of it' "unixvol: i-node $top: a file of 0 bytes, which nothing names, rescued as lost+found/#$top
-unixvol: i-node $d: a directory with 4 entries, which nothing names, rescued as lost+found/#$d" "$(head -n 2 error)"
+        if [ "$mode" = 'A4 81' ]; then
+            tar -xOf output "lost+found/#$root" > bytes
+            at=$((512 * $("$program" inode "$edition" rooted.img "$root" | awk '$1 == "addr" { print $2 }')))
+            dd if=rooted.img bs=1 skip="$at" count=64 status=none | cmp -s - bytes
+            has 'the bytes of a root that is a file' 0 $?
+        fi
+        has 'what is said of it' "$lines" "$(head -n -1 error)"
+        has 'the rule that it breaks' 'unixvol: unsound, rule' "$(tail -n 1 error | sed 's/ [0-9]*$//')"
         cp error told
         for command in sums find; do refuses 1 'unixvol: 20 NotDirectory' "$command" "$edition" rootless.img; done
         "$program" sums --lost "$edition" rootless.img > output 2> error
         has 'the status of a manifest of what is left' 1 $?
         cmp -s error told
         has 'what is said of it with a manifest' 0 $?
-        has 'a manifest of what is left' "lost+found/#$top lost+found/#$d lost+found/#$d/file lost+found/#$d/in lost+found/#$d/in/deep" \
-            "$(awk '{ print $NF }' output | paste -s -d ' ' -)"
+        has 'a manifest of what is left' "$(echo "$left" | sed 's,/\( \|$\),\1,g')" "$(awk '{ print $NF }' output | paste -s -d ' ' -)"
         has 'the sum of a file that is left' "$(echo rescued | sha256sum | cut -c 1-64)" "$(sed -n 3p output | cut -c 1-64)"
         "$program" find --lost "$edition" rootless.img > output 2> error
         has 'the status and the errors of find of what is left' '0 0' "$? $(wc -c < error)"
-        has 'what find finds of what is left' "/lost+found/#$top /lost+found/#$d /lost+found/#$d/file /lost+found/#$d/in /lost+found/#$d/in/deep" \
-            "$(paste -s -d ' ' output)"
+        has 'what find finds of what is left' "$(echo "$left" | sed 's,/\( \|$\),\1,g; s,lost,/lost,g')" "$(paste -s -d ' ' output)"
     done
+done
+
+# A ring of directories to which nothing leads from the root, of two directories or one: /p/q/up is /p, and the root's entry for /p is empty.
+# slot EDITION IMAGE PATH SLOT: the position of this slot of a directory that has one block
+slot() { echo $((512 * $("$program" inode "$1" "$2" "$3" | awk '$1 == "addr" { print $2 }') + 16 * $4)); }
+# rescues LABEL EDITION IMAGE PATHS MEMBERS LINES: with --lost these members are in the archive, these paths are found, and these lines are told
+rescues() {
+    "$program" export --lost "$2" "$3" > rescued.tar 2> error
+    has "the status of an export of $1" 1 $?
+    has "the members of $1" "$5" "$(tar -tf rescued.tar | paste -s -d ' ' -)"
+    has "what is told of $1" "$6" "$(grep -v 'unsound, rule' error)"
+    has "the rule that $1 breaks" 1 "$(grep -c 'unsound, rule' error)"
+    cp error told
+    "$program" sums --lost "$2" "$3" > manifest 2> error
+    has "the status of a manifest of $1" 1 $?
+    cmp -s error told
+    has "what is told of a manifest of $1" 0 $?
+    has "the paths in a manifest of $1" "$(echo "$5" | sed 's,lost+found/ ,lost+found ,; s,/\( \|$\),\1,g')" "$(awk '{ print $NF }' manifest | paste -s -d ' ' -)"
+    "$program" find --lost "$2" "$3" > output 2> error
+    has "the status and the errors of find of $1" '0 0' "$? $(wc -c < error)"
+    has "what find finds of $1" "$4" "$(paste -s -d ' ' output)"
+}
+for edition in 6 7; do
+    played "$edition" ring.img '1000 3 5 mkdir /p 755' '1000 3 5 mkdir /p/q 755' '1000 3 5 create /p/q/file 644' \
+        "1000 0 0 write /p/q/file 0 $(digits 'in a ring\n')" '1000 0 0 link /p/q/file /p/q/up'
+    p=$(number "$edition" ring.img /p) q=$(number "$edition" ring.img /p/q) f=$(number "$edition" ring.img /p/q/file)
+    put ring.img "$(slot "$edition" ring.img /p/q 3)" "$(printf '%02X 00' "$p")"
+    put ring.img "$(slot "$edition" ring.img / 2)" '00 00'
+    # The least i-number comes first: the file, then /p/q, which has the file as a further name, and /p as `up`.
+    at="lost+found/#$q"
+    rescues 'a ring of two directories' "$edition" ring.img "/lost+found /lost+found/#$f /$at /$at/file /$at/up /$at/up/q" \
+        "lost+found/ lost+found/#$f $at/ $at/file $at/up/" \
+        "unixvol: $at/up/q: a directory that was met before
+unixvol: i-node $f: a file of 10 bytes, which is out of reach, rescued as lost+found/#$f
+unixvol: i-node $q: a directory with 4 entries, which is out of reach, rescued as $at"
+    has 'the bytes of a file in a ring' 'in a ring' "$(tar -xOf rescued.tar "lost+found/#$f")"
+    has 'a further name of a file in a ring' "$at/file link to lost+found/#$f" "$(tar -tvf rescued.tar | grep -o "$at/file link.*")"
+    has 'the sum of a file in a ring' "$(echo 'in a ring' | sha256sum | cut -c 1-64)" "$(awk -v name="lost+found/#$f" '$NF == name { print $1 }' manifest)"
+
+    played "$edition" ring.img '1000 3 5 mkdir /s 755' '1000 3 5 create /s/me 644' '1000 3 5 create /s/file 644' '1000 0 0 link /s/file /kept' \
+        '1000 0 0 unlink /s/me' '1000 0 0 link /s/file /s/me'
+    s=$(number "$edition" ring.img /s)
+    put ring.img "$(slot "$edition" ring.img /s 2)" "$(printf '%02X 00' "$s")"
+    put ring.img "$(slot "$edition" ring.img / 2)" '00 00'
+    at="lost+found/#$s"
+    rescues 'a directory that only it names' "$edition" ring.img "/kept /lost+found /$at /$at/file /$at/me" "kept lost+found/ $at/ $at/file" \
+        "unixvol: $at/me: a directory that was met before
+unixvol: i-node $s: a directory with 4 entries, which is out of reach, rescued as $at"
 done
 
 # A name with a slash.

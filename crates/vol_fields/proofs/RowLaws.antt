@@ -1,12 +1,12 @@
 -- Lemmas on the rows of a dump.
-use Rattle.std.proofs.Common.{◌≡◌, ℕ, ◌+◌, ◌-◌, ◌<◌, ◌≤◌, ◌∙◌, ◌||◌, true, false, if◌then◌else◌, leb, List, [], ◌∷◌, ◌++◌, length, take, drop, slice_range, refl, sym, ap, subst, arith}
+use Rattle.std.proofs.Common.{◌≡◌, ℕ, zero, suc, ◌+◌, ◌-◌, ◌<◌, ◌≤◌, ◌∙◌, ◌||◌, true, false, if◌then◌else◌, leb, List, [], ◌∷◌, ◌++◌, length, take, drop, slice_range, refl, sym, ap, subst, arith}
 use Rattle.std.proofs.lemmas.Bool.{leb-false}
 use Rattle.std.proofs.lemmas.List.{drop-drop}
 use Rattle.std.proofs.Math.Seq.{take-add}
 use Rattle.std.specs.List.{flat_map}
 use Rattle.vol_layout.specs.Geometry.{Fits}
 use Rattle.vol_layout.specs.declared.geometry.Geometry.{Geometry}
-use Rattle.vol_fields.specs.Rows.{AreRows, bytes_of, is_zero, row_at, row_bytes}
+use Rattle.vol_fields.specs.Rows.{AreRows, AreWithin, array_end, bytes_of, is_zero, is_zero_item, item_end, row_at, row_bytes}
 use Rattle.vol_fields.specs.declared.role.Role.{Role}
 use Rattle.vol_fields.specs.declared.rows.Row.{Row}
 
@@ -50,3 +50,29 @@ rows_bytes g t image to fits within (row ∷ more) n done =
           ∙ (ap (λ xs. slice_range image n (n + row.bytes) ++ xs) next.1
           ∙ sym (split_range image n (n + row.bytes) to (omega arith) next.0)),
     )
+
+-- a zero field of an array is passed
+pub array_goes_on : (g : Geometry) (t : List Role) (image : List ℕ) (to count n : ℕ) → is_zero_item g t image to n ≡ true
+    → array_end g t image to (suc count) n ≡ array_end g t image to count (item_end g t (length image) to n)
+unfolding array_end
+array_goes_on g t image to count n is =
+    ap (λ test. if test then array_end g t image to count (item_end g t (length image) to n) else n) is
+
+-- any other field isn't
+pub array_ends : (g : Geometry) (t : List Role) (image : List ℕ) (to count n : ℕ) → is_zero_item g t image to n ≡ false
+    → array_end g t image to (suc count) n ≡ n
+unfolding array_end
+array_ends g t image to count n is =
+    ap (λ test. if test then array_end g t image to count (item_end g t (length image) to n) else n) is
+
+-- each row begins and ends at or before the end of all
+pub rows_within : (g : Geometry) (t : List Role) (image : List ℕ) (to : ℕ) → Fits g image → to ≤ length image → (rows : List Row) (n : ℕ)
+    → AreRows g t image to n to rows → AreWithin to rows
+unfolding row_at
+rows_within g t image to fits within [] n done k d before = absurd (omega (arith, before))
+rows_within g t image to fits within (row ∷ more) n done zero d before =
+    let next = rows_bytes g t image to fits within more (n + row.bytes) done.2 in
+    let start : row.start ≡ n = ap (λ (r : Row). r.start) done.1 in
+    omega (arith, start, next.0)
+rows_within g t image to fits within (row ∷ more) n done (suc k) d before =
+    rows_within g t image to fits within more (n + row.bytes) done.2 k d (omega arith)

@@ -3,7 +3,9 @@ pub use Rattle.vol_layout.specs.Geometry
 pub mod Changes
 pub mod Fields
 pub mod Laws
+pub mod Lines
 pub mod Roles
 pub mod Rows
 pub mod Runs
 pub mod Tables
+pub mod Values

@@ -4,16 +4,19 @@
 pub mod changes;
 pub mod field;
 pub mod laws;
+mod lines;
 mod names;
 mod role;
 mod role_table;
 mod rows;
 mod runs;
 mod tables;
+mod values;
 
 pub use changes::changed_fields;
 pub use field::{Field, field_at};
-pub use names::Name;
+pub use lines::{Radix, push_row};
+pub use names::{Name, ValueKind};
 pub use role::Role;
 pub use role_table::block_roles;
 pub use rows::{Row, rows_of};

@@ -1,8 +1,12 @@
 -- The long lines of a listing.
-use Rattle.std.specs.Prelude.{ℕ, ◌+◌, ◌/◌, ◌%◌, if◌then◌else◌, List, [], ◌∷◌, ◌++◌}
+use Rattle.std.specs.Prelude.{ℕ, ◌+◌, ◌/◌, ◌%◌, if◌then◌else◌, List, [], ◌∷◌, ◌++◌, Option, None, Some}
 use Rattle.vol_dir.specs.Access.{has_bit}
+use Rattle.vol_layout.specs.Inode.{permissions_of}
+use Rattle.vol_layout.specs.declared.mode.Kind.{Kind}
+use Rattle.vol_layout.specs.declared.mode.Kind.TheVariants as kinds
 use Rattle.vol_listing.specs.Digits.{digit_at, padded_number}
 use Rattle.vol_listing.specs.Dates.{moment_text}
+use Rattle.vol_listing.specs.Rows.{special_sort}
 use Rattle.vol_listing.specs.declared.rows.Row.{Row}
 use Rattle.vol_listing.specs.declared.rows.Sort.{Sort}
 use Rattle.vol_listing.specs.declared.rows.Sort.TheVariants as sorts
@@ -31,6 +35,13 @@ mode_text sort permissions =
     ∷ flag permissions 32 114 ∷ flag permissions 16 119 ∷ special_flag permissions 8 1024 115 83
     ∷ flag permissions 4 114 ∷ flag permissions 2 119 ∷ special_flag permissions 1 512 116 84
     ∷ []
+
+-- the letters of a mode with this kind; none if no i-node that `ls` lists has it (ls -l)
+abbrev pub kind_letters : ℕ → Kind → Option (List ℕ)
+kind_letters mode kinds.Regular = Some (mode_text sorts.Regular (permissions_of mode))
+kind_letters mode kinds.Directory = Some (mode_text sorts.Directory (permissions_of mode))
+kind_letters mode kinds.Special = Some (mode_text (special_sort (mode / 4096) 0) (permissions_of mode))
+kind_letters mode kind = None
 
 -- a number below 1000, right-aligned in 3 columns (ls -l)
 abbrev pub short_number : ℕ → List ℕ

@@ -23,7 +23,7 @@ const YEARS: u32 = 136;
 
 /// Appends a time, in seconds since the beginning of 1970, as `YYYY-MM-DD HH:MM:SS` in universal time.
 #[tactic(auto, unfolding(crate::specs::Dates::moment_text))]
-pub(crate) fn push_moment(text: &mut Vec<u8>, seconds: u32) -> Result<(), AllocError>
+pub fn push_moment(text: &mut Vec<u8>, seconds: u32) -> Result<(), AllocError>
     ensures { OnOk result (text.new.items ≡ text.old.items ++ moment_text seconds) }
 {
     text.extend_from_slice(&date_text(date_of(seconds / DAY)))?;

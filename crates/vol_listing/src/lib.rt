@@ -14,8 +14,10 @@ mod places;
 mod rows;
 pub mod sums;
 
+pub use dates::push_moment;
 pub use lines::push_shown;
 pub use listing::{list, shown_path};
+pub use long_lines::kind_letters;
 pub use options::{Depth, Lines, ListOptions, Screen};
 pub use places::joined;
 pub use sums::{sums_json, sums_text};

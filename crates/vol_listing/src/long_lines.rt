@@ -2,11 +2,12 @@
 ghost use Rattle.std.specs.Prelude.{◌≡◌, ◌++◌, ◌<◌, OnOk};
 ghost use Rattle.vol_dir.specs.Access.{has_bit};
 ghost use Rattle.vol_listing.specs.Digits.{digit_at, padded_number};
-ghost use Rattle.vol_listing.specs.LongLines.{letter_of, flag, special_flag, mode_text, short_number, wide_number, device_text, size_text, column as spaced, owner_columns, long_columns};
+ghost use Rattle.vol_listing.specs.LongLines.{kind_letters, letter_of, flag, special_flag, mode_text, short_number, wide_number, device_text, size_text, column as spaced, owner_columns, long_columns};
 
 use crate::dates::push_moment;
-use crate::rows::{Row, Sort};
+use crate::rows::{Row, Sort, special_type};
 use std::alloc::AllocError;
+use vol_layout::{Kind, Mode};
 
 /// Appends the columns of a long line, each followed by a space.
 #[tactic(auto, unfolding(crate::specs::LongLines::long_columns))]
@@ -40,6 +41,19 @@ pub(crate) fn push_column(text: &mut Vec<u8>, column: &[u8]) -> Result<(), Alloc
     text.extend_from_slice(column)?;
     text.push(b' ')?;
     Ok(())
+}
+
+/// Returns the letters of a mode of this kind, as `ls -l` prints them; none if the mode is that of a free i-node or isn't valid.
+pub fn kind_letters(mode: Mode, kind: Kind) -> Option<[u8; 10]>
+    ensures { result ≡ kind_letters mode.bits kind }
+{
+    let sort = match kind {
+        Kind::Free | Kind::Odd => return None,
+        Kind::Regular => Sort::Regular,
+        Kind::Directory => Sort::Directory,
+        Kind::Special => special_type(mode, 0),
+    };
+    Some(mode_text(sort, mode.permissions()))
 }
 
 /// Returns the kind of a node and its permissions, in ten letters.

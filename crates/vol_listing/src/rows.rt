@@ -7,7 +7,7 @@ ghost use Rattle.vol_listing.specs.Rows.{row_of, row_with, special_sort};
 
 use pdp_words::Image;
 use vol_layout::i_list::kind;
-use vol_layout::{Geometry, Inode, Kind, inode};
+use vol_layout::{Geometry, Inode, Kind, Mode, inode};
 
 /// A row of a listing: the attributes of a node.
 #[derive(Clone, Copy)]
@@ -104,7 +104,14 @@ fn special_sort(node: &Inode) -> Sort
     ensures { result ≡ special_sort (node.now.mode.bits / 4096) (slice_index node.now.addresses 0 % 65536) }
 {
     let device = (node.addresses[0] % 65_536) as u16;
-    if node.mode.bits / 4096 / 2 % 4 == 3 {
+    special_type(node.mode, device)
+}
+
+/// Returns the kind of a special file with this mode and device number.
+pub(crate) fn special_type(mode: Mode, device: u16) -> Sort
+    ensures { result ≡ special_sort (mode.bits / 4096) device }
+{
+    if mode.bits / 4096 / 2 % 4 == 3 {
         Sort::Block(device)
     } else {
         Sort::Character(device)

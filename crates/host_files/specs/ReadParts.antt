@@ -6,8 +6,6 @@ use Rattle.vol_layout.specs.Geometry.{block_count, is_whole}
 use Rattle.vol_layout.specs.declared.edition.Edition.{Edition}
 use Rattle.pdp_words.specs.Devices.{IsReadWhole}
 use Rattle.host_files.specs.Archives.{IsArchiveRead, IsLong}
-use Rattle.host_files.specs.declared.image_file.FileKind.{FileKind}
-use Rattle.host_files.specs.declared.image_file.FileKind.TheVariants as kinds
 use Rattle.host_files.specs.declared.volume_front.UpTo.{UpTo}
 use Rattle.host_files.specs.declared.volume_front.UpTo.TheVariants.{End, Volume, Archive}
 
@@ -35,12 +33,6 @@ abbrev pub IsReadUpTo : UpTo → Option (List ℕ) → Option (List ℕ) → Lis
 IsReadUpTo End old new bytes = IsReadWhole old new bytes
 IsReadUpTo (Volume edition) old new bytes = IsVolumeRead edition old new bytes
 IsReadUpTo (Archive blocks) old new bytes = IsArchiveRead blocks old new bytes
-
--- the end of the part that is read from the file of an image to change: a regular file is read whole, since the bytes after the volume are saved too
--- (this project)
-abbrev pub up_to_kept : Edition → FileKind → UpTo
-up_to_kept edition kinds.Regular = End
-up_to_kept edition _ = Volume edition
 
 -- more bytes were read from the source than any volume has, and their super-block records more blocks than any volume has (this project)
 abbrev pub IsEndless : Edition → Option (List ℕ) → Option (List ℕ) → Type 0

@@ -7,23 +7,25 @@ use crate::image_file::ImageFiles;
 use pdp_words::{Sink, write_uninterrupted};
 use std::io;
 
-/// A new file that bytes are appended to, zeros as holes.
+/// A new file that bytes are appended to, zeros as holes if it may have holes.
 #[derive(Drop)]
 pub(crate) struct HoledFile<'a, R: ImageFiles> {
     rt: &'a R,
     file: R::File,
+    has_holes: bool,
     error: Option<io::Error>,
 }
 
 impl<'a, R: ImageFiles> HoledFile<'a, R> {
     /// Returns a sink into an open file, after the bytes that it holds. The sink hasn't failed.
-    pub(crate) fn new(rt: &'a R, file: R::File) -> HoledFile<'a, R>
+    pub(crate) fn new(rt: &'a R, file: R::File, has_holes: bool) -> HoledFile<'a, R>
         ensures bytes { ⟦<HoledFile<'a, R> as Sink>⟧.contents result ≡ R.File.contents file }
         ensures fresh { ⟦<HoledFile<'a, R> as Sink>⟧.failed result ≡ false }
     {
         HoledFile {
             rt,
             file,
+            has_holes,
             error: None,
         }
     }
@@ -60,6 +62,10 @@ impl<R: ImageFiles> Sink for HoledFile<'_, R> {
 }
 
 impl<R: ImageFiles> HoleSink for HoledFile<'_, R> {
+    fn has_holes(&self) -> bool {
+        self.has_holes
+    }
+
     fn append_zeros(&mut self, zeros: &[u8]) -> Result<(), SinkFailed> {
         let result = self.rt.append_hole(&mut self.file, zeros.len() as u64);
         if let Err(error) = result {

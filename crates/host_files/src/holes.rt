@@ -15,6 +15,9 @@ pub struct SinkFailed;
 
 /// A sink that can have holes: zeros that take no room on its disk.
 pub trait HoleSink: Sink {
+    /// True if the sink has holes.
+    fn has_holes(&self) -> bool;
+
     /// Appends bytes that are all zero, as a hole if the sink has holes.
     fn append_zeros(&mut self, zeros: &[u8]) -> Result<(), SinkFailed>
         requires { is_zeros zeros.now ≡ true }
@@ -28,6 +31,9 @@ pub fn write_with_holes<W: HoleSink>(sink: &mut W, bytes: &[u8]) -> Result<(), S
     ensures ok { OnOk result (Appends (W.contents sink.old) (W.contents sink.new) bytes.now) }
     ensures fault { OnErr result (W.failed sink.new ≡ true) }
 {
+    if !sink.has_holes() {
+        return write_all(sink, bytes).map_err(|_| SinkFailed);
+    }
     let mut at = 0;
     'pieces: while at < bytes.len() {
         let end = bytes.len().min(at + HOLE);

@@ -17,6 +17,9 @@ pub use image_file::{
 };
 pub use marks::{Marks, modified_in, permissions_of};
 pub use noted::{Noted, noted_reader, noted_writer};
-pub use pack::{PartFault, SpliceFault, read_part, splice};
-pub use saved_files::{Content, HeldFile, is_pipe, save_apart, save_file, save_held, save_marked};
+pub use pack::{MoveFault, SpliceFault, moved_to, splice};
+pub use saved_files::{
+    Content, HeldFile, VolumePart, is_pipe, save_apart, save_file, save_held, save_marked,
+    save_volume,
+};
 pub use volume_front::{FrontFault, UpTo, read_on, read_up_to};

@@ -1,45 +1,65 @@
 //! A volume in a pack: the part of a file from a block on, which is read, and saved so that every other byte of the pack stays the same.
-ghost use Rattle.std.specs.Prelude.{◌≡◌, ◌+◌, ◌*◌, true, false, length, IfOk, IsErrOf, OnErr, OnOk};
-ghost use Rattle.pdp_words.specs.Devices.{LosesFront};
-ghost use Rattle.host_files.specs.Packs.{IsCopied, IsMisfit, IsPartPast, IsPartRead, IsShorter, IsSpliced};
+ghost use Rattle.std.specs.Prelude.{◌≡◌, ◌+◌, ◌*◌, true, length, IfOk, IsErrOf, OnOk};
+ghost use Rattle.host_files.specs.Packs.{IsCopied, IsMisfit, IsMovedTo, IsSpliced};
 
 use crate::holes::{HoleSink, write_with_holes};
-use crate::volume_front::{FrontFault, PIECE, UpTo, read_up_to, skip};
-use pdp_words::{BLOCK, Image, Source};
-use std::alloc::Global;
+use crate::image_file::{FileKind, ImageFiles, Stamp};
+use crate::noted::noted_reader;
+use crate::volume_front::{PIECE, skip};
+use pdp_words::{BLOCK, Source};
+use std::io::{self, ErrorKind, Read};
 
-/// The reason why a part of a pack wasn't read.
+/// The reason why a file wasn't moved to a block.
 #[derive(Clone, Copy)]
-pub enum PartFault {
-    /// The pack ends before the part begins.
+pub enum MoveFault {
+    /// The file ends before the block.
     Short,
-    /// The part wasn't read.
-    Front(FrontFault),
+    /// It can't be read, or has no such place: the system's error.
+    Unread(io::Error),
 }
 
-/// Reads the part of a pack that begins at block `first`, up to the end that `up_to` names. The blocks before it are read and dropped. Whatever the
-/// result, the bytes that were read are no longer in the source.
-pub fn read_part<S: Source>(
-    alloc: Global,
+/// Moves an open file of which nothing was read to the block `first`, and returns it. `stamp` is the file's. A regular file or a device is moved without
+/// reading it; of anything else the blocks before are read and dropped.
+pub fn moved_to<R: ImageFiles>(
+    rt: &R,
+    file: R::File,
+    stamp: Stamp,
     first: u32,
-    up_to: UpTo,
-    source: &mut S,
-) -> Result<Image, PartFault>
-    requires { S.failed source.old ≡ false }
-    ensures ok { IfOk result (IsPartRead (512 * first) up_to (S.remaining source.old) (S.remaining source.new)) }
-    ensures front { OnErr result (LosesFront (S.remaining source.old) (S.remaining source.new)) }
-    ensures short { IsErrOf result PartFault.Short → IsShorter (512 * first) (S.remaining source.old) (S.remaining source.new) }
-    ensures device { IsErrOf result (PartFault.Front FrontFault.Device) → S.failed source.new ≡ true }
-    ensures memory { IsErrOf result (PartFault.Front FrontFault.NoMemory) → S.failed source.new ≡ false }
-    ensures endless { IsErrOf result (PartFault.Front FrontFault.Endless) → IsPartPast (512 * first) up_to (S.remaining source.old) (S.remaining source.new) }
+) -> Result<R::File, MoveFault>
+    ensures { IfOk result (λ moved. IsMovedTo (512 * first) (R.File.remaining file) (R.File.remaining moved)) }
 {
-    match skip(source, BLOCK * first as usize) {
-        Ok(false) => match read_up_to(alloc, up_to, source) {
-            Ok(image) => Ok(image),
-            Err(fault) => Err(PartFault::Front(fault)),
+    let bytes = BLOCK as u64 * u64::from(first);
+    match stamp.kind {
+        FileKind::Regular if stamp.size < bytes => Err(MoveFault::Short),
+        FileKind::Regular | FileKind::Device => match passed_over(rt, file, bytes) {
+            Ok(moved) => Ok(moved),
+            // A device that ends before has no such place.
+            Err(why) if why.kind() == ErrorKind::InvalidInput => Err(MoveFault::Short),
+            Err(why) => Err(MoveFault::Unread(why)),
         },
-        Ok(true) => Err(PartFault::Short),
-        Err(_) => Err(PartFault::Front(FrontFault::Device)),
+        FileKind::Directory | FileKind::Stream => read_past(file, bytes as usize),
+    }
+}
+
+/// Moves over bytes of an open file without reading or writing them, and returns it. A file that can't be moved serves too, if there are none.
+pub(crate) fn passed_over<R: ImageFiles>(rt: &R, mut file: R::File, bytes: u64) -> io::Result<R::File>
+    ensures { IfOk result (λ moved. IsMovedTo bytes (R.File.remaining file) (R.File.remaining moved)) }
+{
+    if bytes > 0 {
+        rt.pass_over(&mut file, bytes)?;
+    }
+    Ok(file)
+}
+
+/// Reads and drops the first bytes of an open file, and returns it.
+fn read_past<F: Read + Drop>(file: F, bytes: usize) -> Result<F, MoveFault>
+    ensures { IfOk result (λ moved. IsMovedTo bytes (F.remaining file) (F.remaining moved)) }
+{
+    let mut source = noted_reader(file);
+    match skip(&mut source, bytes) {
+        Ok(false) => Ok(source.into_inner().into_inner()),
+        Ok(true) => Err(MoveFault::Short),
+        Err(why) => Err(MoveFault::Unread(why)),
     }
 }
 

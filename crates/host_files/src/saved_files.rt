@@ -1,15 +1,17 @@
 //! Saves an image in a file so that a failure leaves the old file unchanged.
-ghost use Rattle.std.specs.Prelude.{◌≡◌, true, IfOk, IfSome, OnErr, OnOk};
+ghost use Rattle.std.specs.Prelude.{◌≡◌, ◌≢◌, ◌*◌, true, IfOk, IfSome, OnErr, OnOk};
 ghost use Rattle.std.specs.Io.KnownBytes.{Appends};
 ghost use Rattle.std.specs.Path.{path_bytes, path_buf_bytes};
-ghost use Rattle.host_files.specs.Save.{IsBeside, Grows, Saves, IsPlaced, Holds};
+ghost use Rattle.host_files.specs.Save.{Fills, FillsPart, Grows, GrowsInPlace, Holds, IsBeside, IsPlaced, Saves, Stores};
+ghost use Rattle.host_files.specs.declared.image_file.FileKind.TheVariants as kinds;
 
 use crate::holed_file::HoledFile;
 use crate::holes::{SinkFailed, write_with_holes};
-use crate::image_file::{FileKind, ImageFiles, Stamp};
+use crate::image_file::{FileKind, ImageFiles, Stamp, open_stamped};
 use crate::marks::{Marks, give_marks};
-use crate::noted::noted_writer;
-use pdp_words::{SaveFault, Sink, write_all};
+use crate::noted::{noted_reader, noted_writer};
+use crate::pack::{SpliceFault, passed_over, splice};
+use pdp_words::{BLOCK, SaveFault, Sink, write_all};
 use std::fs::{self, Files, Metadata, OpenFile, OpenOptions, Permissions};
 use std::io::{self, ErrorKind, Write};
 use std::os::unix::fs::{MetadataExt, OpenOptionsExt, PermissionsExt};
@@ -57,6 +59,24 @@ pub enum Content<'a> {
     Bytes(&'a [u8]),
     /// A new volume, whose bytes are made while they are written.
     Volume(&'a BlankVolume),
+}
+
+/// The volume in a file, and the bytes to put in its place.
+#[derive(Clone, Copy)]
+pub struct VolumePart<'a> {
+    /// The number of the block of the file that the volume begins at.
+    pub at: u32,
+    /// The volume's bytes.
+    pub bytes: &'a [u8],
+}
+
+/// What is written into a file.
+#[derive(Clone, Copy)]
+enum Filling<'a> {
+    /// A content, which is all that a new file holds.
+    Whole(Content<'a>),
+    /// A volume. A new file also holds what precedes it and what follows it in the old one.
+    Part(VolumePart<'a>),
 }
 
 /// The regular file that a new one will replace.
@@ -112,22 +132,39 @@ impl Content<'_> {
 /// have. If the old file has holes, the zeros of bytes in memory become holes of the new one. If this fails, the old file is unchanged, and there is no
 /// new one. A symbolic link is followed. Anything but a regular file, such as a device or a pipe, is written in place.
 ///
-/// If the content was made from the contents of the file, `read` is the stamp that the file had then. The stamp must be the same just before the new
-/// file replaces the file or the first byte is written.
-///
-/// The error is the system's if a file can't be opened, written, synchronised or renamed; `ResourceBusy` if the stamp differs, or another program
+/// The error is the system's if a file can't be opened, written, synchronised or renamed; `ResourceBusy` if another program
 /// gave the new file's name to something else; `FilesystemLoop` if there are more than 40 symbolic links; `AlreadyExists` if all thousand names of
 /// new files are in use; `OutOfMemory` if an allocation was refused.
 pub fn save_file<R: ImageFiles + AllocGlobal>(
     rt: &R,
     path: &str,
-    read: Option<Stamp>,
     content: Content<'_>,
 ) -> io::Result<()>
-    ensures saved { OnOk result (Saves R.File.contents content.entry) }
-    ensures unchanged { OnOk result (IfSome read R.stood) }
+    ensures { OnOk result (Saves R.File.contents content.entry) }
 {
-    put_content(rt, path, read, content, None)?;
+    put(rt, path, None, Filling::Whole(content), None)?;
+    Ok(())
+}
+
+/// Saves a volume in its place in the file `path`, as [`save_file`] does: the new file has what precedes the volume and what follows it in the old one,
+/// and holes for its zeros if the old one has holes. Of anything but a regular file only the volume's bytes are written.
+///
+/// `read` is the stamp that the file had when the volume was read. The stamp must be the same just before the new file replaces the file or the first
+/// byte is written.
+///
+/// The errors are those of [`save_file`]; and `ResourceBusy` if the stamp differs, or the file ends before the volume does.
+///
+/// Costs reading and writing the whole file, and takes no memory for it.
+pub fn save_volume<R: ImageFiles + AllocGlobal>(
+    rt: &R,
+    path: &str,
+    read: Stamp,
+    part: VolumePart<'_>,
+) -> io::Result<()>
+    ensures saved { OnOk result (Stores R.File.remaining R.File.contents R.had part.entry) }
+    ensures unchanged { OnOk result (R.stood read) }
+{
+    put(rt, path, Some(read), Filling::Part(part), None)?;
     Ok(())
 }
 
@@ -143,7 +180,7 @@ pub fn save_marked<R: ImageFiles + AllocGlobal>(
 ) -> io::Result<()>
     ensures { OnOk result (Saves R.File.contents content.entry) }
 {
-    put_content(rt, path, None, content, Some(marks))?;
+    put(rt, path, None, Filling::Whole(content), Some(marks))?;
     Ok(())
 }
 
@@ -155,7 +192,7 @@ pub fn save_apart<R: ImageFiles>(rt: &R, path: &str, content: Content<'_>) -> io
     let mut options = OpenOptions::new();
     options.write(true).create_new(true).mode(PRIVATE);
     let file = options.open(rt, path)?;
-    match fill(rt, file, None, content, None) {
+    match fill(rt, file, None, Filling::Whole(content), None) {
         Ok(_) => {
             sync_folder(rt, Path::new(path));
             Ok(())
@@ -167,59 +204,59 @@ pub fn save_apart<R: ImageFiles>(rt: &R, path: &str, content: Content<'_>) -> io
     }
 }
 
-/// Saves a content in the file `path`, as [`save_file`] does with the stamp of `held`. `held` was opened at `path` and is locked. The new file is
-/// locked before it replaces the old one, and then replaces it in `held`, so no other command can run between two saves. A file that isn't regular
+/// Saves a volume in its place in the file `path`, as [`save_volume`] does with the stamp of `held`. `held` was opened at `path` and is locked. The new file
+/// is locked before it replaces the old one, and then replaces it in `held`, so no other command can run between two saves. A file that isn't regular
 /// stays in `held`.
 ///
-/// The errors are the same as for [`save_file`]; after an error `held` is unchanged.
+/// The errors are the same as for [`save_volume`]; after an error `held` is unchanged.
 pub fn save_held<R: ImageFiles + AllocGlobal>(
     rt: &R,
     path: &str,
     held: &mut HeldFile<R::File>,
-    content: Content<'_>,
+    part: VolumePart<'_>,
 ) -> io::Result<()>
-    ensures saved { OnOk result (Saves R.File.contents content.entry) }
+    ensures saved { OnOk result (Stores R.File.remaining R.File.contents R.had part.entry) }
     ensures unchanged { OnOk result (R.stood held.old.stamp) }
-    ensures held { OnOk result (Holds R.File.contents R.had content.entry held.old held.new) }
+    ensures held { OnOk result (Holds R.File.remaining R.File.contents R.had part.entry held.old held.new) }
     ensures kept { OnErr result (held.new ≡ held.old) }
 {
-    match put_content(rt, path, Some(held.stamp), content, None)? {
+    match put(rt, path, Some(held.stamp), Filling::Part(part), None)? {
         Place::New(file, stamp) => *held = HeldFile { file, stamp },
         Place::Old(stamp) => held.stamp = stamp,
     }
     Ok(())
 }
 
-/// Saves a content in the file `path`, as [`save_file`] does, with these marks if it is a new file and some are given, and returns the file in which it
-/// was saved.
-fn put_content<R: ImageFiles + AllocGlobal>(
+/// Saves a filling in the file `path`, as [`save_file`] and [`save_volume`] do, with these marks if it is a new file and some are given, and returns the
+/// file in which it was saved.
+fn put<R: ImageFiles + AllocGlobal>(
     rt: &R,
     path: &str,
     read: Option<Stamp>,
-    content: Content<'_>,
+    filling: Filling<'_>,
     marks: Option<Marks>,
 ) -> io::Result<Place<R::File>>
-    ensures saved { IfOk result (IsPlaced R.File.contents R.had content.entry) }
+    ensures saved { IfOk result (IsPlaced R.File.remaining R.File.contents R.had filling.entry) }
     ensures unchanged { OnOk result (IfSome read R.stood) }
 {
     match OpenOptions::new().write(true).open(rt, path) {
         Ok(file) => {
             let metadata = file.metadata()?;
             let stamp = rt.stamp_of(&file)?;
-            if metadata.is_file() {
+            if stamp.kind == FileKind::Regular {
                 let place = end_of_links(rt, path)?;
                 let old = Replaced { stamp, metadata };
-                replace(rt, place.as_path(), Some(&old), read, content, marks)
+                replace(rt, place.as_path(), Some(&old), read, filling, marks)
             } else {
                 expect_unchanged(rt, path, read)?;
                 expect_same(stamp, rt.stamp_at(path)?)?;
-                let file = write_in_place(file, content)?;
+                let file = fill_in_place(rt, file, filling)?;
                 Ok(Place::Old(rt.stamp_of(&file)?))
             }
         }
         Err(error) if error.kind() == ErrorKind::NotFound => {
             let place = end_of_links(rt, path)?;
-            replace(rt, place.as_path(), None, read, content, marks)
+            replace(rt, place.as_path(), None, read, filling, marks)
         }
         Err(error) => Err(error),
     }
@@ -288,22 +325,22 @@ fn is_end(error: io::Error) -> bool {
     kind == ErrorKind::InvalidInput || kind == ErrorKind::NotFound
 }
 
-/// Replaces the file at `path` by a new file with this content, and with these marks if some are given, and returns the new file, locked. `path` isn't a
+/// Replaces the file at `path` by a new file with this filling, and with these marks if some are given, and returns the new file, locked. `path` isn't a
 /// symbolic link, and must still have the stamp `read`, if one is given.
 fn replace<R: ImageFiles + AllocGlobal>(
     rt: &R,
     path: Path<'_>,
     old: Option<&Replaced>,
     read: Option<Stamp>,
-    content: Content<'_>,
+    filling: Filling<'_>,
     marks: Option<Marks>,
 ) -> io::Result<Place<R::File>>
-    ensures saved { IfOk result (IsPlaced R.File.contents R.had content.entry) }
+    ensures saved { IfOk result (IsPlaced R.File.remaining R.File.contents R.had filling.entry) }
     ensures unchanged { OnOk result (IfSome read R.stood) }
 {
     expect_there(rt, path.as_str(), old)?;
     let (file, beside) = new_file(rt, path, old.is_some())?;
-    let result = match fill(rt, file, old, content, marks) {
+    let result = match fill(rt, file, old.map(|old| (path, old)), filling, marks) {
         Ok(file) => rename_over(rt, file, beside.as_path(), path, old, read),
         Err(error) => Err(error),
     };
@@ -379,20 +416,21 @@ fn new_file<R: Files + AllocGlobal>(
     Err(io::Error::new(ErrorKind::AlreadyExists, NO_NAME))
 }
 
-/// Fills the new file `file`, gives it these marks, if some are given, waits until its bytes are on the disk, and returns the file.
+/// Fills the new file `file`, gives it these marks, if some are given, waits until its bytes are on the disk, and returns the file. `old` is the file
+/// that it will replace, if there is one, and its path.
 fn fill<R: ImageFiles>(
     rt: &R,
     file: R::File,
-    old: Option<&Replaced>,
-    content: Content<'_>,
+    old: Option<(Path<'_>, &Replaced)>,
+    filling: Filling<'_>,
     marks: Option<Marks>,
 ) -> io::Result<R::File>
-    ensures { IfOk result (λ filled. Grows content.entry (R.File.contents file) (R.File.contents filled)) }
+    ensures { IfOk result (λ filled. Fills R.File.remaining R.File.contents filling.entry file filled) }
 {
-    if let Some(old) = old {
+    if let Some((_, old)) = old {
         keep_owner(rt, &file, &old.metadata)?;
     }
-    let file = write_new(rt, file, old, content)?;
+    let file = write_new(rt, file, old, filling)?;
     if let Some(marks) = marks {
         give_marks(&file, marks)?;
     }
@@ -400,18 +438,49 @@ fn fill<R: ImageFiles>(
     Ok(file)
 }
 
-/// Writes a content after the bytes that a new file holds, and returns the file. Zeros of bytes in memory become holes if the old file has holes.
+/// Writes a filling after the bytes that a new file holds, and returns the file. Zeros of bytes in memory and of the old file become holes if the old
+/// file has holes.
 fn write_new<R: ImageFiles>(
     rt: &R,
     file: R::File,
-    old: Option<&Replaced>,
-    content: Content<'_>,
+    old: Option<(Path<'_>, &Replaced)>,
+    filling: Filling<'_>,
 ) -> io::Result<R::File>
-    ensures { IfOk result (λ written. Grows content.entry (R.File.contents file) (R.File.contents written)) }
+    ensures { IfOk result (λ written. Fills R.File.remaining R.File.contents filling.entry file written) }
 {
-    match (content, old) {
-        (Content::Bytes(bytes), Some(old)) if old.has_holes() => write_holed(rt, file, bytes),
-        _ => write(file, content),
+    match (filling, old) {
+        (Filling::Part(part), Some((path, old))) => write_part(rt, file, path, old, part),
+        // A volume has a place only in a file that is there.
+        (Filling::Part(_), None) => Err(io::Error::new(ErrorKind::ResourceBusy, CHANGED)),
+        (Filling::Whole(Content::Bytes(bytes)), Some((_, old))) if old.has_holes() => {
+            write_holed(rt, file, bytes)
+        }
+        (Filling::Whole(content), _) => write(file, content),
+    }
+}
+
+/// Writes the old file at `path` into a new one, with a volume in its place, and returns the new file. Zeros become holes if the old file has holes. The
+/// old file must still have its stamp.
+fn write_part<R: ImageFiles>(
+    rt: &R,
+    file: R::File,
+    path: Path<'_>,
+    old: &Replaced,
+    part: VolumePart<'_>,
+) -> io::Result<R::File>
+    ensures { IfOk result (λ written. FillsPart R.File.remaining R.File.contents part.entry file written) }
+{
+    let (whole, stamp) = open_stamped(rt, path.as_str())?;
+    if stamp != old.stamp {
+        return Err(io::Error::new(ErrorKind::ResourceBusy, CHANGED));
+    }
+    let mut pack = noted_reader(whole);
+    let mut sink = HoledFile::new(rt, file, old.has_holes());
+    match splice(&mut pack, &mut sink, BLOCK * part.at as usize, part.bytes) {
+        Ok(()) => Ok(sink.into_inner()),
+        Err(SpliceFault::Unread) => Err(unread(pack.error())),
+        Err(SpliceFault::Unwritten) => Err(unwritten(sink.error())),
+        Err(SpliceFault::Misfit) => Err(io::Error::new(ErrorKind::ResourceBusy, CHANGED)),
     }
 }
 
@@ -419,7 +488,7 @@ fn write_new<R: ImageFiles>(
 fn write_holed<R: ImageFiles>(rt: &R, file: R::File, bytes: &[u8]) -> io::Result<R::File>
     ensures { IfOk result (λ written. Appends (R.File.contents file) (R.File.contents written) bytes.now) }
 {
-    let mut sink = HoledFile::new(rt, file);
+    let mut sink = HoledFile::new(rt, file, true);
     match write_with_holes(&mut sink, bytes) {
         Ok(()) => Ok(sink.into_inner()),
         Err(SinkFailed) => Err(unwritten(sink.error())),
@@ -443,6 +512,23 @@ fn keep_owner<R: ImageFiles>(rt: &R, file: &R::File, old: &Metadata) -> io::Resu
 /// Returns the permissions of a file that can't have its old group: the new group gets none, and other users only those that the old group had too.
 fn without_group(mode: u32) -> u32 {
     (mode & 0o700) | (mode & (mode >> 3) & 0o007)
+}
+
+/// Writes a filling into something other than a regular file, a volume in its place, and returns the file.
+fn fill_in_place<R: ImageFiles>(
+    rt: &R,
+    file: R::File,
+    filling: Filling<'_>,
+) -> io::Result<R::File>
+    ensures { IfOk result (λ filled. GrowsInPlace R.File.contents filling.entry filled) }
+{
+    match filling {
+        Filling::Whole(content) => write_in_place(file, content),
+        Filling::Part(part) => {
+            let file = passed_over(rt, file, BLOCK as u64 * u64::from(part.at))?;
+            write_in_place(file, Content::Bytes(part.bytes))
+        }
+    }
 }
 
 /// Writes a content into something other than a regular file, synchronises it if it is on a disk, and returns the file.
@@ -473,5 +559,13 @@ fn unwritten(error: Option<io::Error>) -> io::Error {
     match error {
         Some(error) if error.kind() != ErrorKind::OutOfMemory => error,
         _ => io::Error::from(ErrorKind::WriteZero),
+    }
+}
+
+/// Returns the error for a file that couldn't be read completely: the system's, unless it would mean that this program ran out of memory.
+fn unread(error: Option<io::Error>) -> io::Error {
+    match error {
+        Some(error) if error.kind() != ErrorKind::OutOfMemory => error,
+        _ => io::Error::from(ErrorKind::Other),
     }
 }

@@ -1,10 +1,9 @@
 //! Reads the image or the archive in a file, and nothing after it.
 ghost use Rattle.std.specs.Prelude.{◌≡◌, false, true, IfOk, OnErr, OnOk, IsErrOf};
 ghost use Rattle.pdp_words.specs.Devices.{LosesFront};
-ghost use Rattle.host_files.specs.ReadParts.{IsEndless, IsPast, IsReadOn, IsReadUpTo, IsSkipped, IsVolumeRead, up_to_kept};
+ghost use Rattle.host_files.specs.ReadParts.{IsEndless, IsPast, IsReadOn, IsReadUpTo, IsSkipped, IsVolumeRead};
 
 use crate::archive_front::read_archive;
-use crate::image_file::FileKind;
 use pdp_words::{BLOCK, Image, LoadFault, Source, load};
 use std::alloc::Global;
 use std::io;
@@ -19,19 +18,6 @@ pub enum UpTo {
     Volume(Edition),
     /// The end of the archive in the file, which has at most this many blocks.
     Archive(u32),
-}
-
-impl UpTo {
-    /// Returns the end of the part that is read from the file of an image to change. A regular file is read whole, since the bytes after its volume
-    /// are saved too.
-    pub fn kept(edition: Edition, kind: FileKind) -> UpTo
-        ensures { result ≡ up_to_kept edition kind }
-    {
-        match kind {
-            FileKind::Regular => UpTo::End,
-            FileKind::Device | FileKind::Directory | FileKind::Stream => UpTo::Volume(edition),
-        }
-    }
 }
 
 /// The reason why a file wasn't read.

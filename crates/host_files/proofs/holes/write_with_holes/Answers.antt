@@ -15,7 +15,7 @@ pub pieces-preserved : goal.pieces-preserved
 pieces-preserved g c =
     let up : c.pieces.at ≤ c.min-end.result = omega (arith, c.pieces-test.true) in
     record {
-      written = writes_piece (g.W.Sink.contents c.args.sink.now) (g.W.Sink.contents c.pieces.sink) (g.W.Sink.contents c.write_all.new.sink) c.args.bytes.now
+      written = writes_piece (g.W.Sink.contents c.args.sink.now) (g.W.Sink.contents c.pieces.sink) (g.W.Sink.contents c.write_all-else-is_zeros.new.sink) c.args.bytes.now
           c.pieces.at c.min-end.result up c.pieces.invariant.written c.in-Ok.ensures.ok;
       within = omega arith;
     }

@@ -23,10 +23,11 @@ refuses_mount() {
 
 # Refusals before anything is mounted.
 mkdir mnt
-usage='unixvol-mount: usage: unixvol-mount [--read-only] [--mine] [--allow-other] [--background] [--rescue FILE] EDITION IMAGE FOLDER'
+usage='unixvol-mount: usage: unixvol-mount [--read-only] [--mine] [--allow-other] [--background] [--rescue FILE] [--at BLOCK] EDITION IMAGE FOLDER'
 refuses_mount 2 "$usage"
 refuses_mount 2 "$usage" --read-only 7 "$linux"
 refuses_mount 2 "$usage" --rescue
+refuses_mount 2 "$usage" --at
 refuses_mount 2 "$usage" --rescue '' 7 "$linux" mnt
 refuses_mount 2 "$usage" 7 "$linux" mnt --background
 refuses_mount 1 'unixvol: unsound, rule 2' --read-only 6 "$linux" mnt
@@ -63,6 +64,7 @@ called_with() {
 }
 called_with "glibc.malloc.hugetlb=1 serve -- 7 $linux" 7 "$linux" mnt
 called_with "glibc.malloc.hugetlb=1 serve --read-only -- 6 $PWD/an image" --read-only --rescue file 6 'an image' mnt
+called_with "glibc.malloc.hugetlb=1 serve --at 18000 -- 7 $PWD/x" --at 18000 7 x mnt
 called_with "glibc.malloc.hugetlb=1 serve --rescue $PWD/a file -- 7 $PWD/x" --background --rescue 'a file' 7 x mnt
 GLIBC_TUNABLES=glibc.malloc.check=1 called_with 'glibc.malloc.check=1:glibc.malloc.hugetlb=1 serve --rescue /file -- 7 /x' --rescue /file 7 /x mnt
 

@@ -50,8 +50,13 @@ has 'a link to a volume that was changed' tree6 "$(readlink volumes/leads)"
 prints hello get 6 volumes/tree6 /more
 truncate -s 400M volumes/great
 (ulimit -v 300000; runs put 6 volumes/great /a hello 1)
+echo 'unixvol: unsound, rule 2' > line
+wants 'put into a file that is longer than its volume and the memory' 1 none line
+# The super-block records 819,200 blocks.
+printf '\144\000\014\000\000\200' | dd of=volumes/great bs=1 seek=512 conv=notrunc status=none
+(ulimit -v 300000; runs put 7 volumes/great /a hello 1)
 echo 'unixvol: 12 NoMemory' > line
-wants 'put in less memory than the image takes' 4 none line
+wants 'put in less memory than the volume takes' 4 none line
 rm volumes/great
 
 # Saving the changed volume: a link is followed, and a full disk leaves the old file.

@@ -1,12 +1,12 @@
 -- The words of `ls`.
-use Rattle.std.proofs.Common.{◌≡◌, ◌↔◌, ◌==◌, ◌∙◌, ℕ, true≢false, true, false, List, ◌∷◌, [], map, slice_index_or, Option, Some, None, refl, sym, ap, subst, codes}
+use Rattle.std.proofs.Common.{◌≡◌, ◌↔◌, ◌==◌, ◌∙◌, ℕ, true≢false, true, false, List, ◌∷◌, [], drop, map, slice_index_or, Option, Some, None, refl, sym, ap, subst, codes}
 use Rattle.std.specs.Borrow.{Bor}
 use Rattle.std.specs.Str.{bytes_eq}
 use Rattle.std.proofs.lemmas.Bool.{ne_eqb}
 use Rattle.std.proofs.lemmas.Slice.Eq.{bytes_eq-Decides}
 use Rattle.clap.proofs.OnLiterals.{clap_on_literals}
 use Rattle.clap.specs.Words.{Row}
-use Rattle.command_words.specs.Invocations.{AreLinesGiven, IsDepthGiven, IsEditionNamed, IsGiven, Words, first_word, is_set, the_word, verb_of}
+use Rattle.command_words.specs.Invocations.{AreLinesGiven, IsDepthGiven, IsEditionNamed, IsGiven, IsNumberOr, Words, first_word, is_set, the_word, verb_of}
 use Rattle.command_words.specs.Verbs.{verb_name}
 use Rattle.command_words.specs.declared.invocation.Invocation.{Invocation}
 use Rattle.command_words.specs.declared.invocation.Invocation.TheVariants as invocations
@@ -54,7 +54,7 @@ abbrev seen : Option (List ℕ × List Row) → List (List ℕ)
 seen None = []
 seen (Some met) = met.0 ∷ the_word (words_by met.1) (codes "EDITION") ∷ the_word (words_by met.1) (codes "IMAGE") ∷ the_word (words_by met.1) (codes "PATH")
     ∷ the_word (words_by met.1) (codes "json") ∷ the_word (words_by met.1) (codes "long") ∷ the_word (words_by met.1) (codes "recursive")
-    ∷ the_word (words_by met.1) (codes "directory") ∷ the_word (words_by met.1) (codes "slots") ∷ []
+    ∷ the_word (words_by met.1) (codes "directory") ∷ the_word (words_by met.1) (codes "slots") ∷ words_by met.1 (codes "at")
 
 -- the words of options that weren't given
 abbrev no_options : List (List ℕ)
@@ -119,6 +119,7 @@ record HasNoOptions (given : Words) : Type 0 where
   below : first_word (given (codes "recursive")) ≡ codes "false"
   itself : first_word (given (codes "directory")) ≡ codes "false"
   slots : first_word (given (codes "slots")) ≡ codes "false"
+  at : given (codes "at") ≡ []
 
 -- if the word of an option is `false`, the option wasn't given
 unset : (words : List (List ℕ)) → first_word words ≡ codes "false" → is_set words ≡ false
@@ -150,7 +151,7 @@ asks_listing : (clock : Option ℕ) (given : Words) (edition : Edition) (image p
     → IsGiven clock given invocation → IsListing edition image path invocation
 asks_listing clock given edition image path (invocations.Cat volume node) test e_is i_is p_is none is = absurd (true≢false (sym test))
 asks_listing clock given edition image path (invocations.Mkfs i volume) test e_is i_is p_is none is = absurd (true≢false (sym test))
-asks_listing clock given edition image path (invocations.Migrate old new migration) test e_is i_is p_is none is = absurd (true≢false (sym test))
+asks_listing clock given edition image path (invocations.Migrate old at new migration) test e_is i_is p_is none is = absurd (true≢false (sym test))
 asks_listing clock given edition image path (invocations.Salvage volume copy) test e_is i_is p_is none is = absurd (true≢false (sym test))
 asks_listing clock given edition image path (invocations.Get volume p) test e_is i_is p_is none is = absurd (true≢false (sym test))
 asks_listing clock given edition image path (invocations.Serve volume serving) test e_is i_is p_is none is = absurd (true≢false (sym test))
@@ -186,6 +187,7 @@ asks_listing clock given edition image path (invocations.Look volume (looks.List
   is.1.0 ∙ p_is,
   plain given listing.lines none is.1.1,
   to_names given listing.depth none is.1.2,
+  subst (λ (words : List (List ℕ)). IsNumberOr 4294967295 0 words volume.at) none.at is.0.2,
 )
 asks_listing clock given edition image path (invocations.Copy volume (copies.Put directory files keep now)) test e_is i_is p_is none is = absurd (true≢false (sym test))
 asks_listing clock given edition image path (invocations.Copy volume (copies.Get folder paths keeps)) test e_is i_is p_is none is = absurd (true≢false (sym test))
@@ -203,6 +205,7 @@ no_options_by met edition image path is = record {
   below = ap (λ (l : List (List ℕ)). slice_index_or l 6 []) is;
   itself = ap (λ (l : List (List ℕ)). slice_index_or l 7 []) is;
   slots = ap (λ (l : List (List ℕ)). slice_index_or l 8 []) is;
+  at = ap (drop 9) is;
 }
 
 -- if clap found the command `ls` with its words and no options, every invocation that is read from them is that listing
@@ -226,7 +229,7 @@ listing_asks : (clock : Option ℕ) (met : Option (List ℕ × List Row)) (editi
 listing_asks clock None edition image path invocation is listed = absurd (cc)
 listing_asks clock (Some met) edition image path (invocations.Cat volume node) is listed = absurd listed
 listing_asks clock (Some met) edition image path (invocations.Mkfs i volume) is listed = absurd listed
-listing_asks clock (Some met) edition image path (invocations.Migrate old new migration) is listed = absurd listed
+listing_asks clock (Some met) edition image path (invocations.Migrate old at new migration) is listed = absurd listed
 listing_asks clock (Some met) edition image path (invocations.Salvage volume copy) is listed = absurd listed
 listing_asks clock (Some met) edition image path (invocations.Get volume p) is listed = absurd listed
 listing_asks clock (Some met) edition image path (invocations.Serve volume serving) is listed = absurd listed
@@ -253,6 +256,7 @@ listing_asks clock (Some met) edition image path (invocations.Look volume (looks
         (
           subst (λ (e : Edition). IsEditionNamed e (the_word (words_by met.1) (codes "EDITION"))) (sym listed.0) (subst (IsEditionNamed edition) (sym word) (word_names edition)),
           listed.1 ∙ sym file,
+          subst (λ (words : List (List ℕ)). IsNumberOr 4294967295 0 words volume.at) (sym none.at) listed.5,
         ),
         (
           listed.2 ∙ sym end,

@@ -15,10 +15,12 @@ use Rattle.vol_layout.specs.declared.edition.Edition.{Edition}
 abbrev pub IsPlainWord : List ℕ → Type 0
 IsPlainWord word = slice_index word 0 ≢ 45
 
--- the invocation lists the names in the directory at this path, each with its i-number, of the volume of this edition in this file (this project)
+-- the invocation lists the names in the directory at this path, each with its i-number, of the volume of this edition that begins with this file
+-- (this project)
 abbrev pub IsListing : Edition → List ℕ → List ℕ → Invocation → Type 0
 IsListing edition image path (invocations.Look volume (looks.List directory listing)) =
     (volume.edition ≡ edition) × (volume.image.now ≡ image) × (directory.now ≡ path) × (listing.lines ≡ lines.Plain) × (listing.depth ≡ depths.Names)
+    × (volume.at ≡ 0)
 IsListing edition image path _ = ⊥
 
 -- whatever the clock's time, clap accepts `ls`, an edition and two words that don't begin with a hyphen; they are read as that listing and as no

@@ -38,7 +38,7 @@ need_rule name needs.Maybe = new_rule name
 need_rule name needs.Several = record (new_rule name) { required = true; range = Some (record { start_inclusive = 1; end_inclusive = usize_max }) }
 need_rule name needs.Any = record (new_rule name) { range = Some (record { start_inclusive = 1; end_inclusive = usize_max }) }
 need_rule name (needs.Flag letter) = record (new_rule name) { long = Some name; short = letter; action = Some actions.SetTrue }
-need_rule name (needs.Value letter value) = record (new_rule name) { long = Some name; short = Some letter; value_names = 1 }
+need_rule name (needs.Value letter value) = record (new_rule name) { long = Some name; short = letter; value_names = 1 }
 
 -- the rule of an argument; for an edition, its words must be among these texts (this project)
 abbrev pub kind_rule : Bor (List (Bor (List ℕ))) → WordKind → Rule → Rule

@@ -156,23 +156,26 @@ fn any<'a>(alloc: Global, name: &'a str, help: &'a str) -> Arg<'a>
     optional(alloc, name, help).num_args(1..)
 }
 
-/// Builds an option with a value.
+/// Builds an option with a value, with or without a letter.
 #[tactic(auto, unfolding(crate::specs::Words::rule, crate::specs::Words::need_rule))]
 fn valued<'a>(
     alloc: Global,
     name: &'a str,
-    letter: char,
+    letter: Option<char>,
     value: ValueName,
     help: &'a str,
 ) -> Arg<'a>
     ensures { rule result ≡ need_rule name.entry.now (needs.Value letter value) }
 {
     let value_name: &'a str = value.text();
-    Arg::new(alloc, name)
-        .short(letter)
+    let option = Arg::new(alloc, name)
         .long(name)
         .value_name(value_name)
-        .help(help)
+        .help(help);
+    match letter {
+        Some(letter) => option.short(letter),
+        None => option,
+    }
 }
 
 /// Builds an option, with or without a letter.

@@ -11,7 +11,6 @@ use Rattle.command_words.specs.declared.verbs.Verb.TheVariants as verbs
 use Rattle.command_reads.specs.declared.looks.Look.TheVariants as looks
 use Rattle.vol_check.specs.declared.checker.Checker.TheVariants as checkers
 use Rattle.command_changes.specs.declared.changes.Change.TheVariants as changes
-use Rattle.command_words.proofs.Values.{no_value}
 
 -- one file is put, or several files are
 abbrev IsPut : Option ℕ → Words → Type 0
@@ -62,7 +61,7 @@ puts clock given (invocations.Look volume (looks.List path listing)) put is = ab
 puts clock given (invocations.Look volume (looks.Slots path)) put is = absurd (true≢false (sym put))
 puts clock given (invocations.Cat volume node) put is = absurd (true≢false (sym put))
 puts clock given (invocations.Mkfs i volume) put is = absurd (true≢false (sym put))
-puts clock given (invocations.Migrate old new migration) put is = absurd (true≢false (sym put))
+puts clock given (invocations.Migrate old at new migration) put is = absurd (true≢false (sym put))
 puts clock given (invocations.Salvage volume copy) put is = absurd (true≢false (sym put))
 puts clock given (invocations.Serve volume serving) put is = absurd (true≢false (sym put))
 puts clock given (invocations.Identify images) put is = absurd (true≢false (sym put))
@@ -104,7 +103,7 @@ gets clock given (invocations.Look volume (looks.List path listing)) got is = ab
 gets clock given (invocations.Look volume (looks.Slots path)) got is = absurd (true≢false (sym got))
 gets clock given (invocations.Cat volume node) got is = absurd (true≢false (sym got))
 gets clock given (invocations.Mkfs i volume) got is = absurd (true≢false (sym got))
-gets clock given (invocations.Migrate old new migration) got is = absurd (true≢false (sym got))
+gets clock given (invocations.Migrate old at new migration) got is = absurd (true≢false (sym got))
 gets clock given (invocations.Salvage volume copy) got is = absurd (true≢false (sym got))
 gets clock given (invocations.Serve volume serving) got is = absurd (true≢false (sym got))
 gets clock given (invocations.Identify images) got is = absurd (true≢false (sym got))
@@ -205,10 +204,3 @@ kept_got clock given left set = no_get clock given go
     go : IsGot given → ⊥
     go (inl one) = true≢false (sym set ∙ one.2)
     go (inr several) = both _ several.0 several.2.0 left
-
--- if the edition isn't valid, `put` has no invocation
-pub no_edition_put : (clock : Option ℕ) (given : Words) → (IsValue None kinds.Edition (given (codes "EDITION")) → ⊥) → AsksForNothing clock verbs.Put given
-no_edition_put clock given none = no_value clock verbs.Put given (inl none)
-
-pub no_edition_get : (clock : Option ℕ) (given : Words) → (IsValue None kinds.Edition (given (codes "EDITION")) → ⊥) → AsksForNothing clock verbs.Get given
-no_edition_get clock given none = no_value clock verbs.Get given (inl none)

@@ -4,7 +4,7 @@ use Rattle.std.specs.List.{slice_get}
 use Rattle.std.specs.Option.{ok_or}
 use Rattle.command_words.specs.Moment.{IsMomentOf}
 use Rattle.command_words.specs.Decimal.{IsNumberUpTo}
-use Rattle.command_words.specs.Invocations.{IsMomentGiven, IsWordIfAny, TellsOf}
+use Rattle.command_words.specs.Invocations.{IsMomentGiven, IsNumberIfAny, TellsOf}
 use Rattle.command_words.specs.declared.fault.WordFault.{WordFault}
 use Rattle.command_words.specs.declared.fault.WordFault.TheVariants as faults
 
@@ -14,10 +14,11 @@ pub written : (clock : Option ℕ) (words : List (List ℕ)) (word : List ℕ) �
 written clock [] word first now given = cc
 written clock (other ∷ more) word first now given = let same : word ≡ other = cc in subst (λ (w : List ℕ). IsMomentOf w now) (sym same) given
 
--- if words are valid for a 16-bit number that may be left out, the first word, if any, is a 16-bit number
-pub first_number : (words : List (List ℕ)) (word : List ℕ) → Some word ≡ slice_get words 0 → IsWordIfAny words → IsNumberUpTo 65535 word
-first_number [] word first if_any = absurd (cc)
-first_number (other ∷ more) word first if_any = let same : word ≡ other = cc in subst (IsNumberUpTo 65535) (sym same) if_any
+-- if words are valid for a number that may be left out, the first word, if any, is such a number
+pub first_number : (greatest : ℕ) (words : List (List ℕ)) (word : List ℕ) → Some word ≡ slice_get words 0 → IsNumberIfAny greatest words
+    → IsNumberUpTo greatest word
+first_number greatest [] word first if_any = absurd (cc)
+first_number greatest (other ∷ more) word first if_any = let same : word ≡ other = cc in subst (IsNumberUpTo greatest) (sym same) if_any
 
 -- if `wrong` holds, a fault that names a wrong word satisfies `TellsOf`
 pub tells : (wrong : Type 0) (fault : WordFault) → wrong → TellsOf wrong fault

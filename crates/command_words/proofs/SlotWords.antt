@@ -11,7 +11,6 @@ use Rattle.command_words.specs.declared.verbs.Verb.TheVariants as verbs
 use Rattle.command_reads.specs.declared.looks.Look.TheVariants as looks
 use Rattle.vol_check.specs.declared.checker.Checker.TheVariants as checkers
 use Rattle.command_changes.specs.declared.changes.Change.TheVariants as changes
-use Rattle.command_words.proofs.Values.{no_value}
 
 -- true if the command is `ls`
 is_ls : Verb → Bool
@@ -56,7 +55,7 @@ lists clock given (invocations.Look volume (looks.Map picture)) ls is slots json
 lists clock given (invocations.Look volume (looks.Check graded form)) ls is slots json = absurd (true≢false (sym ls))
 lists clock given (invocations.Cat volume node) ls is slots json = absurd (true≢false (sym ls))
 lists clock given (invocations.Mkfs i volume) ls is slots json = absurd (true≢false (sym ls))
-lists clock given (invocations.Migrate old new migration) ls is slots json = absurd (true≢false (sym ls))
+lists clock given (invocations.Migrate old at new migration) ls is slots json = absurd (true≢false (sym ls))
 lists clock given (invocations.Salvage volume copy) ls is slots json = absurd (true≢false (sym ls))
 lists clock given (invocations.Serve volume serving) ls is slots json = absurd (true≢false (sym ls))
 lists clock given (invocations.Identify images) ls is slots json = absurd (true≢false (sym ls))
@@ -66,7 +65,3 @@ pub slots_as_json : (clock : Option ℕ) (given : Words) → is_set (given (code
     → AsksForNothing clock verbs.Ls given
 unfolding AsksForNothing is_ls
 slots_as_json clock given slots json = λ invocation asks. lists clock given invocation (sym (ap is_ls asks.0)) asks.1 slots json
-
--- if the edition isn't valid, `ls` has no invocation
-pub no_edition_ls : (clock : Option ℕ) (given : Words) → (IsValue None kinds.Edition (given (codes "EDITION")) → ⊥) → AsksForNothing clock verbs.Ls given
-no_edition_ls clock given none = no_value clock verbs.Ls given (inl none)

@@ -10,7 +10,7 @@ use Rattle.command_reads.specs.declared.looks.NodeName.{NodeName}
 use Rattle.command_reads.specs.declared.looks.NodeName.TheVariants as nodes
 use Rattle.vol_check.specs.declared.checker.Checker.TheVariants as checkers
 use Rattle.command_changes.specs.declared.changes.Change.TheVariants as changes
-use Rattle.command_words.specs.Invocations.{AreValues, AsksForNothing, IsEditionNamed, IsGiven, IsNodeGiven, IsNodeWord, IsOneWrong, IsWordIfAny, IsWordOr, NameAsksFor, TellsOf, Words, verb_of}
+use Rattle.command_words.specs.Invocations.{AreValues, AsksForNothing, IsEditionNamed, IsGiven, IsNodeGiven, IsNodeWord, IsNumberIfAny, IsNumberOr, IsOneWrong, NameAsksFor, TellsOf, Words, verb_of}
 use Rattle.command_words.specs.Owners.{IsOwnerGiven, IsOwnerIfAny}
 use Rattle.command_words.specs.Verbs.{Argument, IsNoCommand, arguments_of, verb_name}
 use Rattle.command_words.specs.declared.fault.WordFault.{WordFault}
@@ -38,9 +38,13 @@ scripts_value items words are least most =
     )
 
 -- if a number is read from words, they are valid for a number that may be left out
-word_value : (other number : ℕ) (words : List (List ℕ)) → IsWordOr other words number → IsWordIfAny words
-word_value other number [] is = tt
-word_value other number (word ∷ more) is = is.0
+number_value : (greatest other number : ℕ) (words : List (List ℕ)) → IsNumberOr greatest other words number → IsNumberIfAny greatest words
+number_value greatest other number [] is = tt
+number_value greatest other number (word ∷ more) is = is.0
+
+-- if words say which block a volume begins at, they are valid for `--at`
+at_value : (at : ℕ) (words : List (List ℕ)) → IsNumberOr 4294967295 0 words at → IsNumberIfAny 4294967295 words
+at_value at words is = number_value 4294967295 0 at words is
 
 -- if a user and a group are read from words, they are valid for a user and a group that may be left out
 owner_value : (words : List (List ℕ)) (owner : Option Cred) → IsOwnerGiven words owner → IsOwnerIfAny words
@@ -56,7 +60,7 @@ node_value (nodes.Path path) word is = inl is.1
 -- the words of an invocation are valid for its command's arguments
 pub values_given : (clock : Option ℕ) (given : Words) (invocation : Invocation) → IsGiven clock given invocation
     → AreValues clock given (arguments_of (verb_of invocation))
-values_given clock given (invocations.Cat volume node) is = (edition_value volume.edition _ is.0.0, (tt, (node_value node _ is.1, tt)))
+values_given clock given (invocations.Cat volume node) is = (edition_value volume.edition _ is.0.0, (tt, (at_value volume.at _ is.0.2, (node_value node _ is.1, tt))))
 values_given clock given (invocations.Mkfs image volume) is = (
   edition_value volume.edition _ is.1.0,
   (
@@ -64,56 +68,56 @@ values_given clock given (invocations.Mkfs image volume) is = (
     (
       (volume.blocks, is.1.1),
       (
-        word_value _ _ (given (codes "IBLOCKS")) is.1.2,
-        (word_value _ _ (given (codes "UID")) is.1.3, (word_value _ _ (given (codes "GID")) is.1.4, ((volume.now, is.1.5), (tt, tt)))),
+        number_value 65535 _ _ (given (codes "IBLOCKS")) is.1.2,
+        (number_value 65535 _ _ (given (codes "UID")) is.1.3, (number_value 65535 _ _ (given (codes "GID")) is.1.4, ((volume.now, is.1.5), (tt, tt)))),
       ),
     ),
   ),
 )
-values_given clock given (invocations.Migrate old new migration) is = (tt, (tt, (is.2.0.0, (is.2.1.0, ((migration.now, is.2.2), (tt, tt))))))
-values_given clock given (invocations.Get volume path) is = (edition_value volume.edition _ is.0.0, (tt, (tt, (tt, (tt, (tt, tt))))))
-values_given clock given (invocations.Change volume (changes.Put path file keep now)) is = (edition_value volume.edition _ is.0.0, (tt, (tt, (tt, (tt, (tt, (tt, (tt, (tt, tt)))))))))
-values_given clock given (invocations.Change volume (changes.Rm path now)) is = (edition_value volume.edition _ is.0.0, (tt, (tt, ((now, is.1.1), (tt, tt)))))
-values_given clock given (invocations.Change volume (changes.Rmdir path now)) is = (edition_value volume.edition _ is.0.0, (tt, (tt, ((now, is.1.1), tt))))
-values_given clock given (invocations.Change volume (changes.Mkdir path now)) is = (edition_value volume.edition _ is.0.0, (tt, (tt, ((now, is.1.1), (tt, tt)))))
+values_given clock given (invocations.Migrate old at new migration) is = (tt, (tt, (is.2.0.0, (is.2.1.0, ((migration.now, is.2.2), (tt, (at_value at _ is.3, tt)))))))
+values_given clock given (invocations.Get volume path) is = (edition_value volume.edition _ is.0.0, (tt, (at_value volume.at _ is.0.2, (tt, (tt, (tt, (tt, tt)))))))
+values_given clock given (invocations.Change volume (changes.Put path file keep now)) is = (edition_value volume.edition _ is.0.0, (tt, (at_value volume.at _ is.0.2, (tt, (tt, (tt, (tt, (tt, (tt, (tt, tt))))))))))
+values_given clock given (invocations.Change volume (changes.Rm path now)) is = (edition_value volume.edition _ is.0.0, (tt, (at_value volume.at _ is.0.2, (tt, ((now, is.1.1), (tt, tt))))))
+values_given clock given (invocations.Change volume (changes.Rmdir path now)) is = (edition_value volume.edition _ is.0.0, (tt, (at_value volume.at _ is.0.2, (tt, ((now, is.1.1), tt)))))
+values_given clock given (invocations.Change volume (changes.Mkdir path now)) is = (edition_value volume.edition _ is.0.0, (tt, (at_value volume.at _ is.0.2, (tt, ((now, is.1.1), (tt, tt))))))
 values_given clock given (invocations.Change volume (changes.Ln from to now)) is =
-    (edition_value volume.edition _ is.0.0, (tt, (tt, (tt, ((now, is.1.2), tt)))))
+    (edition_value volume.edition _ is.0.0, (tt, (at_value volume.at _ is.0.2, (tt, (tt, ((now, is.1.2), tt))))))
 values_given clock given (invocations.Change volume (changes.Chmod path perm now)) is =
-    (edition_value volume.edition _ is.0.0, (tt, (is.1.0.1, (is.1.1.0, ((now, is.1.2), tt)))))
+    (edition_value volume.edition _ is.0.0, (tt, (at_value volume.at _ is.0.2, (is.1.0.1, (is.1.1.0, ((now, is.1.2), tt))))))
 values_given clock given (invocations.Change volume (changes.Chown path uid gid now)) is =
-    (edition_value volume.edition _ is.0.0, (tt, (is.1.0.1, (is.1.1.0, (is.1.2.0, ((now, is.1.3), tt))))))
-values_given clock given (invocations.Change volume (changes.Touch path now)) is = (edition_value volume.edition _ is.0.0, (tt, (is.1.0.1, ((now, is.1.1), tt))))
-values_given clock given (invocations.Salvage volume None) is = (edition_value volume.edition _ is.0.0, (tt, (tt, (tt, tt))))
-values_given clock given (invocations.Salvage volume (Some copy)) is = (edition_value volume.edition _ is.0.0, (tt, (tt, (tt, tt))))
-values_given clock given (invocations.Change volume changes.Salvage) is = (edition_value volume.edition _ is.0.0, (tt, (tt, (tt, tt))))
-values_given clock given (invocations.Look volume (looks.Export path options)) is = (edition_value volume.edition _ is.0.0, (tt, (tt, (tt, (tt, tt)))))
-values_given clock given (invocations.Look volume (looks.Sums path form lost)) is = (edition_value volume.edition _ is.0.0, (tt, (tt, (tt, (tt, tt)))))
-values_given clock given (invocations.Look volume (looks.Inode node form)) is = (edition_value volume.edition _ is.0.0, (tt, (node_value node _ is.1.0, (tt, tt))))
-values_given clock given (invocations.Look volume (looks.Super form)) is = (edition_value volume.edition _ is.0.0, (tt, (tt, tt)))
-values_given clock given (invocations.Look volume (looks.Free form)) is = (edition_value volume.edition _ is.0.0, (tt, (tt, tt)))
-values_given clock given (invocations.Look volume (looks.Block block)) is = (edition_value volume.edition _ is.0.0, (tt, (is.1.0, tt)))
-values_given clock given (invocations.Look volume (looks.Df form)) is = (edition_value volume.edition _ is.0.0, (tt, (tt, tt)))
-values_given clock given (invocations.Look volume (looks.Find path name lost)) is = (edition_value volume.edition _ is.0.0, (tt, (tt, (tt, (tt, tt)))))
-values_given clock given (invocations.Look volume (looks.Map picture)) is = (edition_value volume.edition _ is.0.0, (tt, (tt, tt)))
-values_given clock given (invocations.Look volume (looks.Check graded form)) is = (edition_value volume.edition _ is.0.0, (tt, (tt, (tt, tt))))
-values_given clock given (invocations.Look volume (looks.List path listing)) is = (edition_value volume.edition _ is.0.0, (tt, (tt, (tt, (tt, (tt, (tt, (tt, tt))))))))
-values_given clock given (invocations.Look volume (looks.Slots path)) is = (edition_value volume.edition _ is.0.0, (tt, (tt, (tt, (tt, (tt, (tt, (tt, tt))))))))
+    (edition_value volume.edition _ is.0.0, (tt, (at_value volume.at _ is.0.2, (is.1.0.1, (is.1.1.0, (is.1.2.0, ((now, is.1.3), tt)))))))
+values_given clock given (invocations.Change volume (changes.Touch path now)) is = (edition_value volume.edition _ is.0.0, (tt, (at_value volume.at _ is.0.2, (is.1.0.1, ((now, is.1.1), tt)))))
+values_given clock given (invocations.Salvage volume None) is = (edition_value volume.edition _ is.0.0, (tt, (at_value volume.at _ is.0.2, (tt, (tt, tt)))))
+values_given clock given (invocations.Salvage volume (Some copy)) is = (edition_value volume.edition _ is.0.0, (tt, (at_value volume.at _ is.0.2, (tt, (tt, tt)))))
+values_given clock given (invocations.Change volume changes.Salvage) is = (edition_value volume.edition _ is.0.0, (tt, (at_value volume.at _ is.0.2, (tt, (tt, tt)))))
+values_given clock given (invocations.Look volume (looks.Export path options)) is = (edition_value volume.edition _ is.0.0, (tt, (at_value volume.at _ is.0.2, (tt, (tt, (tt, tt))))))
+values_given clock given (invocations.Look volume (looks.Sums path form lost)) is = (edition_value volume.edition _ is.0.0, (tt, (at_value volume.at _ is.0.2, (tt, (tt, (tt, tt))))))
+values_given clock given (invocations.Look volume (looks.Inode node form)) is = (edition_value volume.edition _ is.0.0, (tt, (at_value volume.at _ is.0.2, (node_value node _ is.1.0, (tt, tt)))))
+values_given clock given (invocations.Look volume (looks.Super form)) is = (edition_value volume.edition _ is.0.0, (tt, (at_value volume.at _ is.0.2, (tt, tt))))
+values_given clock given (invocations.Look volume (looks.Free form)) is = (edition_value volume.edition _ is.0.0, (tt, (at_value volume.at _ is.0.2, (tt, tt))))
+values_given clock given (invocations.Look volume (looks.Block block)) is = (edition_value volume.edition _ is.0.0, (tt, (at_value volume.at _ is.0.2, (is.1.0, tt))))
+values_given clock given (invocations.Look volume (looks.Df form)) is = (edition_value volume.edition _ is.0.0, (tt, (at_value volume.at _ is.0.2, (tt, tt))))
+values_given clock given (invocations.Look volume (looks.Find path name lost)) is = (edition_value volume.edition _ is.0.0, (tt, (at_value volume.at _ is.0.2, (tt, (tt, (tt, tt))))))
+values_given clock given (invocations.Look volume (looks.Map picture)) is = (edition_value volume.edition _ is.0.0, (tt, (at_value volume.at _ is.0.2, (tt, tt))))
+values_given clock given (invocations.Look volume (looks.Check graded form)) is = (edition_value volume.edition _ is.0.0, (tt, (at_value volume.at _ is.0.2, (tt, (tt, tt)))))
+values_given clock given (invocations.Look volume (looks.List path listing)) is = (edition_value volume.edition _ is.0.0, (tt, (at_value volume.at _ is.0.2, (tt, (tt, (tt, (tt, (tt, (tt, tt)))))))))
+values_given clock given (invocations.Look volume (looks.Slots path)) is = (edition_value volume.edition _ is.0.0, (tt, (at_value volume.at _ is.0.2, (tt, (tt, (tt, (tt, (tt, (tt, tt)))))))))
 values_given clock given (invocations.Change volume (changes.Import path options now)) is =
-    (edition_value volume.edition _ is.0.0, (tt, (is.1.0.1, ((now, is.1.1), (tt, (owner_value _ options.owner is.1.2.1, tt))))))
-values_given clock given (invocations.Change volume (changes.MkdirAll path now)) is = (edition_value volume.edition _ is.0.0, (tt, (tt, ((now, is.1.1), (tt, tt)))))
-values_given clock given (invocations.Change volume (changes.RmAll path now)) is = (edition_value volume.edition _ is.0.0, (tt, (tt, ((now, is.1.1), (tt, tt)))))
+    (edition_value volume.edition _ is.0.0, (tt, (at_value volume.at _ is.0.2, (is.1.0.1, ((now, is.1.1), (tt, (owner_value _ options.owner is.1.2.1, tt)))))))
+values_given clock given (invocations.Change volume (changes.MkdirAll path now)) is = (edition_value volume.edition _ is.0.0, (tt, (at_value volume.at _ is.0.2, (tt, ((now, is.1.1), (tt, tt))))))
+values_given clock given (invocations.Change volume (changes.RmAll path now)) is = (edition_value volume.edition _ is.0.0, (tt, (at_value volume.at _ is.0.2, (tt, ((now, is.1.1), (tt, tt))))))
 values_given clock given (invocations.Change volume (changes.Mv from to now)) is =
-    (edition_value volume.edition _ is.0.0, (tt, (tt, (tt, ((now, is.1.2), tt)))))
-values_given clock given (invocations.Copy volume (copies.Put directory files keep now)) is = (edition_value volume.edition _ is.0.0, (tt, (tt, (tt, (tt, (tt, (tt, (tt, (tt, tt)))))))))
-values_given clock given (invocations.Copy volume (copies.Get folder paths keeps)) is = (edition_value volume.edition _ is.0.0, (tt, (tt, (tt, (tt, (tt, tt))))))
-values_given clock given (invocations.Work volume (works.Check checkers.Blocks workers form)) is = (edition_value volume.edition _ is.0.0, (tt, (is.1.0.0, (tt, tt))))
-values_given clock given (invocations.Work volume (works.Check checkers.Entries workers form)) is = (edition_value volume.edition _ is.0.0, (tt, (is.1.0.0, (tt, tt))))
-values_given clock given (invocations.Work volume (works.Check checkers.Names workers form)) is = (edition_value volume.edition _ is.0.0, (tt, (is.1.0.0, (tt, tt))))
+    (edition_value volume.edition _ is.0.0, (tt, (at_value volume.at _ is.0.2, (tt, (tt, ((now, is.1.2), tt))))))
+values_given clock given (invocations.Copy volume (copies.Put directory files keep now)) is = (edition_value volume.edition _ is.0.0, (tt, (at_value volume.at _ is.0.2, (tt, (tt, (tt, (tt, (tt, (tt, (tt, tt))))))))))
+values_given clock given (invocations.Copy volume (copies.Get folder paths keeps)) is = (edition_value volume.edition _ is.0.0, (tt, (at_value volume.at _ is.0.2, (tt, (tt, (tt, (tt, tt)))))))
+values_given clock given (invocations.Work volume (works.Check checkers.Blocks workers form)) is = (edition_value volume.edition _ is.0.0, (tt, (at_value volume.at _ is.0.2, (is.1.0.0, (tt, tt)))))
+values_given clock given (invocations.Work volume (works.Check checkers.Entries workers form)) is = (edition_value volume.edition _ is.0.0, (tt, (at_value volume.at _ is.0.2, (is.1.0.0, (tt, tt)))))
+values_given clock given (invocations.Work volume (works.Check checkers.Names workers form)) is = (edition_value volume.edition _ is.0.0, (tt, (at_value volume.at _ is.0.2, (is.1.0.0, (tt, tt)))))
 values_given clock given (invocations.Work volume (works.Play scripts journal)) is =
-    (edition_value volume.edition _ is.0.0, (tt, (scripts_value scripts.items _ is.1.0 is.1.1 is.1.2, (tt, tt))))
-values_given clock given (invocations.Serve volume servings.ReadOnly) is = (edition_value volume.edition _ is.0.0, (tt, (tt, (tt, (is.1.1, tt)))))
+    (edition_value volume.edition _ is.0.0, (tt, (at_value volume.at _ is.0.2, (scripts_value scripts.items _ is.1.0 is.1.1 is.1.2, (tt, tt)))))
+values_given clock given (invocations.Serve volume servings.ReadOnly) is = (edition_value volume.edition _ is.0.0, (tt, (at_value volume.at _ is.0.2, (tt, (tt, (is.1.1, tt))))))
 values_given clock given (invocations.Serve volume (servings.Changes is_mine rescue)) is =
-    (edition_value volume.edition _ is.0.0, (tt, (tt, (tt, (is.1.2.1, tt)))))
+    (edition_value volume.edition _ is.0.0, (tt, (at_value volume.at _ is.0.2, (tt, (tt, (is.1.2.1, tt))))))
 values_given clock given (invocations.Identify images) is = (tt, tt)
 
 -- if all words are valid, none of them is wrong

@@ -88,15 +88,15 @@ abbrev pub IsMomentGiven : Option ℕ → List (List ℕ) → ℕ → Type 0
 IsMomentGiven clock [] now = clock ≡ Some now
 IsMomentGiven clock (word ∷ more) now = IsMomentOf word now
 
--- the 16-bit number that was given, or `other` if there is no word (this project)
-abbrev pub IsWordOr : ℕ → List (List ℕ) → ℕ → Type 0
-IsWordOr other [] number = number ≡ other
-IsWordOr other (word ∷ more) number = IsNumberGiven 65535 word number
+-- the number up to `greatest` that was given, or `other` if there is no word (this project)
+abbrev pub IsNumberOr : ℕ → ℕ → List (List ℕ) → ℕ → Type 0
+IsNumberOr greatest other [] number = number ≡ other
+IsNumberOr greatest other (word ∷ more) number = IsNumberGiven greatest word number
 
--- if there is a word, it is a 16-bit number (this project)
-abbrev pub IsWordIfAny : List (List ℕ) → Type 0
-IsWordIfAny [] = Unit {0}
-IsWordIfAny (word ∷ more) = IsNumberUpTo 65535 word
+-- if there is a word, it is a number up to `greatest` (this project)
+abbrev pub IsNumberIfAny : ℕ → List (List ℕ) → Type 0
+IsNumberIfAny greatest [] = Unit {0}
+IsNumberIfAny greatest (word ∷ more) = IsNumberUpTo greatest word
 
 -- the word for a path isn't the empty one; it may be left out (this project)
 abbrev pub IsPathWord : List (List ℕ) → Type 0
@@ -126,7 +126,7 @@ IsValue clock kinds.Text words = Unit {0}
 IsValue clock kinds.Path words = IsPathWord words
 IsValue clock kinds.Word words = IsNumberUpTo 65535 (first_word words)
 IsValue clock kinds.Node words = IsNodeWord (first_word words)
-IsValue clock kinds.WordOr words = IsWordIfAny words
+IsValue clock kinds.WordOr words = IsNumberIfAny 65535 words
 IsValue clock kinds.Blocks words = (blocks : ℕ) × AreBlocksOf (first_word words) blocks
 IsValue clock kinds.Long words = IsNumberUpTo 4294967295 (first_word words)
 IsValue clock kinds.Permissions words = IsOctalUpTo 4095 (first_word words)
@@ -134,6 +134,7 @@ IsValue clock kinds.Owner words = IsOwnerIfAny words
 IsValue clock kinds.Threads words = IsThreads (first_word words)
 IsValue clock kinds.Moment words = (now : ℕ) × IsMomentGiven clock words now
 IsValue clock kinds.Scripts words = (1 ≤ length words) × (length words ≤ 64)
+IsValue clock kinds.LongOr words = IsNumberIfAny 4294967295 words
 IsValue clock kinds.Flag words = Unit {0}
 
 -- the words given for each of these arguments are valid for it (this project)
@@ -197,7 +198,7 @@ copying_verb (copies.Get folder paths keeps) = verbs.Get
 abbrev pub verb_of : Invocation → Verb
 verb_of (invocations.Cat volume node) = verbs.Cat
 verb_of (invocations.Mkfs image volume) = verbs.Mkfs
-verb_of (invocations.Migrate old new migration) = verbs.Migrate
+verb_of (invocations.Migrate old at new migration) = verbs.Migrate
 verb_of (invocations.Get volume path) = verbs.Get
 verb_of (invocations.Salvage volume copy) = verbs.Salvage
 verb_of (invocations.Change volume change) = change_verb change
@@ -207,10 +208,15 @@ verb_of (invocations.Work volume work) = work_verb work
 verb_of (invocations.Serve volume serving) = verbs.Serve
 verb_of (invocations.Identify images) = verbs.Identify
 
+-- the words say that a volume begins at this block of a file: 0 if they say nothing of it (this project)
+abbrev pub IsAtGiven : Words → ℕ → Type 0
+IsAtGiven given at = IsNumberOr 4294967295 0 (given (codes "at")) at
+
 -- the words name this volume (this project)
 abbrev pub IsVolumeGiven : Words → VolumeFile → Type 0
 IsVolumeGiven given volume =
     IsEditionNamed volume.edition (the_word given (codes "EDITION")) × (volume.image.now ≡ the_word given (codes "IMAGE"))
+    × IsAtGiven given volume.at
 
 -- the words name this file to make, by the argument for its path, and say whether it must not exist (this project)
 abbrev pub IsMadeGiven : Words → List ℕ → MadeFile → Type 0
@@ -221,9 +227,9 @@ IsMadeGiven given name file = (file.path.now ≡ the_word given name) × (file.i
 abbrev pub IsNewVolumeGiven : Option ℕ → Words → NewVolume → Type 0
 IsNewVolumeGiven clock given volume = IsEditionNamed volume.edition (the_word given (codes "EDITION"))
     × AreBlocksOf (the_word given (codes "FSIZE")) volume.blocks
-    × IsWordOr (list_default volume.edition volume.blocks) (given (codes "IBLOCKS")) volume.list_blocks
-    × IsWordOr 0 (given (codes "UID")) volume.uid
-    × IsWordOr 0 (given (codes "GID")) volume.gid
+    × IsNumberOr 65535 (list_default volume.edition volume.blocks) (given (codes "IBLOCKS")) volume.list_blocks
+    × IsNumberOr 65535 0 (given (codes "UID")) volume.uid
+    × IsNumberOr 65535 0 (given (codes "GID")) volume.gid
     × IsMomentGiven clock (given (codes "NOW")) volume.now
 
 -- the words describe this migration (this project)
@@ -396,8 +402,8 @@ IsServingGiven given (servings.Changes is_mine rescue) = (is_set (given (codes "
 abbrev pub IsGiven : Option ℕ → Words → Invocation → Type 0
 IsGiven clock given (invocations.Cat volume node) = IsVolumeGiven given volume × IsNodeGiven (the_word given (codes "INO")) node
 IsGiven clock given (invocations.Mkfs image volume) = IsMadeGiven given (codes "IMAGE") image × IsNewVolumeGiven clock given volume
-IsGiven clock given (invocations.Migrate old new migration) = (old.now ≡ the_word given (codes "OLD"))
-    × IsMadeGiven given (codes "NEW") new × IsMigrationGiven clock given migration
+IsGiven clock given (invocations.Migrate old at new migration) = (old.now ≡ the_word given (codes "OLD"))
+    × IsMadeGiven given (codes "NEW") new × IsMigrationGiven clock given migration × IsAtGiven given at
 IsGiven clock given (invocations.Get volume path) = IsVolumeGiven given volume × IsOnePathGiven given path.now
 IsGiven clock given (invocations.Salvage volume None) = IsVolumeGiven given volume × (is_set (given (codes "dry-run")) ≡ true)
 IsGiven clock given (invocations.Salvage volume (Some copy)) = IsVolumeGiven given volume × (is_set (given (codes "dry-run")) ≡ false)

@@ -62,9 +62,9 @@ maybe_word name = (name, kinds.Text, needs.Maybe)
 abbrev pub more_words : Argument
 more_words = (codes "MORE", kinds.Text, needs.Any)
 
--- an option with a value: its name, its letter, and the value's name in the help (this project)
+-- an option with a value and a letter: its name, the letter, and the value's name in the help (this project)
 abbrev pub valued : List ℕ → ℕ → ValueName → Argument
-valued name letter value = (name, kinds.Text, needs.Value letter value)
+valued name letter value = (name, kinds.Text, needs.Value (Some letter) value)
 
 -- an option with a letter: its name, and the letter (this project)
 abbrev pub lettered : List ℕ → ℕ → Argument
@@ -74,9 +74,13 @@ lettered name letter = (name, kinds.Flag, needs.Flag (Some letter))
 abbrev pub option : List ℕ → Argument
 option name = (name, kinds.Flag, needs.Flag None)
 
--- the words of a command on a volume in a file: the edition, the file, and these arguments (this project)
+-- the option `--at`, with the block that a volume begins at (this project)
+abbrev pub at : Argument
+at = (codes "at", kinds.LongOr, needs.Value None values.Block)
+
+-- the words of a command on a volume in a file: the edition, the file, the block of it that the volume begins at, and these arguments (this project)
 abbrev pub on_volume : List Argument → List Argument
-on_volume more = edition ∷ word (codes "IMAGE") ∷ more
+on_volume more = edition ∷ word (codes "IMAGE") ∷ at ∷ more
 
 -- the words of a checker's command (this project)
 abbrev pub of_checker : List Argument
@@ -137,12 +141,12 @@ arguments_of verbs.Icheck = of_checker
 arguments_of verbs.Dcheck = of_checker
 arguments_of verbs.Ncheck = of_checker
 arguments_of verbs.Mkfs =
-    on_volume ((codes "FSIZE", kinds.Blocks, needs.Once) ∷ maybe_number (codes "IBLOCKS") ∷ maybe_number (codes "UID") ∷ maybe_number (codes "GID") ∷ moment
+    edition ∷ word (codes "IMAGE") ∷ ((codes "FSIZE", kinds.Blocks, needs.Once) ∷ maybe_number (codes "IBLOCKS") ∷ maybe_number (codes "UID") ∷ maybe_number (codes "GID") ∷ moment
     ∷ option (codes "new") ∷ [])
 arguments_of verbs.Put = on_volume (word (codes "PATH") ∷ maybe_word (codes "FILE") ∷ maybe_word (codes "NOW") ∷ more_words
     ∷ valued (codes "target-directory") 116 values.Directory ∷ lettered (codes "preserve") 112 ∷ lettered (codes "executable") 120 ∷ [])
 arguments_of verbs.Import = on_volume (path needs.Maybe ∷ moment ∷ option (codes "skip-special")
-    ∷ (codes "owner", kinds.Owner, needs.Value 111 values.Owner) ∷ [])
+    ∷ (codes "owner", kinds.Owner, needs.Value (Some 111) values.Owner) ∷ [])
 arguments_of verbs.Rm = on_volume (word (codes "PATH") ∷ moment ∷ lettered (codes "recursive") 114 ∷ [])
 arguments_of verbs.Rmdir = on_volume (word (codes "PATH") ∷ moment ∷ [])
 arguments_of verbs.Mkdir = on_volume (word (codes "PATH") ∷ moment ∷ lettered (codes "parents") 112 ∷ [])
@@ -154,9 +158,9 @@ arguments_of verbs.Touch = on_volume (path needs.Once ∷ moment ∷ [])
 arguments_of verbs.Salvage = on_volume (valued (codes "output") 111 values.Copy ∷ lettered (codes "dry-run") 110 ∷ [])
 arguments_of verbs.Play = on_volume ((codes "SCRIPT", kinds.Scripts, needs.Several) ∷ option (codes "journal") ∷ [])
 arguments_of verbs.Migrate =
-    word (codes "OLD") ∷ word (codes "NEW") ∷ long_number (codes "FSIZE") ∷ number (codes "IBLOCKS") ∷ moment ∷ option (codes "new") ∷ []
+    word (codes "OLD") ∷ word (codes "NEW") ∷ long_number (codes "FSIZE") ∷ number (codes "IBLOCKS") ∷ moment ∷ option (codes "new") ∷ at ∷ []
 arguments_of verbs.Serve = on_volume (option (codes "read-only") ∷ option (codes "mine")
-    ∷ (codes "rescue", kinds.Path, needs.Value 114 values.Rescue) ∷ [])
+    ∷ (codes "rescue", kinds.Path, needs.Value (Some 114) values.Rescue) ∷ [])
 arguments_of verbs.Identify = (codes "IMAGE", kinds.Text, needs.Several) ∷ []
 
 -- all commands, in the order in which the help lists them (this project)

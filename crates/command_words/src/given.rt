@@ -4,7 +4,7 @@ ghost use Rattle.command_words.specs.Decimal.{IsNumberUpTo, IsNumberGiven, IsThr
 ghost use Rattle.command_words.specs.Octal.{IsOctalUpTo, IsOctalGiven};
 ghost use Rattle.command_words.specs.Disks.{AreBlocksOf};
 ghost use Rattle.command_words.specs.Owners.{IsOwnerGiven, IsOwnerIfAny, IsOwnerNamed, IsOwnerWord};
-ghost use Rattle.command_words.specs.Invocations.{IsEditionNamed, IsMomentGiven, IsNodeGiven, IsNodeWord, IsPathGiven, IsPathWord, IsRescueGiven, IsValue, IsWordOr, IsWrong, TellsOf, is_path, is_set, the_word};
+ghost use Rattle.command_words.specs.Invocations.{IsEditionNamed, IsMomentGiven, IsNodeGiven, IsNodeWord, IsNumberOr, IsPathGiven, IsPathWord, IsRescueGiven, IsValue, IsWrong, TellsOf, is_path, is_set, the_word};
 ghost use Rattle.command_words.specs.declared.parameters.WordKind.TheVariants as kinds;
 
 use crate::decimal::{long_of, threads_of, word_of};
@@ -131,11 +131,26 @@ pub(crate) fn word_or<'a, G: Given<'a>>(
     name: &'a str,
     other: u16,
 ) -> Result<u16, WordFault<'a>>
-    ensures read { IfOk result (IsWordOr other (G.words given.now name.now)) }
+    ensures read { IfOk result (IsNumberOr 65535 other (G.words given.now name.now)) }
     ensures refused { IfErr result (TellsOf (IsValue None kinds.WordOr (G.words given.now name.now) → ⊥)) }
 {
     match given.first(name) {
         Some(text) => word_of(text).ok_or(wrong(name, text, texts::WORD)),
+        None => Ok(other),
+    }
+}
+
+/// Reads the 32-bit number given for an argument, or returns `other` if it was left out.
+pub(crate) fn long_or<'a, G: Given<'a>>(
+    given: &G,
+    name: &'a str,
+    other: u32,
+) -> Result<u32, WordFault<'a>>
+    ensures read { IfOk result (IsNumberOr 4294967295 other (G.words given.now name.now)) }
+    ensures refused { IfErr result (TellsOf (IsValue None kinds.LongOr (G.words given.now name.now) → ⊥)) }
+{
+    match given.first(name) {
+        Some(text) => long_of(text).ok_or(wrong(name, text, texts::LONG)),
         None => Ok(other),
     }
 }

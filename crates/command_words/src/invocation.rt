@@ -12,6 +12,8 @@ pub struct VolumeFile<'a> {
     pub edition: Edition,
     /// The path of its file.
     pub image: &'a str,
+    /// The number of the block of the file that it begins at.
+    pub at: u32,
 }
 
 /// A file to make.
@@ -97,9 +99,10 @@ pub enum Invocation<'a> {
         image: MadeFile<'a>,
         volume: NewVolume,
     },
-    /// Make a volume of the seventh edition in the file `new` from the one of the sixth in the file `old`.
+    /// Make a volume of the seventh edition in the file `new` from the one of the sixth in the file `old`, which begins at block `at`.
     Migrate {
         old: &'a str,
+        at: u32,
         new: MadeFile<'a>,
         migration: Migration,
     },

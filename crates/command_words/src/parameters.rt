@@ -30,6 +30,8 @@ pub enum WordKind {
     Moment,
     /// The names of 1 to 64 scripts.
     Scripts,
+    /// A 32-bit number; it may be left out.
+    LongOr,
     /// None: the argument is an option without a value.
     Flag,
 }
@@ -47,8 +49,8 @@ pub enum Need {
     Any,
     /// None: the argument is an option with this name, and this letter if there is one.
     Flag(Option<char>),
-    /// One word or none: the argument is the value of an option with this name and letter.
-    Value(char, ValueName),
+    /// One word or none: the argument is the value of an option with this name, and this letter if there is one.
+    Value(Option<char>, ValueName),
 }
 
 /// The name of an option's value in the help.
@@ -66,6 +68,8 @@ pub enum ValueName {
     Pattern,
     /// A file outside the volume, for a rescue.
     Rescue,
+    /// A block of a pack.
+    Block,
 }
 
 impl ValueName {
@@ -78,6 +82,7 @@ impl ValueName {
             ValueName::Owner => "UID:GID",
             ValueName::Pattern => "GLOB",
             ValueName::Rescue => "FILE",
+            ValueName::Block => "BLOCK",
         }
     }
 }
@@ -110,6 +115,20 @@ const IMAGE: Parameter = Parameter {
     kind: WordKind::Text,
     need: Need::Once,
     help: texts::IMAGE,
+};
+
+const AT: Parameter = Parameter {
+    name: "at",
+    kind: WordKind::LongOr,
+    need: Need::Value(None, ValueName::Block),
+    help: texts::AT,
+};
+
+const OLD_AT: Parameter = Parameter {
+    name: "at",
+    kind: WordKind::LongOr,
+    need: Need::Value(None, ValueName::Block),
+    help: texts::OLD_AT,
 };
 
 const NEW_IMAGE: Parameter = Parameter {
@@ -283,7 +302,7 @@ const MORE_PUT: Parameter = Parameter {
 const TARGET: Parameter = Parameter {
     name: "target-directory",
     kind: WordKind::Text,
-    need: Need::Value('t', ValueName::Directory),
+    need: Need::Value(Some('t'), ValueName::Directory),
     help: texts::put::TARGET,
 };
 
@@ -311,7 +330,7 @@ const MORE_GOT: Parameter = Parameter {
 const OUTPUT: Parameter = Parameter {
     name: "output",
     kind: WordKind::Text,
-    need: Need::Value('o', ValueName::Folder),
+    need: Need::Value(Some('o'), ValueName::Folder),
     help: texts::get::OUTPUT,
 };
 
@@ -402,7 +421,7 @@ const SKIP_SPECIAL: Parameter = Parameter {
 const OWNER: Parameter = Parameter {
     name: "owner",
     kind: WordKind::Owner,
-    need: Need::Value('o', ValueName::Owner),
+    need: Need::Value(Some('o'), ValueName::Owner),
     help: texts::import::OWNER,
 };
 
@@ -416,7 +435,7 @@ const SEARCHED: Parameter = Parameter {
 const NAME: Parameter = Parameter {
     name: "name",
     kind: WordKind::Text,
-    need: Need::Value('g', ValueName::Pattern),
+    need: Need::Value(Some('g'), ValueName::Pattern),
     help: texts::find::NAME,
 };
 
@@ -500,14 +519,14 @@ const MINE: Parameter = Parameter {
 const RESCUE: Parameter = Parameter {
     name: "rescue",
     kind: WordKind::Path,
-    need: Need::Value('r', ValueName::Rescue),
+    need: Need::Value(Some('r'), ValueName::Rescue),
     help: texts::serve::RESCUE,
 };
 
 const COPY: Parameter = Parameter {
     name: "output",
     kind: WordKind::Text,
-    need: Need::Value('o', ValueName::Copy),
+    need: Need::Value(Some('o'), ValueName::Copy),
     help: texts::salvage::COPY,
 };
 
@@ -554,21 +573,21 @@ const NEW: Parameter = Parameter {
 };
 
 /// The words of `cat`.
-pub static CAT_WORDS: [Parameter; 3] = [EDITION, IMAGE, NODE];
+pub static CAT_WORDS: [Parameter; 4] = [EDITION, IMAGE, AT, NODE];
 
 /// The words that `ls` takes.
-pub static LS_WORDS: [Parameter; 8] = [
-    EDITION, IMAGE, LISTED, LONG, ALL_BELOW, ITSELF, JSON, SLOTS,
+pub static LS_WORDS: [Parameter; 9] = [
+    EDITION, IMAGE, AT, LISTED, LONG, ALL_BELOW, ITSELF, JSON, SLOTS,
 ];
 
 /// The words that `get` takes.
-pub static GET_WORDS: [Parameter; 6] = [EDITION, IMAGE, REGULAR, MORE_GOT, OUTPUT, KEPT_GOT];
+pub static GET_WORDS: [Parameter; 7] = [EDITION, IMAGE, AT, REGULAR, MORE_GOT, OUTPUT, KEPT_GOT];
 
 /// The words that `find` takes.
-pub static FIND_WORDS: [Parameter; 5] = [EDITION, IMAGE, SEARCHED, NAME, LOST];
+pub static FIND_WORDS: [Parameter; 6] = [EDITION, IMAGE, AT, SEARCHED, NAME, LOST];
 
 /// The words that a checker takes.
-pub static CHECKER_WORDS: [Parameter; 4] = [EDITION, IMAGE, WORKERS, JSON];
+pub static CHECKER_WORDS: [Parameter; 5] = [EDITION, IMAGE, AT, WORKERS, JSON];
 
 /// The words that `mkfs` takes.
 pub static MKFS_WORDS: [Parameter; 8] = [
@@ -583,66 +602,66 @@ pub static MKFS_WORDS: [Parameter; 8] = [
 ];
 
 /// The words that `put` takes.
-pub static PUT_WORDS: [Parameter; 9] = [
-    EDITION, IMAGE, FIRST_PUT, FILE, PUT_NOW, MORE_PUT, TARGET, KEPT_PUT, EXECUTABLE,
+pub static PUT_WORDS: [Parameter; 10] = [
+    EDITION, IMAGE, AT, FIRST_PUT, FILE, PUT_NOW, MORE_PUT, TARGET, KEPT_PUT, EXECUTABLE,
 ];
 
 /// The words that `rm` takes.
-pub static RM_WORDS: [Parameter; 5] = [EDITION, IMAGE, NAMED, CALL_NOW, RECURSIVE];
+pub static RM_WORDS: [Parameter; 6] = [EDITION, IMAGE, AT, NAMED, CALL_NOW, RECURSIVE];
 
 /// The words that `rmdir` takes.
-pub static RMDIR_WORDS: [Parameter; 4] = [EDITION, IMAGE, DIRECTORY, CALL_NOW];
+pub static RMDIR_WORDS: [Parameter; 5] = [EDITION, IMAGE, AT, DIRECTORY, CALL_NOW];
 
 /// The words that `mkdir` takes.
-pub static MKDIR_WORDS: [Parameter; 5] = [EDITION, IMAGE, DIRECTORY, CALL_NOW, PARENTS];
+pub static MKDIR_WORDS: [Parameter; 6] = [EDITION, IMAGE, AT, DIRECTORY, CALL_NOW, PARENTS];
 
 /// The words that `ln` and `mv` take.
-pub static NAMES_WORDS: [Parameter; 5] = [EDITION, IMAGE, FROM, TO, CALL_NOW];
+pub static NAMES_WORDS: [Parameter; 6] = [EDITION, IMAGE, AT, FROM, TO, CALL_NOW];
 
 /// The words that `chmod` takes.
-pub static CHMOD_WORDS: [Parameter; 5] = [EDITION, IMAGE, OWNED, PERM, CALL_NOW];
+pub static CHMOD_WORDS: [Parameter; 6] = [EDITION, IMAGE, AT, OWNED, PERM, CALL_NOW];
 
 /// The words that `chown` takes.
-pub static CHOWN_WORDS: [Parameter; 6] = [EDITION, IMAGE, OWNED, NEW_UID, NEW_GID, CALL_NOW];
+pub static CHOWN_WORDS: [Parameter; 7] = [EDITION, IMAGE, AT, OWNED, NEW_UID, NEW_GID, CALL_NOW];
 
 /// The words that `touch` takes.
-pub static TOUCH_WORDS: [Parameter; 4] = [EDITION, IMAGE, TOUCHED, CALL_NOW];
+pub static TOUCH_WORDS: [Parameter; 5] = [EDITION, IMAGE, AT, TOUCHED, CALL_NOW];
 
 /// The words that `check` takes.
-pub static CHECK_WORDS: [Parameter; 4] = [EDITION, IMAGE, CHECK_GRADED, JSON];
+pub static CHECK_WORDS: [Parameter; 5] = [EDITION, IMAGE, AT, CHECK_GRADED, JSON];
 
 /// The words that `salvage` takes.
-pub static SALVAGE_WORDS: [Parameter; 4] = [EDITION, IMAGE, COPY, DRY_RUN];
+pub static SALVAGE_WORDS: [Parameter; 5] = [EDITION, IMAGE, AT, COPY, DRY_RUN];
 
 /// The words that `play` takes.
-pub static PLAY_WORDS: [Parameter; 4] = [EDITION, IMAGE, SCRIPT, JOURNAL];
+pub static PLAY_WORDS: [Parameter; 5] = [EDITION, IMAGE, AT, SCRIPT, JOURNAL];
 
 /// The words that `migrate` takes.
-pub static MIGRATE_WORDS: [Parameter; 6] = [OLD, NEW, BLOCKS, LIST_BLOCKS, MIGRATED, UNREPLACED];
+pub static MIGRATE_WORDS: [Parameter; 7] = [OLD, NEW, BLOCKS, LIST_BLOCKS, MIGRATED, UNREPLACED, OLD_AT];
 
 /// The words that `serve` takes.
-pub static SERVE_WORDS: [Parameter; 5] = [EDITION, IMAGE, READ_ONLY, MINE, RESCUE];
+pub static SERVE_WORDS: [Parameter; 6] = [EDITION, IMAGE, AT, READ_ONLY, MINE, RESCUE];
 
 /// The words of `identify`.
 pub static IDENTIFY_WORDS: [Parameter; 1] = [IMAGES];
 
 /// The words of `import`.
-pub static IMPORT_WORDS: [Parameter; 6] = [EDITION, IMAGE, IMPORTED, CALL_NOW, SKIP_SPECIAL, OWNER];
+pub static IMPORT_WORDS: [Parameter; 7] = [EDITION, IMAGE, AT, IMPORTED, CALL_NOW, SKIP_SPECIAL, OWNER];
 
 /// The words that `export` takes.
-pub static EXPORT_WORDS: [Parameter; 5] = [EDITION, IMAGE, BELOW, LOST, EXPORT_GRADED];
+pub static EXPORT_WORDS: [Parameter; 6] = [EDITION, IMAGE, AT, BELOW, LOST, EXPORT_GRADED];
 
 /// The words that `sums` takes.
-pub static SUMS_WORDS: [Parameter; 5] = [EDITION, IMAGE, SUMMED, LOST, JSON];
+pub static SUMS_WORDS: [Parameter; 6] = [EDITION, IMAGE, AT, SUMMED, LOST, JSON];
 
 /// The words that `inode` takes.
-pub static INODE_WORDS: [Parameter; 4] = [EDITION, IMAGE, NODE, JSON];
+pub static INODE_WORDS: [Parameter; 5] = [EDITION, IMAGE, AT, NODE, JSON];
 
 /// The words that `block` takes.
-pub static BLOCK_WORDS: [Parameter; 3] = [EDITION, IMAGE, BLOCK];
+pub static BLOCK_WORDS: [Parameter; 4] = [EDITION, IMAGE, AT, BLOCK];
 
 /// The words that `super`, `free` and `df` take.
-pub static SUPER_WORDS: [Parameter; 3] = [EDITION, IMAGE, JSON];
+pub static SUPER_WORDS: [Parameter; 4] = [EDITION, IMAGE, AT, JSON];
 
 /// The words that `map` takes.
-pub static MAP_WORDS: [Parameter; 3] = [EDITION, IMAGE, SVG];
+pub static MAP_WORDS: [Parameter; 4] = [EDITION, IMAGE, AT, SVG];

@@ -1,14 +1,14 @@
 //! Reads the words after a command.
-ghost use Rattle.std.specs.Prelude.{◌≡◌, ℕ, false, true, None, Option, IfOk, IfErr, codes};
+ghost use Rattle.std.specs.Prelude.{◌≡◌, ℕ, false, true, List, None, Option, IfOk, IfErr, codes};
 ghost use Rattle.command_words.specs.Invocations.{AreLinesGiven, AsksFor, AsksForNothing, IsDepthGiven, IsFormGiven, IsKeepGiven, IsMadeGiven, IsOneWrong, IsPictureGiven, IsValue, IsVolumeGiven, TellsOf, checker_verb, is_set};
-ghost use Rattle.command_words.specs.Verbs.{arguments_of, of_checker};
+ghost use Rattle.command_words.specs.Verbs.{Argument, arguments_of, of_checker, on_volume};
 ghost use Rattle.command_words.specs.declared.parameters.WordKind.TheVariants as kinds;
 ghost use Rattle.command_words.specs.declared.verbs.Verb.TheVariants as verbs;
 
 use crate::disks::list_default;
 use crate::fault::{Said, WordFault, WrongWord};
 use crate::given::{
-    Given, blocks_in, edition_in, flag_in, long_in, moment_in, node_in, owner_in, path_in,
+    Given, blocks_in, edition_in, flag_in, long_in, long_or, moment_in, node_in, owner_in, path_in,
     permissions_in, rescue_in, scripts_in, text_in, threads_in, word_in, word_or,
 };
 use crate::invocation::{Copying, Invocation, MadeFile, Serving, VolumeFile, Work};
@@ -378,8 +378,10 @@ fn read_migrate<'a, G: Given<'a>>(
         list_blocks: word_in(given, "IBLOCKS")?,
         now: moment_in(given, clock)?,
     };
+    let at = long_or(given, "at", 0)?;
     Ok(Invocation::Migrate {
         old,
+        at,
         new,
         migration,
     })
@@ -687,12 +689,13 @@ fn read_identify<'a, G: Given<'a>>(
     Ok(Invocation::Identify { images })
 }
 
-/// Reads the edition and the file of the volume.
+/// Reads the edition and the file of the volume, and the block that it begins at.
 fn volume_in<'a, G: Given<'a>>(given: &G) -> Result<VolumeFile<'a>, WordFault<'a>>
     ensures read { IfOk result (IsVolumeGiven (G.words given.now)) }
-    ensures refused { IfErr result (TellsOf (IsValue None kinds.Edition (G.words given.now (codes "EDITION")) → ⊥)) }
+    ensures refused { IfErr result (λ fault. (clock : Option ℕ) (more : List Argument) → TellsOf (IsOneWrong clock (G.words given.now) (on_volume more)) fault) }
 {
     let edition = edition_in(given)?;
     let image = text_in(given, "IMAGE");
-    Ok(VolumeFile { edition, image })
+    let at = long_or(given, "at", 0)?;
+    Ok(VolumeFile { edition, image, at })
 }

@@ -56,7 +56,13 @@ pub const EDITION: &str = "The volume's edition of Unix";
 
 pub const EDITIONS: &str = "6 for the Sixth, 7 for the Seventh";
 
-pub const IMAGE: &str = "The disk image, a file that holds one volume";
+pub const IMAGE: &str = "The disk image, a file that holds a volume";
+
+pub const AT: &str =
+    "The block of IMAGE, of 512 bytes, that the volume begins at; by default 0. All else in IMAGE stays the same, and one lock serves the whole of it";
+
+pub const OLD_AT: &str =
+    "The block of OLD, of 512 bytes, that the volume begins at; by default 0";
 
 pub const NODE: &str = "The file's i-number, or a path that begins with a slash";
 
@@ -536,7 +542,7 @@ The new volume has the files of the old one. Each i-number is one higher than be
 the new volume. Kinds, permissions, owners, links, sizes, bytes, and the times of access and modification stay;
 the times of change are NOW. A missing block of a file is still missing. All other data blocks are free.
 
-OLD must be sound, and is not changed. NEW must be a different file. It is made or replaced only if the volume was
+OLD must be sound, and is not changed. NEW must be a different file, and holds the new volume alone. It is made or replaced only if the volume was
 made: a new file is written beside it and then takes its place. If standard error is a terminal, a line says what
 a replaced file held. With --new nothing is written if something already has the path NEW.
 

@@ -42,7 +42,11 @@ pub fn moved_to<R: ImageFiles>(
 }
 
 /// Moves over bytes of an open file without reading or writing them, and returns it. A file that can't be moved serves too, if there are none.
-pub(crate) fn passed_over<R: ImageFiles>(rt: &R, mut file: R::File, bytes: u64) -> io::Result<R::File>
+pub(crate) fn passed_over<R: ImageFiles>(
+    rt: &R,
+    mut file: R::File,
+    bytes: u64,
+) -> io::Result<R::File>
     ensures { IfOk result (λ moved. IsMovedTo bytes (R.File.remaining file) (R.File.remaining moved)) }
 {
     if bytes > 0 {

@@ -515,11 +515,7 @@ fn without_group(mode: u32) -> u32 {
 }
 
 /// Writes a filling into something other than a regular file, a volume in its place, and returns the file.
-fn fill_in_place<R: ImageFiles>(
-    rt: &R,
-    file: R::File,
-    filling: Filling<'_>,
-) -> io::Result<R::File>
+fn fill_in_place<R: ImageFiles>(rt: &R, file: R::File, filling: Filling<'_>) -> io::Result<R::File>
     ensures { IfOk result (λ filled. GrowsInPlace R.File.contents filling.entry filled) }
 {
     match filling {

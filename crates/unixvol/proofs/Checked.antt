@@ -42,9 +42,9 @@ ends_unread remaining streams status (inl is) = ends_badly streams status (omega
 ends_unread remaining streams status (inr memory) = ends_badly streams status (omega (arith, memory.0)) (omega (arith, memory.0))
 
 -- a checker's run ends with a status of at most 4, and with 0 only if everything was printed and no fault was reported
-pub ends_checked : {F : Type 0} (remaining contents : F → Option (List ℕ)) (had : F → Stamp → Type 0) (stood : Stamp → Type 0) (streams : Streams)
+pub ends_checked : {F : Type 0} (at : ℕ) (remaining contents : F → Option (List ℕ)) (had : F → Stamp → Type 0) (stood : Stamp → Type 0) (streams : Streams)
     (screen : Screen) (edition : Edition) (checker : Checker) (form : OutputForm) (status : ℕ)
-    → RunsCheck streams (host_files remaining contents had stood) screen edition checker form status → IsEnd streams status
-ends_checked remaining contents had stood streams screen edition checker form status (inl nothing) = ends_unread remaining streams status nothing.0
-ends_checked remaining contents had stood streams screen edition checker form status (inr (image, given, checks)) =
+    → RunsCheck streams (host_files at remaining contents had stood) screen edition checker form status → IsEnd streams status
+ends_checked at remaining contents had stood streams screen edition checker form status (inl nothing) = ends_unread remaining streams status nothing.0
+ends_checked at remaining contents had stood streams screen edition checker form status (inr (image, given, checks)) =
     ends_checks checker edition image form screen streams status checks

@@ -7,9 +7,9 @@ use Rattle.std.specs.Io.KnownBytes.{Consumes}
 use Rattle.vol_layout.specs.Edition.{constants}
 use Rattle.vol_layout.specs.declared.edition.Edition.{Edition}
 use Rattle.vol_findings.specs.Reports.{other_edition}
-use Rattle.host_files.specs.ReadParts.{IsReadOn, IsReadUpTo}
+use Rattle.host_files.specs.ReadParts.{IsReadOn}
 use Rattle.host_files.specs.declared.volume_front.UpTo.TheVariants.{Volume}
-use Rattle.unixvol.specs.Runs.{Gave, GaveBytes, GaveImage, GavePut, GaveScript, IsUnread, is_other_longer}
+use Rattle.unixvol.specs.Runs.{GaveAt, GaveBytes, GaveImage, GavePut, GaveScript, IsUnread, is_other_longer}
 
 -- bytes that were read after none are the bytes that left the source
 none_before : (old new : Option (List ℕ)) (none bytes : List ℕ) (most : ℕ) → none ≡ [] → IsReadOn old new none bytes most → Consumes old new bytes
@@ -57,9 +57,9 @@ script_unread remaining script status is (inl whole) = inr (is, whole.0, whole.1
 script_unread remaining script status is (inr (front, old, new, read, count, bad, same)) = inr (is, old, new, (front, read))
 
 -- an image that was read up to the end of the other edition's volume is one for `check` if that one is longer
-pub other_read : {F : Type 0} (remaining : F → Option (List ℕ)) (edition other : Edition) (old new : F) (own : List ℕ) (result : Result (Vec ℕ) ℕ)
-    → other ≡ other_edition edition → IsReadUpTo (Volume edition) (remaining old) (remaining new) own → is_other_longer edition own ≡ true
-    → IfOk result (λ bytes. Gave (Volume other) remaining bytes.items) → IfOk result (λ image. GaveImage edition remaining image.items)
-other_read remaining edition other old new own (Ok image) is read longer gave =
-    inr ((own, (old, new, read), longer), subst (λ (edition : Edition). Gave (Volume edition) remaining image.items) is gave)
-other_read remaining edition other old new own (Err status) is read longer gave = tt
+pub other_read : {F : Type 0} (remaining : F → Option (List ℕ)) (at : ℕ) (edition other : Edition) (own : List ℕ) (result : Result (Vec ℕ) ℕ)
+    → other ≡ other_edition edition → GaveAt at (Volume edition) remaining own → is_other_longer edition own ≡ true
+    → IfOk result (λ bytes. GaveAt at (Volume other) remaining bytes.items) → IfOk result (λ image. GaveImage at edition remaining image.items)
+other_read remaining at edition other own (Ok image) is read longer gave =
+    inr ((own, read, longer), subst (λ (edition : Edition). GaveAt at (Volume edition) remaining image.items) is gave)
+other_read remaining at edition other own (Err status) is read longer gave = tt

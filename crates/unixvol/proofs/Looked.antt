@@ -204,9 +204,9 @@ ends_unread remaining most streams status few (inr memory) = ends_badly most str
 
 -- a command that shows part of an image ends with a status of at most 4, or 6 if it is graded, and with 0 only if everything was printed and no fault
 -- was reported
-pub ends_looked : {F : Type 0} (remaining contents : F → Option (List ℕ)) (had : F → Stamp → Type 0) (stood : Stamp → Type 0) (streams : Streams)
-    (screen : Screen) (edition : Edition) (look : Look) (status : ℕ) → RunsLook streams (host_files remaining contents had stood) screen edition look status
+pub ends_looked : {F : Type 0} (at : ℕ) (remaining contents : F → Option (List ℕ)) (had : F → Stamp → Type 0) (stood : Stamp → Type 0) (streams : Streams)
+    (screen : Screen) (edition : Edition) (look : Look) (status : ℕ) → RunsLook streams (host_files at remaining contents had stood) screen edition look status
     → IsEndWithin (highest_status look) streams status
-ends_looked remaining contents had stood streams screen edition look status (inl nothing) =
+ends_looked at remaining contents had stood streams screen edition look status (inl nothing) =
     ends_unread remaining (highest_status look) streams status (highest_few look) nothing.0
-ends_looked remaining contents had stood streams screen edition look status (inr (image, given, looks)) = ends_looks edition image screen streams status look looks
+ends_looked at remaining contents had stood streams screen edition look status (inr (image, given, looks)) = ends_looks edition image screen streams status look looks

@@ -93,8 +93,8 @@ ends_unread remaining streams status (inl is) = record { within = omega (arith, 
 ends_unread remaining streams status (inr memory) = record { within = omega (arith, memory.0); whole = λ e. absurd (omega (arith, memory.0, e)) }
 
 -- a play's run ends with a status of at most 4, and with 0 only if everything was printed and no fault was reported
-pub ends_played : {F : Type 0} (remaining contents : F → Option (List ℕ)) (had : F → Stamp → Type 0) (stood : Stamp → Type 0) (streams : Streams)
-    (edition : Edition) (count : ℕ) (journal : Bool) (status : ℕ) → RunsPlay streams (host_files remaining contents had stood) edition count journal status → IsEnd streams status
-ends_played remaining contents had stood streams edition count journal status (inl nothing) = ends_unread remaining streams status nothing.0
-ends_played remaining contents had stood streams edition count journal status (inr (image, stamp, scripts, answer, opened, given, same, plays, saved)) =
+pub ends_played : {F : Type 0} (at : ℕ) (remaining contents : F → Option (List ℕ)) (had : F → Stamp → Type 0) (stood : Stamp → Type 0) (streams : Streams)
+    (edition : Edition) (count : ℕ) (journal : Bool) (status : ℕ) → RunsPlay streams (host_files at remaining contents had stood) edition count journal status → IsEnd streams status
+ends_played at remaining contents had stood streams edition count journal status (inl nothing) = ends_unread remaining streams status nothing.0
+ends_played at remaining contents had stood streams edition count journal status (inr (image, stamp, scripts, answer, opened, given, same, plays, saved)) =
     ends_saved streams _ answer status (answered edition image journal scripts streams answer plays) saved.0

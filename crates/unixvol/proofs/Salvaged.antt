@@ -58,12 +58,12 @@ ends_reported None streams taken stood bytes report status prints = ends_printed
 ends_reported (Some copy) streams taken stood bytes report status saves = ends_copy streams taken stood bytes report status saves
 
 -- `salvage -n` and `salvage -o` end as a plain command does, except that `-o` may report on standard error
-pub ends_salvage : {F A : Type 0} (remaining contents : F → Option (List ℕ)) (had : F → Stamp → Type 0) (stood : Stamp → Type 0) (streams : Streams)
-    (edition : Edition) (copy : Option A) (status : ℕ) → RunsSalvage streams (host_files remaining contents had stood) edition copy status
+pub ends_salvage : {F A : Type 0} (at : ℕ) (remaining contents : F → Option (List ℕ)) (had : F → Stamp → Type 0) (stood : Stamp → Type 0) (streams : Streams)
+    (edition : Edition) (copy : Option A) (status : ℕ) → RunsSalvage streams (host_files at remaining contents had stood) edition copy status
     → Ends (but_remarks (is_some copy) streams) status
-ends_salvage remaining contents had stood streams edition copy status (inl nothing) =
+ends_salvage at remaining contents had stood streams edition copy status (inl nothing) =
     ends_remarked (is_some copy) streams status (ends_unread remaining streams status nothing.0 nothing.1)
-ends_salvage remaining contents had stood streams edition copy status (inr (image, given, inl (fault, why, told))) =
+ends_salvage at remaining contents had stood streams edition copy status (inr (image, given, inl (fault, why, told))) =
     ends_remarked (is_some copy) streams status (ends_told streams fault status told)
-ends_salvage remaining contents had stood streams edition copy status (inr (image, given, inr (bytes, report, is, reports))) =
+ends_salvage at remaining contents had stood streams edition copy status (inr (image, given, inr (bytes, report, is, reports))) =
     ends_reported copy streams (IsTaken contents) stood bytes report status reports

@@ -58,7 +58,7 @@ PutsFiles streams files edition directory names keep now status =
     RunsNothing streams files status
     ⊎ ((image : List ℕ) × (stamp : Stamp) × (news : List NewFile) × (answer : Answer) × files.opened edition image stamp × AreGiven (files.put edition) keep names news
     × Concludes (of_import edition image (told (calls_to_put (reads_as edition image).tree now directory news))) streams answer
-    × EndsSaved (λ saved. files.taken saved × files.stood stamp) answer status)
+    × EndsSaved (λ saved. files.stored saved × files.stood stamp) answer status)
 
 -- several files are put at a time: if the word that was read as the time is also a file's path, nothing is done; otherwise the files are put (this
 -- project)

@@ -56,16 +56,22 @@ use Rattle.command_changes.specs.declared.mkfs.MadeVolume.{MadeVolume}
 use Rattle.command_changes.specs.declared.migrate.Migration.{Migration}
 use Rattle.vol_mkfs.specs.declared.blank.NewVolume.{NewVolume}
 use Rattle.host_files.specs.OpenedFiles.{IsOpened}
+use Rattle.host_files.specs.Packs.{IsReadFrom}
 use Rattle.host_files.specs.ReadParts.{IsReadUpTo}
 use Rattle.host_files.specs.declared.volume_front.UpTo.{UpTo}
 use Rattle.host_files.specs.declared.volume_front.UpTo.TheVariants.{End, Volume, Archive}
-use Rattle.host_files.specs.Save.{IsTaken}
+use Rattle.host_files.specs.Save.{IsTaken, Stores}
 use Rattle.host_files.specs.declared.image_file.Stamp.{Stamp}
+use Rattle.host_files.specs.declared.saved_files.VolumePart.{VolumePart}
 use Rattle.unixvol.specs.Reports.{IsOneFile, IsReportTold, may_report_read}
 
 -- these bytes were read from some file, up to this end (std::io::Read)
 abbrev pub Gave : {F : Type 0} → UpTo → (F → Option (List ℕ)) → List ℕ → Type 0
 Gave {F} up_to remaining bytes = (old : F) × (new : F) × IsReadUpTo up_to (remaining old) (remaining new) bytes
+
+-- these bytes of a volume that begins at this block were read from some file, up to this end (std::io::Read)
+abbrev pub GaveAt : {F : Type 0} → ℕ → UpTo → (F → Option (List ℕ)) → List ℕ → Type 0
+GaveAt {F} at up_to remaining bytes = (old : F) × (new : F) × IsReadFrom (512 * at) up_to (remaining old) (remaining new) bytes
 
 -- these bytes were read from some file, which had no more left (std::io::Read)
 abbrev pub GaveBytes : {F : Type 0} → (F → Option (List ℕ)) → List ℕ → Type 0
@@ -98,21 +104,27 @@ is_other_longer edition image =
     else nat_le (block_count (other_edition edition) image) (constants (other_edition edition)).block_limit
     && nat_lt (length image) (512 * block_count (other_edition edition) image)
 
--- this image for `check` was read from a file: that of a volume; or, if rule 1 or 2 doesn't hold for that and the other edition's volume is longer, that
+-- this image for `check` was read from a file, from this block on: that of a volume; or, if rule 1 or 2 doesn't hold for that and the other edition's volume is longer, that
 -- of a volume of the other edition (std::io::Read)
-abbrev pub GaveImage : {F : Type 0} → Edition → (F → Option (List ℕ)) → List ℕ → Type 0
-GaveImage edition remaining image =
-    Gave (Volume edition) remaining image
-    ⊎ (((own : List ℕ) × Gave (Volume edition) remaining own × (is_other_longer edition own ≡ true)) × Gave (Volume (other_edition edition)) remaining image)
+abbrev pub GaveImage : {F : Type 0} → ℕ → Edition → (F → Option (List ℕ)) → List ℕ → Type 0
+GaveImage at edition remaining image =
+    GaveAt at (Volume edition) remaining image
+    ⊎ (((own : List ℕ) × GaveAt at (Volume edition) remaining own × (is_other_longer edition own ≡ true))
+    × GaveAt at (Volume (other_edition edition)) remaining image)
 
 -- a file isn't read, with this status: 3 if it can't be opened, can't be read to the end, is longer than the largest volume, has an archive that is
 -- too long, or may not be changed; 4 if memory ran out, after some file was opened and at most a prefix of its bytes was read (this project)
 abbrev pub IsUnread : {F : Type 0} → (F → Option (List ℕ)) → ℕ → Type 0
 IsUnread {F} remaining status = (status ≡ 3) ⊎ ((status ≡ 4) × (old : F) × (new : F) × LosesFront (remaining old) (remaining new))
 
+-- the volume with these bytes, which begins at this block, was saved in its place (this project)
+abbrev pub IsStored : {F : Type 0} → ℕ → List ℕ → (F → Option (List ℕ)) → (F → Option (List ℕ)) → (F → Stamp → Type 0) → Type 0
+IsStored {F} at bytes remaining contents had = (part : VolumePart) × (part.at ≡ at) × (part.bytes.now ≡ bytes) × Stores remaining contents had part
+
 -- the effects of files on the program: none could be read, with this status; these bytes, these bytes to put into a volume of an edition, this
 -- script, this image of a volume of an edition, or this image for `check` was read from a file; such an image was read from a file that will be
--- changed and had this stamp; these bytes were written to a file; the file at some path had this stamp (this project)
+-- changed and had this stamp; these bytes were written to a file; this volume was saved in its place, or in some place; the file at some path had this
+-- stamp (this project)
 pub record HostFiles : Type 1 where
   pub unread : ℕ → Type 0
   pub given : List ℕ → Type 0
@@ -122,20 +134,24 @@ pub record HostFiles : Type 1 where
   pub checked : Edition → List ℕ → Type 0
   pub opened : Edition → List ℕ → Stamp → Type 0
   pub taken : List ℕ → Type 0
+  pub stored : List ℕ → Type 0
+  pub saved : List ℕ → Type 0
   pub stood : Stamp → Type 0
 
--- the effects of files, from the contracts of reading and writing (std::io::Read and Write)
-abbrev pub host_files : {F : Type 0} → (F → Option (List ℕ)) → (F → Option (List ℕ)) → (F → Stamp → Type 0) → (Stamp → Type 0) → HostFiles
-host_files remaining contents had stood =
+-- the effects of files on a command whose volume begins at this block, from the contracts of reading and writing (std::io::Read and Write)
+abbrev pub host_files : {F : Type 0} → ℕ → (F → Option (List ℕ)) → (F → Option (List ℕ)) → (F → Stamp → Type 0) → (Stamp → Type 0) → HostFiles
+host_files at remaining contents had stood =
     record {
       unread = IsUnread remaining;
       given = GaveBytes remaining;
       put = λ edition. GavePut edition remaining;
       script = GaveScript remaining;
-      shown = λ edition. Gave (Volume edition) remaining;
-      checked = λ edition. GaveImage edition remaining;
-      opened = λ edition. IsOpened edition remaining had;
+      shown = λ edition. GaveAt at (Volume edition) remaining;
+      checked = λ edition. GaveImage at edition remaining;
+      opened = λ edition. IsOpened at edition remaining had;
       taken = IsTaken contents;
+      stored = λ bytes. IsStored at bytes remaining contents had;
+      saved = λ bytes. (place : ℕ) × IsStored place bytes remaining contents had;
       stood = stood;
     }
 
@@ -245,7 +261,7 @@ RunsPlay streams files edition count journal status =
     RunsNothing streams files status
     ⊎ ((image : List ℕ) × (stamp : Stamp) × (scripts : List (Vec ℕ)) × (answer : Answer) × files.opened edition image stamp
     × All (λ script. files.script script.items) scripts × (length scripts ≡ count)
-    × PlaysVolume edition image journal scripts streams answer × EndsPlayed (λ saved. files.taken saved × files.stood stamp) answer status)
+    × PlaysVolume edition image journal scripts streams answer × EndsPlayed (λ saved. files.stored saved × files.stood stamp) answer status)
 
 -- work with several threads runs (this project)
 abbrev pub RunsWork : Streams → HostFiles → Screen → Edition → Work → ℕ → Type 0
@@ -335,7 +351,7 @@ ChangesImage streams files input edition change lines status =
     ((lines ≡ []) × (RunsNothing streams files status ⊎ TakesNothing streams files input change status))
     ⊎ ((image : List ℕ) × (stamp : Stamp) × (given : GivenFile) × (answer : Answer) × files.opened edition image stamp × IsGivenTo (files.put edition) input.given change given
     × Concludes (changed edition image given change) streams answer × (lines ≡ (changed edition image given change).lines)
-    × EndsSaved (λ saved. files.taken saved × files.stood stamp) answer status)
+    × EndsSaved (λ saved. files.stored saved × files.stood stamp) answer status)
 
 -- a change runs, with these lines about the bytes to save: if an archive is needed from a terminal, nothing is done; otherwise the volume is changed
 -- (this project)
@@ -354,12 +370,31 @@ IsPlainCommand (invocations.Work volume work) = ⊥
 IsPlainCommand (invocations.Serve volume serving) = ⊥
 IsPlainCommand _ = Unit {0}
 
+-- the block that the volume of an invocation begins at (this project)
+abbrev pub volume_at : Invocation → ℕ
+volume_at (invocations.Cat volume node) = volume.at
+volume_at (invocations.Get volume path) = volume.at
+volume_at (invocations.Mkfs image volume) = 0
+volume_at (invocations.Migrate old at new migration) = at
+volume_at (invocations.Identify images) = 0
+volume_at (invocations.Salvage volume copy) = volume.at
+volume_at (invocations.Look volume look) = volume.at
+volume_at (invocations.Change volume change) = volume.at
+volume_at (invocations.Copy volume copying) = volume.at
+volume_at (invocations.Work volume work) = volume.at
+volume_at (invocations.Serve volume serving) = volume.at
+
+-- the block that the volume of the words that were read begins at (this project)
+abbrev pub read_at : Result Invocation Error → ℕ
+read_at (Ok invocation) = volume_at invocation
+read_at (Err error) = 0
+
 -- a plain command runs: its output, the bytes read from files and written to them, and the status; other commands aren't run here (this project)
 abbrev pub Runs : Streams → HostFiles → ℕ → Invocation → Type 0
 Runs streams files status (invocations.Cat volume node) = RunsCat streams files volume.edition node status
 Runs streams files status (invocations.Get volume path) = RunsGetOne streams files volume.edition path.now status
 Runs streams files status (invocations.Mkfs image volume) = RunsMkfs streams files.taken volume status
-Runs streams files status (invocations.Migrate old new migration) = RunsMigrate streams files migration status
+Runs streams files status (invocations.Migrate old at new migration) = RunsMigrate streams files migration status
 Runs streams files status (invocations.Identify images) = ⊥
 Runs streams files status (invocations.Salvage volume copy) = RunsSalvage streams files volume.edition copy status
 Runs streams files status (invocations.Look volume look) = ⊥

@@ -100,7 +100,7 @@ abbrev pub RunsMounted : HostFiles → Edition → (List ℕ → Type 0) → Mes
 RunsMounted files edition said moved result =
     (IsErrAnd result files.unread × MovesNothing moved × said [])
     ⊎ ((image : List ℕ) × (stamp : Stamp) × (volume : Result Mounted ℕ) × files.opened edition image stamp × MountsImage edition image said volume
-    × ServesMounted files.taken moved volume result)
+    × ServesMounted files.saved moved volume result)
 
 -- `serve` runs in the way that its options choose (this project)
 abbrev pub RunsServe : HostFiles → Edition → Serving → (List ℕ → Type 0) → Messages → Result (Result (Unit {0}) ServeFault) ℕ → Type 0

@@ -51,7 +51,7 @@ pub fn run_to_end<
     volume: VolumeFile<'_>,
     change: Change<'_>,
 ) -> ExitCode
-    ensures { ChangesToEnd (host_files R.File.remaining R.File.contents R.had R.stood) (host_input I.remaining) is_terminal (O.contents output) (E.contents errors)
+    ensures { ChangesToEnd (host_files volume.entry.at R.File.remaining R.File.contents R.had R.stood) (host_input I.remaining) is_terminal (O.contents output) (E.contents errors)
         volume.entry.edition change.entry (exit_status result) }
 {
     let mut errors = IntoWrite::new(errors);
@@ -73,7 +73,7 @@ fn run<R: ImageFiles + Clock + Eprint + AllocGlobal, I: Read + Drop>(
     packed: &mut Option<&'static str>,
 ) -> Ending
     ensures { (known : Option (List ℕ)) (failed : Bool) (errors : ErrorStream) → Hears errors result.fault → (lines : List ℕ)
-        × RunsChange (still known failed errors) (host_files R.File.remaining R.File.contents R.had R.stood) (host_input I.remaining) is_terminal volume.entry.edition change.entry lines result.status
+        × RunsChange (still known failed errors) (host_files volume.entry.at R.File.remaining R.File.contents R.had R.stood) (host_input I.remaining) is_terminal volume.entry.edition change.entry lines result.status
         × EndsWith lines (still known failed errors) result.status }
 {
     if wants_terminal(is_terminal, change) {
@@ -100,7 +100,7 @@ fn run<R: ImageFiles + Clock + Eprint + AllocGlobal, I: Read + Drop>(
     } = begun;
     *packed = packed_words(&given.bytes);
     let answer = conclude(perform(host.rt.alloc(), volume.edition, image, given, change));
-    let status = save_answer(host, volume.image, stamp, &answer);
+    let status = save_answer(host, volume, stamp, &answer);
     Ending {
         status,
         fault: answer.fault,

@@ -5,7 +5,7 @@ ghost use Rattle.std.specs.Process.{exit_status};
 ghost use Rattle.command_faults.specs.Faults.{line_after};
 ghost use Rattle.command_faults.specs.Streams.{ErrorStream, Hears, still, streams};
 ghost use Rattle.unixvol.specs.Reports.{IsOneFile, may_report, may_report_read};
-ghost use Rattle.unixvol.specs.Runs.{IsPlainCommand, IsUnread, Gave, PrintsBody, RunsMigrate, RunsMkfs, RunsSalvage, Runs, RunsRead, SavesCopy, RunsToEnd, Ends, but_remarks, host_files};
+ghost use Rattle.unixvol.specs.Runs.{IsPlainCommand, IsUnread, GaveAt, PrintsBody, RunsMigrate, RunsMkfs, RunsSalvage, Runs, RunsRead, SavesCopy, RunsToEnd, Ends, but_remarks, host_files, read_at, volume_at};
 ghost use Rattle.host_files.specs.Save.{IsTaken};
 
 use crate::explain::{explain_cat, explain_command_line, finish, tell_fault};
@@ -43,7 +43,7 @@ pub fn run_to_end<R: ImageFiles + Clock + Eprint + AllocGlobal, O: Write + Drop,
     read: Result<Invocation<'_>, Error>,
 ) -> ExitCode
     requires { IfOk read IsPlainCommand }
-    ensures { RunsToEnd (host_files R.File.remaining R.File.contents R.had R.stood) (O.contents output) (E.contents errors) read.entry (exit_status result) }
+    ensures { RunsToEnd (host_files (read_at read.entry) R.File.remaining R.File.contents R.had R.stood) (O.contents output) (E.contents errors) read.entry (exit_status result) }
 {
     let mut errors = IntoWrite::new(errors);
     let mut output = noted_writer(output);
@@ -61,7 +61,7 @@ fn run<R: ImageFiles + Clock + Eprint + AllocGlobal, O: Sink>(
 ) -> Ending
     requires { IfOk read IsPlainCommand }
     ensures runs { (errors : ErrorStream) → Hears errors result.fault
-        → RunsRead (streams O.contents O.failed output.old output.new errors) (host_files R.File.remaining R.File.contents R.had R.stood) result.status read.entry }
+        → RunsRead (streams O.contents O.failed output.old output.new errors) (host_files (read_at read.entry) R.File.remaining R.File.contents R.had R.stood) result.status read.entry }
     ensures ends { (errors : ErrorStream) → Hears errors result.fault
         → Ends (but_remarks (may_report_read read.entry) (streams O.contents O.failed output.old output.new errors)) result.status }
 {
@@ -82,7 +82,7 @@ fn carry_out<R: ImageFiles + Clock + Eprint + AllocGlobal, O: Sink>(
 ) -> Ending
     requires { IsPlainCommand invocation }
     ensures runs { (errors : ErrorStream) → Hears errors result.fault
-        → Runs (streams O.contents O.failed output.old output.new errors) (host_files R.File.remaining R.File.contents R.had R.stood) result.status invocation.entry }
+        → Runs (streams O.contents O.failed output.old output.new errors) (host_files (volume_at invocation.entry) R.File.remaining R.File.contents R.had R.stood) result.status invocation.entry }
     ensures ends { (errors : ErrorStream) → Hears errors result.fault
         → Ends (but_remarks (may_report invocation.entry) (streams O.contents O.failed output.old output.new errors)) result.status }
 {
@@ -95,9 +95,10 @@ fn carry_out<R: ImageFiles + Clock + Eprint + AllocGlobal, O: Sink>(
         Invocation::Mkfs { image, volume } => run_mkfs(host, image, volume),
         Invocation::Migrate {
             old,
+            at,
             new,
             migration,
-        } => run_migrate(host, old, new, migration),
+        } => run_migrate(host, old, at, new, migration),
         Invocation::Salvage { volume, copy } => run_salvage(host, output, volume, copy),
         Invocation::Identify { .. }
         | Invocation::Look { .. }
@@ -115,7 +116,7 @@ fn run_cat<R: ImageFiles + Eprint + AllocGlobal, O: Sink>(
     volume: VolumeFile<'_>,
     node: NodeName<'_>,
 ) -> u8
-    ensures shown { PrintsBody (IsUnread R.File.remaining) (Gave (UpTo.Volume volume.entry.edition) R.File.remaining) (O.contents output.old) (O.contents output.new)
+    ensures shown { PrintsBody (IsUnread R.File.remaining) (GaveAt volume.entry.at (UpTo.Volume volume.entry.edition) R.File.remaining) (O.contents output.old) (O.contents output.new)
         (O.failed output.old) (O.failed output.new) volume.entry.edition node.entry result }
     ensures whole { result ≡ 0 → O.failed output.new ≡ O.failed output.old }
     ensures silent { result ≢ 0 → result ≢ 3 → Keeps (O.contents output.old) (O.contents output.new) }
@@ -148,19 +149,25 @@ fn run_mkfs<R: ImageFiles + Clock + Eprint + AllocGlobal>(
     }
 }
 
-/// Makes a volume of the seventh edition from the one in the file `old`, saves it in a file, and returns the result of the run.
+/// Makes a volume of the seventh edition from the one that begins at block `at` of the file `old`, saves it in a file, and returns the result of the run.
 fn run_migrate<R: ImageFiles + Clock + Eprint + AllocGlobal>(
     host: &Surroundings<'_, R>,
     old: &str,
+    at: u32,
     new: MadeFile<'_>,
     migration: Migration,
 ) -> Ending
     ensures runs { (known : Option (List ℕ)) (failed : Bool) (errors : ErrorStream) → Hears errors result.fault
-        → RunsMigrate (still known failed errors) (host_files R.File.remaining R.File.contents R.had R.stood) migration result.status }
+        → RunsMigrate (still known failed errors) (host_files at R.File.remaining R.File.contents R.had R.stood) migration result.status }
     ensures ends { (known : Option (List ℕ)) (failed : Bool) (errors : ErrorStream) → Hears errors result.fault
         → Ends (still known failed errors) result.status }
 {
-    let (image, stamp) = match read_stamped(host, Edition::V6, old) {
+    let volume = VolumeFile {
+        edition: Edition::V6,
+        image: old,
+        at,
+    };
+    let (image, stamp) = match read_stamped(host, volume) {
         Ok(read) => read,
         Err(status) => {
             return Ending {
@@ -186,9 +193,9 @@ fn run_salvage<R: ImageFiles + Clock + Eprint + AllocGlobal, O: Sink>(
     copy: Option<&str>,
 ) -> Ending
     ensures { (errors : ErrorStream) → Hears errors result.fault
-        → RunsSalvage (streams O.contents O.failed output.old output.new errors) (host_files R.File.remaining R.File.contents R.had R.stood) volume.entry.edition copy.entry result.status }
+        → RunsSalvage (streams O.contents O.failed output.old output.new errors) (host_files volume.entry.at R.File.remaining R.File.contents R.had R.stood) volume.entry.edition copy.entry result.status }
 {
-    let (image, stamp) = match read_stamped(host, volume.edition, volume.image) {
+    let (image, stamp) = match read_stamped(host, volume) {
         Ok(read) => read,
         Err(status) => {
             return Ending {

@@ -41,7 +41,7 @@ pub fn run_to_end<R: ImageFiles + Clock + Eprint + AllocGlobal, O: Write + Drop,
     volume: VolumeFile<'_>,
     copying: Copying<'_>,
 ) -> ExitCode
-    ensures { CopiesToEnd (host_files R.File.remaining R.File.contents R.had R.stood) R.stands (O.contents output) (E.contents errors)
+    ensures { CopiesToEnd (host_files volume.entry.at R.File.remaining R.File.contents R.had R.stood) R.stands (O.contents output) (E.contents errors)
         volume.entry.edition copying.entry (exit_status result) }
 {
     let mut errors = IntoWrite::new(errors);
@@ -58,7 +58,7 @@ fn run<R: ImageFiles + Clock + Eprint + AllocGlobal>(
     copying: Copying<'_>,
 ) -> Ending
     ensures runs { (known : Option (List ℕ)) (failed : Bool) (errors : ErrorStream) → Hears errors result.fault
-        → RunsCopy (still known failed errors) (host_files R.File.remaining R.File.contents R.had R.stood) R.stands volume.entry.edition copying.entry result.status }
+        → RunsCopy (still known failed errors) (host_files volume.entry.at R.File.remaining R.File.contents R.had R.stood) R.stands volume.entry.edition copying.entry result.status }
     ensures ends { (known : Option (List ℕ)) (failed : Bool) (errors : ErrorStream) → Hears errors result.fault
         → Ends (still known failed errors) result.status }
 {
@@ -88,7 +88,7 @@ fn run_put<R: ImageFiles + Clock + Eprint + AllocGlobal>(
     now: Moment<'_>,
 ) -> Ending
     ensures runs { (known : Option (List ℕ)) (failed : Bool) (errors : ErrorStream) → Hears errors result.fault
-        → RunsPut (still known failed errors) (host_files R.File.remaining R.File.contents R.had R.stood) R.stands volume.entry.edition directory.now
+        → RunsPut (still known failed errors) (host_files volume.entry.at R.File.remaining R.File.contents R.had R.stood) R.stands volume.entry.edition directory.now
         (map (λ path. name_of path.now) paths.now) keep now.entry result.status }
     ensures ends { (known : Option (List ℕ)) (failed : Bool) (errors : ErrorStream) → Hears errors result.fault
         → Ends (still known failed errors) result.status }
@@ -122,7 +122,7 @@ fn run_put<R: ImageFiles + Clock + Eprint + AllocGlobal>(
     let alloc = host.rt.alloc();
     let made = put_files(alloc, volume.edition, image, directory, files, now.seconds);
     let answer = conclude(unremarked(alloc, made));
-    let status = save_answer(host, volume.image, stamp, &answer);
+    let status = save_answer(host, volume, stamp, &answer);
     Ending {
         status,
         fault: answer.fault,
@@ -178,11 +178,11 @@ fn run_get<R: ImageFiles + Clock + Eprint + AllocGlobal>(
     keeps: bool,
 ) -> Ending
     ensures runs { (known : Option (List ℕ)) (failed : Bool) (errors : ErrorStream) → Hears errors result.fault
-        → RunsGet (still known failed errors) (host_files R.File.remaining R.File.contents R.had R.stood) volume.entry.edition (map (λ path. path.now) paths.now) result.status }
+        → RunsGet (still known failed errors) (host_files volume.entry.at R.File.remaining R.File.contents R.had R.stood) volume.entry.edition (map (λ path. path.now) paths.now) result.status }
     ensures ends { (known : Option (List ℕ)) (failed : Bool) (errors : ErrorStream) → Hears errors result.fault
         → Ends (still known failed errors) result.status }
 {
-    let (image, stamp) = match read_stamped(host, volume.edition, volume.image) {
+    let (image, stamp) = match read_stamped(host, volume) {
         Ok(read) => read,
         Err(status) => {
             return Ending {

@@ -70,6 +70,25 @@ pub fn explain_unread<R: Eprint + AllocGlobal>(
     BAD_FILE
 }
 
+/// Prints that a file can't be read because it ends before a block, and returns the status.
+pub fn explain_short<R: Eprint + AllocGlobal>(
+    host: &Surroundings<'_, R>,
+    file: NamedFile<'_>,
+    block: u32,
+) -> u8
+    ensures { result ≡ 3 }
+{
+    let name = file.name();
+    let _ = eprintln!(host.rt; "unixvol: cannot read {name}");
+    if !host.explains {
+        return BAD_FILE;
+    }
+    if let Ok(name) = shown(host.rt.alloc(), file.in_words()) {
+        let _ = eprintln!(host.rt; "unixvol: {name}: it ends before block {block}");
+    }
+    BAD_FILE
+}
+
 /// Prints that a file can't be written, and returns the status.
 pub fn explain_unwritten<R: Eprint + AllocGlobal>(
     host: &Surroundings<'_, R>,
@@ -165,7 +184,7 @@ fn sizes_of<R: ImageFiles + AllocGlobal>(
         _ => 0,
     };
     if rule == 1 || rule == 2 {
-        sizes_in(host.rt, subject.image, subject.edition)
+        sizes_in(host.rt, subject.image, subject.at, subject.edition)
     } else {
         None
     }

@@ -81,7 +81,7 @@ pub fn run_to_end<R: ImageFiles + Eprint + AllocGlobal, O: Write + Drop, E: Writ
     volume: VolumeFile<'_>,
     look: Look<'_>,
 ) -> ExitCode
-    ensures { LooksToEnd (host_files R.File.remaining R.File.contents R.had R.stood) screen (O.contents output) (E.contents errors)
+    ensures { LooksToEnd (host_files volume.entry.at R.File.remaining R.File.contents R.had R.stood) screen (O.contents output) (E.contents errors)
         volume.entry.edition look.entry (exit_status result) }
 {
     let mut errors = IntoWrite::new(errors);
@@ -107,7 +107,7 @@ fn run<R: ImageFiles + Eprint + AllocGlobal, O: Sink>(
     look: Look<'_>,
 ) -> Ending
     ensures runs { (errors : ErrorStream) → Hears errors result.fault
-        → RunsLook (streams O.contents O.failed output.old output.new errors) (host_files R.File.remaining R.File.contents R.had R.stood) screen volume.entry.edition look.entry result.status }
+        → RunsLook (streams O.contents O.failed output.old output.new errors) (host_files volume.entry.at R.File.remaining R.File.contents R.had R.stood) screen volume.entry.edition look.entry result.status }
     ensures ends { (errors : ErrorStream) → Hears errors result.fault
         → IsEndWithin (highest_status look.entry) (streams O.contents O.failed output.old output.new errors) result.status }
 {
@@ -129,7 +129,7 @@ fn read_seen<R: ImageFiles + Eprint + AllocGlobal>(
     volume: VolumeFile<'_>,
     look: Look<'_>,
 ) -> Result<Vec<u8>, u8>
-    ensures given { IfOk result (λ image. IsSeen (host_files R.File.remaining R.File.contents R.had R.stood) volume.entry.edition look.entry image.items) }
+    ensures given { IfOk result (λ image. IsSeen (host_files volume.entry.at R.File.remaining R.File.contents R.had R.stood) volume.entry.edition look.entry image.items) }
     ensures fault { IfErr result (IsUnread R.File.remaining) }
 {
     match look {
@@ -156,7 +156,7 @@ pub fn run_get<R: ImageFiles + Eprint + AllocGlobal, O: Sink>(
     path: &str,
 ) -> Ending
     ensures runs { (errors : ErrorStream) → Hears errors result.fault
-        → RunsGetOne (streams O.contents O.failed output.old output.new errors) (host_files R.File.remaining R.File.contents R.had R.stood) volume.entry.edition path.now result.status }
+        → RunsGetOne (streams O.contents O.failed output.old output.new errors) (host_files volume.entry.at R.File.remaining R.File.contents R.had R.stood) volume.entry.edition path.now result.status }
     ensures ends { (errors : ErrorStream) → Hears errors result.fault
         → Ends (streams O.contents O.failed output.old output.new errors) result.status }
 {

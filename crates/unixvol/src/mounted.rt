@@ -1,8 +1,7 @@
 //! `serve` without `--read-only`: mounts a volume, serves it with changes, and saves it in its file.
-ghost use Rattle.std.specs.Prelude.{IfErr, Some, map};
+ghost use Rattle.std.specs.Prelude.{ℕ, IfErr, Some, map};
 ghost use Rattle.command_faults.specs.Streams.{heard, says};
-ghost use Rattle.host_files.specs.Save.{IsTaken};
-ghost use Rattle.unixvol.specs.Runs.{IsUnread, host_files};
+ghost use Rattle.unixvol.specs.Runs.{IsStored, IsUnread, host_files};
 ghost use Rattle.unixvol.specs.Serve.{EndsMounted, MountsImage, RunsMounted, messages};
 
 use crate::explain::{NamedFile, explain_unread, tell_fault};
@@ -10,12 +9,12 @@ use crate::host::Surroundings;
 use crate::moment;
 use crate::read::{Begun, begin};
 use crate::rescue::{expect_free, rescue};
-use crate::save::explain_unsaved;
+use crate::save::{explain_unsaved, part_of};
 use crate::subject::Subject;
 use command_faults::mount::mount;
 use command_faults::status::{BAD_FILE, NO_MEMORY};
 use command_line::VolumeFile;
-use host_files::{Content, HeldFile, ImageFiles, save_held};
+use host_files::{HeldFile, ImageFiles, save_held};
 use pdp_words::{Image, Sink};
 use std::env::Env;
 use std::fs;
@@ -35,7 +34,7 @@ const OWN_FOLDER: &str = "/proc/self";
 struct SavedImage<R: ImageFiles> {
     marker: PhantomData<R>,
     image: Snapshot<Image>,
-    ghost taken: { ∥ IsTaken R.File.contents image.value ∥₁ },
+    ghost stored: { ∥ ((place : ℕ) × IsStored place image.value R.File.remaining R.File.contents R.had) ∥₁ },
 }
 
 /// The file in which the served volume is saved.
@@ -43,8 +42,8 @@ struct SavedImage<R: ImageFiles> {
 struct ImageSaver<'a, R: ImageFiles> {
     /// The system.
     host: &'a Surroundings<'a, R>,
-    /// The file's path.
-    path: &'a str,
+    /// The volume, by its file and its place in it.
+    volume: VolumeFile<'a>,
     /// The file, which is locked.
     held: HeldFile<R::File>,
     /// True if the last save that failed ran out of memory.
@@ -65,7 +64,7 @@ pub fn run<R: ImageFiles + Env + Clock + Eprint + AllocGlobal, Q: Requests, P: R
     is_mine: bool,
     rescued: Option<&str>,
 ) -> Result<Result<(), ServeFault>, u8>
-    ensures { RunsMounted (host_files R.File.remaining R.File.contents R.had R.stood) volume.entry.edition
+    ensures { RunsMounted (host_files volume.entry.at R.File.remaining R.File.contents R.had R.stood) volume.entry.edition
         (says (heard E.contents E.failed errors.old errors.new)) (messages Q.taken P.sent requests.old requests.new replies.old replies.new) result }
 {
     let owner_told = ||
@@ -87,7 +86,7 @@ pub fn run<R: ImageFiles + Env + Clock + Eprint + AllocGlobal, Q: Requests, P: R
     };
     let mut saver = ImageSaver {
         host,
-        path: volume.image,
+        volume,
         held: HeldFile {
             file: locked,
             stamp,
@@ -175,9 +174,10 @@ impl<R: ImageFiles + Clock + Eprint + AllocGlobal> vol_mounted::Host for ImageSa
     }
 
     fn save(&mut self, image: &Image) -> bool {
-        let content = Content::Bytes(image.as_bytes());
-        if let Err(why) = save_held(self.host.rt, self.path, &mut self.held, content) {
-            self.ran_out = explain_unsaved(self.host, self.path, why) == NO_MEMORY;
+        let path = self.volume.image;
+        let part = part_of(self.volume, image.as_bytes());
+        if let Err(why) = save_held(self.host.rt, path, &mut self.held, part) {
+            self.ran_out = explain_unsaved(self.host, path, why) == NO_MEMORY;
             return false;
         }
         let saved = SavedImage {

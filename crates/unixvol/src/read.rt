@@ -1,18 +1,22 @@
 //! Reads files to their ends, or to the end of the volume or archive in them.
-ghost use Rattle.std.specs.Prelude.{◌≡◌, ◌⊎◌, [], false, true, All, Err, IfErr, IfOk, IsErrOf, Ok, OnErr, length};
+ghost use Rattle.std.specs.Prelude.{◌≡◌, ◌⊎◌, ◌*◌, [], false, true, All, Err, IfErr, IfOk, IsErrOf, Ok, OnErr, length};
 ghost use Rattle.pdp_words.specs.Devices.{LosesFront};
 ghost use Rattle.host_files.specs.OpenedFiles.{IsOpened};
+ghost use Rattle.host_files.specs.Packs.{IsReadFrom};
 ghost use Rattle.host_files.specs.ReadParts.{IsPast, IsReadOn, IsReadUpTo};
-ghost use Rattle.unixvol.specs.Runs.{Gave, GaveBytes, GaveImage, GavePut, GaveScript, IsKept, IsStatusOfFileOrMemory, IsUnread, is_other_longer};
+ghost use Rattle.unixvol.specs.Runs.{GaveAt, GaveBytes, GaveImage, GavePut, GaveScript, IsKept, IsStatusOfFileOrMemory, IsUnread, is_other_longer};
 
-use crate::explain::{NamedFile, explain_no_memory, explain_unread, explain_unwritten, reason_of};
+use crate::explain::{
+    NamedFile, explain_no_memory, explain_short, explain_unread, explain_unwritten, reason_of,
+};
 use crate::host::Surroundings;
 use crate::sizes::HEAD;
 use command_changes::{GivenFile, Keep, Kept};
 use command_line::VolumeFile;
 use host_files::{
-    FileKind, FrontFault, ImageFiles, Noted, OpenFault, Stamp, UpTo, expect_image, modified_in,
-    noted_reader, open_image, open_stamped, permissions_of, read_on, read_up_to,
+    FileKind, FrontFault, ImageFiles, MoveFault, Noted, OpenFault, Stamp, UpTo, expect_image,
+    modified_in, moved_to, noted_reader, open_image, open_stamped, permissions_of, read_on,
+    read_up_to,
 };
 use pdp_words::{BLOCK, Image, Source};
 use std::fs::{self, Files, OpenFile};
@@ -48,7 +52,11 @@ pub fn read_file<R: Files + Eprint + AllocGlobal>(
     ensures given { IfOk result (λ bytes. GaveBytes R.File.remaining bytes.items) }
     ensures fault { IfErr result (IsUnread R.File.remaining) }
 {
-    read_so_far(host, UpTo::End, path)
+    let named = NamedFile::File(path);
+    match fs::open(host.rt, path) {
+        Ok(file) => Ok(read_open(host, named, UpTo::End, file)?.bytes),
+        Err(why) => Err(explain_unread(host, named, why)),
+    }
 }
 
 /// Reads a file to put into a volume of an edition, with what is kept of it besides its bytes. A file that is larger than any file of the edition is
@@ -108,14 +116,15 @@ fn kept_of<F: OpenFile>(keep: Keep, file: &F, stamp: Stamp) -> io::Result<Kept>
 }
 
 /// Reads the image of the volume in a file. If it can't be read, prints the fault and returns the status.
-pub fn read_volume<R: Files + Eprint + AllocGlobal>(
+pub fn read_volume<R: ImageFiles + Eprint + AllocGlobal>(
     host: &Surroundings<'_, R>,
     volume: VolumeFile<'_>,
 ) -> Result<Vec<u8>, u8>
-    ensures given { IfOk result (λ image. Gave (UpTo.Volume volume.entry.edition) R.File.remaining image.items) }
+    ensures given { IfOk result (λ image. GaveAt volume.entry.at (UpTo.Volume volume.entry.edition) R.File.remaining image.items) }
     ensures fault { IfErr result (IsUnread R.File.remaining) }
 {
-    read_so_far(host, UpTo::Volume(volume.edition), volume.image)
+    let read = read_stamped(host, volume)?;
+    Ok(read.0)
 }
 
 /// Reads the image for `check`: that of the volume; or, if rules 1 and 2 don't hold for it and the super-block of a regular file records more blocks for
@@ -124,22 +133,17 @@ pub fn read_checked<R: ImageFiles + Eprint + AllocGlobal>(
     host: &Surroundings<'_, R>,
     volume: VolumeFile<'_>,
 ) -> Result<Vec<u8>, u8>
-    ensures given { IfOk result (λ image. GaveImage volume.entry.edition R.File.remaining image.items) }
+    ensures given { IfOk result (λ image. GaveImage volume.entry.at volume.entry.edition R.File.remaining image.items) }
     ensures fault { IfErr result (IsUnread R.File.remaining) }
 {
-    let named = NamedFile::File(volume.image);
-    let (file, stamp) = match open_stamped(host.rt, volume.image) {
-        Ok(opened) => opened,
-        Err(why) => return Err(explain_unread(host, named, why)),
-    };
-    let read = read_open(host, named, UpTo::Volume(volume.edition), file)?;
-    let image = Image::from_bytes(read.bytes);
+    let (bytes, stamp) = read_stamped(host, volume)?;
+    let image = Image::from_bytes(bytes);
     if stamp.kind != FileKind::Regular || !is_other_longer(volume.edition, &image) {
         return Ok(image.into_bytes());
     }
     drop(image);
     let edition = other_edition(volume.edition);
-    read_so_far(host, UpTo::Volume(edition), volume.image)
+    read_volume(host, VolumeFile { edition, ..volume })
 }
 
 /// True if rule 1 or 2 doesn't hold for an image of an edition, and its super-block records more bytes for the other edition than it has.
@@ -152,22 +156,6 @@ fn is_other_longer(edition: Edition, image: &Image) -> bool
     let edition = other_edition(edition);
     let blocks = Super { edition }.block_count(image);
     blocks <= edition.constants().block_limit && image.len() < BLOCK * blocks as usize
-}
-
-/// Reads a file up to the end named by `up_to`. If it can't be read, prints the fault and returns the status.
-fn read_so_far<R: Files + Eprint + AllocGlobal>(
-    host: &Surroundings<'_, R>,
-    up_to: UpTo,
-    path: &str,
-) -> Result<Vec<u8>, u8>
-    ensures given { IfOk result (λ bytes. Gave up_to R.File.remaining bytes.items) }
-    ensures fault { IfErr result (IsUnread R.File.remaining) }
-{
-    let named = NamedFile::File(path);
-    match fs::open(host.rt, path) {
-        Ok(file) => Ok(read_open(host, named, up_to, file)?.bytes),
-        Err(why) => Err(explain_unread(host, named, why)),
-    }
 }
 
 /// Reads the scripts in several files, in the order of their paths. If one can't be read, prints the fault and returns the status.
@@ -223,19 +211,32 @@ fn read_script<R: Eprint + AllocGlobal, F: Read + Drop>(
 /// the status.
 pub fn read_stamped<R: ImageFiles + Eprint + AllocGlobal>(
     host: &Surroundings<'_, R>,
-    edition: Edition,
-    path: &str,
+    volume: VolumeFile<'_>,
 ) -> Result<(Vec<u8>, Stamp), u8>
-    ensures given { IfOk result (λ read. Gave (UpTo.Volume edition) R.File.remaining read.0.items) }
+    ensures given { IfOk result (λ read. GaveAt volume.entry.at (UpTo.Volume volume.entry.edition) R.File.remaining read.0.items) }
     ensures fault { IfErr result (IsUnread R.File.remaining) }
 {
-    let named = NamedFile::File(path);
-    match open_stamped(host.rt, path) {
-        Ok((file, stamp)) => Ok((
-            read_open(host, named, UpTo::Volume(edition), file)?.bytes,
-            stamp,
-        )),
-        Err(why) => Err(explain_unread(host, named, why)),
+    match open_stamped(host.rt, volume.image) {
+        Ok((file, stamp)) => Ok((read_part(host, volume, file, stamp)?.bytes, stamp)),
+        Err(why) => Err(explain_unread(host, NamedFile::File(volume.image), why)),
+    }
+}
+
+/// Reads the image of the volume in its open file, which has this stamp. If it can't be read, prints the fault and returns the status.
+fn read_part<R: ImageFiles + Eprint + AllocGlobal>(
+    host: &Surroundings<'_, R>,
+    volume: VolumeFile<'_>,
+    file: R::File,
+    stamp: Stamp,
+) -> Result<ReadFile<R::File>, u8>
+    ensures given { IfOk result (λ read. IsReadFrom (512 * volume.entry.at) (UpTo.Volume volume.entry.edition) (R.File.remaining file) (R.File.remaining read.file) read.bytes.items) }
+    ensures fault { IfErr result (IsUnread R.File.remaining) }
+{
+    let named = NamedFile::File(volume.image);
+    match moved_to(host.rt, file, stamp, volume.at) {
+        Ok(moved) => read_open(host, named, UpTo::Volume(volume.edition), moved),
+        Err(MoveFault::Short) => Err(explain_short(host, named, volume.at)),
+        Err(MoveFault::Unread(why)) => Err(explain_unread(host, named, why)),
     }
 }
 
@@ -244,7 +245,7 @@ pub fn read_stamped<R: ImageFiles + Eprint + AllocGlobal>(
 pub struct Begun<F, G> {
     /// The bytes that the command needs besides the image.
     pub given: G,
-    /// The image. If the file is a regular one, the bytes after the volume are included.
+    /// The image.
     pub image: Vec<u8>,
     /// The stamp of the image's file before it was read.
     pub stamp: Stamp,
@@ -265,7 +266,7 @@ pub fn begin<
     read_given: F,
 ) -> Result<Begun<R::File, G>, u8>
     requires { F.pre read_given }
-    ensures image { IfOk result (λ begun. IsOpened volume.entry.edition R.File.remaining R.had begun.image.items begun.stamp) }
+    ensures image { IfOk result (λ begun. IsOpened volume.entry.at volume.entry.edition R.File.remaining R.had begun.image.items begun.stamp) }
     ensures given { IfOk result (λ begun. F.post read_given (Ok begun.given)) }
     ensures fault { IfErr result (λ status. IsUnread R.File.remaining status ⊎ F.post read_given (Err status)) }
 {
@@ -288,16 +289,12 @@ fn read_image<R: ImageFiles + Clock + Eprint + AllocGlobal>(
     host: &Surroundings<'_, R>,
     volume: VolumeFile<'_>,
 ) -> Result<(ReadFile<R::File>, Stamp), u8>
-    ensures given { IfOk result (λ image. IsOpened volume.entry.edition R.File.remaining R.had image.0.bytes.items image.1) }
+    ensures given { IfOk result (λ image. IsOpened volume.entry.at volume.entry.edition R.File.remaining R.had image.0.bytes.items image.1) }
     ensures fault { IfErr result (IsUnread R.File.remaining) }
 {
-    let named = NamedFile::File(volume.image);
     match open_image(host.rt, volume.image, host.is_watched) {
-        Ok((file, stamp)) => {
-            let up_to = UpTo::kept(volume.edition, stamp.kind);
-            Ok((read_open(host, named, up_to, file)?, stamp))
-        }
-        Err(fault) => Err(explain_unopened(host, named, fault)),
+        Ok((file, stamp)) => Ok((read_part(host, volume, file, stamp)?, stamp)),
+        Err(fault) => Err(explain_unopened(host, NamedFile::File(volume.image), fault)),
     }
 }
 

@@ -1,6 +1,6 @@
 //! Saves the result of a command in its file, and returns the exit status.
-ghost use Rattle.std.specs.Prelude.{◌≡◌, ◌⊎◌, IfErr, IfSome, OnOk};
-ghost use Rattle.unixvol.specs.Runs.{IsStatusOfFileOrMemory, EndsPlayed, EndsSaved, MadeSaved};
+ghost use Rattle.std.specs.Prelude.{◌≡◌, ◌⊎◌, IfErr, OnOk};
+ghost use Rattle.unixvol.specs.Runs.{IsStatusOfFileOrMemory, IsStored, EndsPlayed, EndsSaved, MadeSaved};
 ghost use Rattle.host_files.specs.Save.{IsTaken, Saves};
 
 use crate::explain::{NamedFile, explain_no_memory, explain_unwritten};
@@ -9,9 +9,10 @@ use crate::replaced::{held_at, tell_replaced};
 use command_changes::MadeVolume;
 use command_faults::Answer;
 use command_faults::status::BAD_FILE;
-use command_line::MadeFile;
+use command_line::{MadeFile, VolumeFile};
 use host_files::{
-    Content, FileKind, ImageFiles, Marks, OpenFault, Stamp, open_image, save_file, save_marked,
+    Content, FileKind, ImageFiles, Marks, OpenFault, Stamp, VolumePart, open_image, save_file,
+    save_marked, save_volume,
 };
 use std::io;
 use std::rt::Clock;
@@ -19,42 +20,51 @@ use std::rt::Clock;
 /// The message if the file to write holds the volume that was read.
 const OLD_VOLUME: &str = "it holds the volume that was read, which is kept";
 
-/// Saves the result of a command in the file `image`, if there is a result and the file still has the stamp `read`. Returns the exit status.
+/// Saves the result of a command in its place in the volume's file, if there is a result and the file still has the stamp `read`. Returns the exit
+/// status.
 pub fn save_answer<R: ImageFiles + Eprint + AllocGlobal>(
     host: &Surroundings<'_, R>,
-    image: &str,
+    volume: VolumeFile<'_>,
     read: Stamp,
     answer: &Answer,
 ) -> u8
-    ensures { EndsSaved (λ bytes. IsTaken R.File.contents bytes × R.stood read) answer.now result }
+    ensures { EndsSaved (λ bytes. IsStored volume.entry.at bytes R.File.remaining R.File.contents R.had × R.stood read) answer.now result }
 {
-    match &answer.image {
-        Some(bytes) => save(
-            host,
-            image,
-            Some(read),
-            Content::Bytes(bytes),
-            answer.status,
-        ),
-        None => answer.status,
+    let Some(bytes) = &answer.image else {
+        return answer.status;
+    };
+    match save_volume(host.rt, volume.image, read, part_of(volume, bytes)) {
+        Ok(()) => answer.status,
+        Err(why) => explain_unsaved(host, volume.image, why),
     }
 }
 
-/// Saves the volume on which scripts were played in the file `image`, as [`save_answer`] does. If standard output failed, the exit status is 3 even
+/// Returns the bytes of a volume, with its place in its file.
+pub fn part_of<'a>(volume: VolumeFile<'_>, bytes: &'a [u8]) -> VolumePart<'a>
+    ensures at { result.at ≡ volume.entry.at }
+    ensures bytes { result.bytes.now ≡ bytes.entry.now }
+{
+    VolumePart {
+        at: volume.at,
+        bytes,
+    }
+}
+
+/// Saves the volume on which scripts were played in its place in its file, as [`save_answer`] does. If standard output failed, the exit status is 3 even
 /// if saving fails too, and only the line for standard output is printed.
 pub fn save_played<R: ImageFiles + Eprint + AllocGlobal>(
     host: &Surroundings<'_, R>,
-    image: &str,
+    volume: VolumeFile<'_>,
     read: Stamp,
     answer: &Answer,
 ) -> u8
-    ensures { EndsPlayed (λ bytes. IsTaken R.File.contents bytes × R.stood read) answer.now result }
+    ensures { EndsPlayed (λ bytes. IsStored volume.entry.at bytes R.File.remaining R.File.contents R.had × R.stood read) answer.now result }
 {
     if answer.status != BAD_FILE {
-        return save_answer(host, image, read, answer);
+        return save_answer(host, volume, read, answer);
     }
     if let Some(bytes) = &answer.image {
-        let _ = save_file(host.rt, image, Some(read), Content::Bytes(bytes));
+        let _ = save_volume(host.rt, volume.image, read, part_of(volume, bytes));
     }
     BAD_FILE
 }
@@ -83,7 +93,7 @@ pub fn save_made<R: ImageFiles + Clock + Eprint + AllocGlobal>(
     };
     let held = held_at(host, file.path);
     let content = Content::Volume(volume);
-    let saved = save(host, file.path, None, content, made.status);
+    let saved = save(host, file.path, content, made.status);
     tell_replaced(host, file.path, saved, held);
     saved
 }
@@ -170,7 +180,7 @@ fn write_new<R: ImageFiles + AllocGlobal>(
     let content = Content::Bytes(bytes);
     match marks {
         Some(marks) => save_marked(host.rt, path, content, marks),
-        None => save_file(host.rt, path, None, content),
+        None => save_file(host.rt, path, content),
     }
 }
 
@@ -197,17 +207,16 @@ fn lock_replaced<R: ImageFiles + Clock + Eprint + AllocGlobal>(
     }
 }
 
-/// Saves a content in the file `path`, and returns the exit status: `status` if it is saved. If a stamp `read` is given, the file must still have it.
+/// Saves a content in the file `path`, and returns the exit status: `status` if it is saved.
 fn save<R: ImageFiles + Eprint + AllocGlobal>(
     host: &Surroundings<'_, R>,
     path: &str,
-    read: Option<Stamp>,
     content: Content<'_>,
     status: u8,
 ) -> u8
-    ensures { ((result ≡ status) × Saves R.File.contents content.entry × IfSome read R.stood) ⊎ IsStatusOfFileOrMemory result }
+    ensures { ((result ≡ status) × Saves R.File.contents content.entry) ⊎ IsStatusOfFileOrMemory result }
 {
-    match save_file(host.rt, path, read, content) {
+    match save_file(host.rt, path, content) {
         Ok(()) => status,
         Err(why) => explain_unsaved(host, path, why),
     }

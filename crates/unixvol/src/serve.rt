@@ -47,7 +47,7 @@ pub fn run_to_end<
     volume: VolumeFile<'_>,
     serving: Serving<'_>,
 ) -> ExitCode
-    ensures { ServesToEnd (host_files R.File.remaining R.File.contents R.had R.stood) (E.contents errors) volume.entry.edition serving.entry (exit_status result) }
+    ensures { ServesToEnd (host_files volume.entry.at R.File.remaining R.File.contents R.had R.stood) (E.contents errors) volume.entry.edition serving.entry (exit_status result) }
 {
     let mut errors = IntoWrite::new(errors);
     let mut requests = RequestReader::new(input);
@@ -74,7 +74,7 @@ fn run<R: ImageFiles + Env + Clock + Eprint + AllocGlobal, Q: Requests, P: Repli
     volume: VolumeFile<'_>,
     serving: Serving<'_>,
 ) -> Result<Result<(), ServeFault>, u8>
-    ensures { RunsServe (host_files R.File.remaining R.File.contents R.had R.stood) volume.entry.edition serving.entry
+    ensures { RunsServe (host_files volume.entry.at R.File.remaining R.File.contents R.had R.stood) volume.entry.edition serving.entry
         (says (heard E.contents E.failed errors.old errors.new)) (messages Q.taken P.sent requests.old requests.new replies.old replies.new) result }
 {
     match serving {
@@ -93,7 +93,7 @@ fn run_read_only<R: ImageFiles + Eprint + AllocGlobal, Q: Requests, P: Replies, 
     errors: &mut E,
     volume: VolumeFile<'_>,
 ) -> Result<Result<(), ServeFault>, u8>
-    ensures { RunsReadOnly (host_files R.File.remaining R.File.contents R.had R.stood) volume.entry.edition
+    ensures { RunsReadOnly (host_files volume.entry.at R.File.remaining R.File.contents R.had R.stood) volume.entry.edition
         (says (heard E.contents E.failed errors.old errors.new)) (messages Q.taken P.sent requests.old requests.new replies.old replies.new) result }
 {
     let image = Image::from_bytes(read_volume(host, volume)?);

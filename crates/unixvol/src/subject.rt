@@ -14,6 +14,8 @@ pub struct Subject<'a> {
     pub verb: Verb,
     /// The file that holds the image to read, or else the image to make.
     pub image: &'a str,
+    /// The block of this file that the volume begins at.
+    pub at: u32,
     /// The edition that the user named for this image.
     pub edition: Edition,
     /// The part of the image that it works on.
@@ -59,13 +61,15 @@ impl<'a> Subject<'a> {
             Invocation::Mkfs { image, volume } => Some(Subject {
                 verb: Verb::Mkfs,
                 image: image.path,
+                at: 0,
                 edition: volume.edition,
                 about: About::Image,
                 packed: None,
             }),
-            Invocation::Migrate { old, new, .. } => Some(Subject {
+            Invocation::Migrate { old, at, new, .. } => Some(Subject {
                 verb: Verb::Migrate,
                 image: old,
+                at: *at,
                 edition: Edition::V6,
                 about: About::Path(new.path),
                 packed: None,
@@ -79,6 +83,7 @@ impl<'a> Subject<'a> {
         Subject {
             verb,
             image: volume.image,
+            at: volume.at,
             edition: volume.edition,
             about,
             packed: None,

@@ -39,7 +39,7 @@ pub fn run_to_end<
     work: Work<'_>,
 ) -> ExitCode
     requires { IsWorkable work }
-    ensures { WorksToEnd (host_files R.File.remaining R.File.contents R.had R.stood) screen (O.contents output) (E.contents errors)
+    ensures { WorksToEnd (host_files volume.entry.at R.File.remaining R.File.contents R.had R.stood) screen (O.contents output) (E.contents errors)
         volume.entry.edition work.entry (exit_status result) }
 {
     let mut errors = IntoWrite::new(errors);
@@ -66,7 +66,7 @@ fn run<R: ImageFiles + Clock + Eprint + AllocGlobal + Threads + Wait + Sync, O: 
 ) -> Ending
     requires { IsWorkable work.now }
     ensures runs { (errors : ErrorStream) → Hears errors result.fault
-        → RunsWork (streams O.contents O.failed output.old output.new errors) (host_files R.File.remaining R.File.contents R.had R.stood) screen volume.entry.edition work.now result.status }
+        → RunsWork (streams O.contents O.failed output.old output.new errors) (host_files volume.entry.at R.File.remaining R.File.contents R.had R.stood) screen volume.entry.edition work.now result.status }
     ensures ends { (errors : ErrorStream) → Hears errors result.fault
         → IsEnd (streams O.contents O.failed output.old output.new errors) result.status }
 {
@@ -93,7 +93,7 @@ fn run_check<R: ImageFiles + Eprint + AllocGlobal + Threads + Wait + Sync, O: Si
     requires first { 1 ≤ workers }
     requires last { workers ≤ MOST_WORKERS }
     ensures { (errors : ErrorStream) → Hears errors result.fault
-        → RunsCheck (streams O.contents O.failed output.old output.new errors) (host_files R.File.remaining R.File.contents R.had R.stood) screen volume.entry.edition checker form result.status }
+        → RunsCheck (streams O.contents O.failed output.old output.new errors) (host_files volume.entry.at R.File.remaining R.File.contents R.had R.stood) screen volume.entry.edition checker form result.status }
 {
     let image = match read_volume(host, volume) {
         Ok(image) => image,
@@ -128,7 +128,7 @@ fn run_play<R: ImageFiles + Clock + Eprint + AllocGlobal + Threads + Wait + Sync
     requires first { 1 ≤ length scripts.now }
     requires last { length scripts.now ≤ 64 }
     ensures { (errors : ErrorStream) → Hears errors result.fault
-        → RunsPlay (streams O.contents O.failed output.old output.new errors) (host_files R.File.remaining R.File.contents R.had R.stood) volume.entry.edition (length scripts.now) journal result.status }
+        → RunsPlay (streams O.contents O.failed output.old output.new errors) (host_files volume.entry.at R.File.remaining R.File.contents R.had R.stood) volume.entry.edition (length scripts.now) journal result.status }
 {
     let read = ||
         ensures given { IfOk result (λ files. All (λ script. GaveScript R.File.remaining script.items) files.items) }
@@ -161,7 +161,7 @@ fn run_play<R: ImageFiles + Clock + Eprint + AllocGlobal + Threads + Wait + Sync
         &Open,
         output,
     );
-    let status = save_played(host, volume.image, stamp, &answer);
+    let status = save_played(host, volume, stamp, &answer);
     Ending {
         status,
         fault: answer.fault,

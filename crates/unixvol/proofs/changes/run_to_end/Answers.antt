@@ -8,7 +8,7 @@ use Rattle.unixvol.proofs.changes.run_to_end.Goals as goal
 
 pub returns : goal.returns
 returns g c =
-    let files = host_files g.R.File.Read.remaining g.R.File.Write.contents g.R.ImageFiles.had g.R.ImageFiles.stood in
+    let files = host_files c.args.volume.at g.R.File.Read.remaining g.R.File.Write.contents g.R.ImageFiles.had g.R.ImageFiles.stood in
     let input = host_input g.I.Read.remaining in
     let known = g.O.Write.contents c.args.output in
     let status = c.run-ending.result.status in

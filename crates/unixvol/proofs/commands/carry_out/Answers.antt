@@ -39,4 +39,4 @@ returns-in-Salvage-clause-runs g c errors hears = rw c.in-Salvage.is (c.run_salv
 
 pub returns-in-Salvage-clause-ends : goal.returns-in-Salvage-clause-ends
 returns-in-Salvage-clause-ends g c errors hears =
-    rw c.in-Salvage.is (ends_salvage g.R.File.Read.remaining g.R.File.Write.contents g.R.ImageFiles.had g.R.ImageFiles.stood _ c.in-Salvage.volume.edition c.in-Salvage.copy c.run_salvage.result.status (c.run_salvage.ensures errors hears))
+    rw c.in-Salvage.is (ends_salvage c.in-Salvage.volume.at g.R.File.Read.remaining g.R.File.Write.contents g.R.ImageFiles.had g.R.ImageFiles.stood _ c.in-Salvage.volume.edition c.in-Salvage.copy c.run_salvage.result.status (c.run_salvage.ensures errors hears))

@@ -1,12 +1,12 @@
 use Rattle.command_faults.specs.Streams.{streams}
-use Rattle.unixvol.specs.Runs.{host_files}
+use Rattle.unixvol.specs.Runs.{host_files, read_at}
 use Rattle.unixvol.proofs.Asked.{refusal_runs}
 use Rattle.unixvol.proofs.commands.run.Goals as goal
 
 pub returns-in-Err-clause-runs : goal.returns-in-Err-clause-runs
 returns-in-Err-clause-runs g c errors hears =
     refusal_runs (streams g.O.Sink.contents g.O.Sink.failed c.args.output.now c.explain_command_line.new.output errors)
-    (host_files g.R.File.Read.remaining g.R.File.Write.contents g.R.ImageFiles.had g.R.ImageFiles.stood) c.explain_command_line.result c.args.read c.in-Err.error c.in-Err.is
+    (host_files (read_at c.args.read) g.R.File.Read.remaining g.R.File.Write.contents g.R.ImageFiles.had g.R.ImageFiles.stood) c.explain_command_line.result c.args.read c.in-Err.error c.in-Err.is
     (record {
       memory = c.explain_command_line.ensures.memory;
       mistake = c.explain_command_line.ensures.mistake;

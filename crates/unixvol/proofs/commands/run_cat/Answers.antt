@@ -1,7 +1,7 @@
 use Rattle.std.proofs.Common.{ap, inl, inr, refl, subst, sym, ◌∙◌}
 use Rattle.std.proofs.KnownBytes.{Keeps-refl}
 use Rattle.host_files.specs.declared.volume_front.UpTo.TheVariants.{Volume}
-use Rattle.unixvol.specs.Runs.{Gave, status_after}
+use Rattle.unixvol.specs.Runs.{GaveAt, status_after}
 use Rattle.unixvol.proofs.commands.run_cat.Goals as goal
 
 pub returns-in-Err-clause-shown : goal.returns-in-Err-clause-shown
@@ -12,7 +12,7 @@ returns-in-Ok-print_file-clause-shown g c =
     inr (
       c.from_bytes-image.result,
       c.print_file.result,
-      subst (Gave (Volume c.args.volume.edition) g.R.File.Read.remaining) (sym c.from_bytes-image.ensures) c.in-Ok.ensures.given,
+      subst (GaveAt c.args.volume.at (Volume c.args.volume.edition) g.R.File.Read.remaining) (sym c.from_bytes-image.ensures) c.in-Ok.ensures.given,
       c.print_file.ensures.shown,
       c.print_file.ensures.writer,
       c.print_file.ensures.kept,
@@ -24,7 +24,7 @@ returns-clause-shown g c =
     inr (
       c.from_bytes-image.result,
       c.print_file.result,
-      subst (Gave (Volume c.args.volume.edition) g.R.File.Read.remaining) (sym c.from_bytes-image.ensures) c.in-Ok.ensures.given,
+      subst (GaveAt c.args.volume.at (Volume c.args.volume.edition) g.R.File.Read.remaining) (sym c.from_bytes-image.ensures) c.in-Ok.ensures.given,
       c.print_file.ensures.shown,
       c.print_file.ensures.writer,
       c.print_file.ensures.kept,

@@ -2,13 +2,13 @@ use Rattle.std.specs.Process.{exit_status}
 use Rattle.pdp_words.specs.Adapters.{writer_in, has_write_failed}
 use Rattle.command_faults.specs.Streams.{heard}
 use Rattle.unixvol.specs.Reports.{may_report_read}
-use Rattle.unixvol.specs.Runs.{RunsRead, Ends, but_remarks, host_files}
+use Rattle.unixvol.specs.Runs.{RunsRead, Ends, but_remarks, host_files, read_at}
 use Rattle.unixvol.proofs.Begun.{begun, ended}
 use Rattle.unixvol.proofs.commands.run_to_end.Goals as goal
 
 pub returns : goal.returns
 returns g c =
-    let files = host_files g.R.File.Read.remaining g.R.File.Write.contents g.R.ImageFiles.had g.R.ImageFiles.stood in
+    let files = host_files (read_at c.args.read) g.R.File.Read.remaining g.R.File.Write.contents g.R.ImageFiles.had g.R.ImageFiles.stood in
     let status = c.run-ending.result.status in
     let after = heard (λ sink. g.E.Write.contents (writer_in sink)) has_write_failed c.new-errors.result c.tell_fault.new.errors in (
       _,

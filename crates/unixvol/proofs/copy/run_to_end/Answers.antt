@@ -9,7 +9,7 @@ use Rattle.unixvol.proofs.copy.run_to_end.Goals as goal
 
 pub returns : goal.returns
 returns g c =
-    let files = host_files g.R.File.Read.remaining g.R.File.Write.contents g.R.ImageFiles.had g.R.ImageFiles.stood in
+    let files = host_files c.args.volume.at g.R.File.Read.remaining g.R.File.Write.contents g.R.ImageFiles.had g.R.ImageFiles.stood in
     let known = g.O.Write.contents c.args.output in
     let status = c.run-ending.result.status in
     let after = heard (λ sink. g.E.Write.contents (writer_in sink)) has_write_failed c.new-errors.result c.tell_fault.new.errors in (

@@ -11,10 +11,10 @@ returns-clause-runs g c errors hears = inr (c.in-Ok.image.items, c.in-Ok.ensures
 
 pub returns-clause-ends : goal.returns-clause-ends
 returns-clause-ends g c errors hears =
-    ends_looked g.R.File.Read.remaining g.R.File.Write.contents g.R.ImageFiles.had g.R.ImageFiles.stood _ c.args.screen c.args.volume.edition c.args.look c.perform.result.status
+    ends_looked c.args.volume.at g.R.File.Read.remaining g.R.File.Write.contents g.R.ImageFiles.had g.R.ImageFiles.stood _ c.args.screen c.args.volume.edition c.args.look c.perform.result.status
     (inr (c.in-Ok.image.items, c.in-Ok.ensures.given, c.perform.ensures errors hears))
 
 pub returns-in-Err-clause-ends : goal.returns-in-Err-clause-ends
 returns-in-Err-clause-ends g c errors hears =
-    ends_looked g.R.File.Read.remaining g.R.File.Write.contents g.R.ImageFiles.had g.R.ImageFiles.stood _ c.args.screen c.args.volume.edition c.args.look c.in-Err.status
+    ends_looked c.args.volume.at g.R.File.Read.remaining g.R.File.Write.contents g.R.ImageFiles.had g.R.ImageFiles.stood _ c.args.screen c.args.volume.edition c.args.look c.in-Err.status
     (inl (c.in-Err.ensures.fault, Keeps-refl (g.O.Sink.contents c.args.output.now), refl, hears))

@@ -1,8 +1,7 @@
 -- The run of a mounted server, with its saves written to a file.
-use Rattle.std.proofs.Common.{◌≡◌, Ok, inl, inr, refl, rules}
+use Rattle.std.proofs.Common.{◌≡◌, ℕ, Ok, inl, inr, refl, rules}
 use Rattle.command_faults.proofs.Lines.{gets_nothing}
-use Rattle.host_files.specs.Save.{IsTaken}
-use Rattle.unixvol.specs.Runs.{IsUnread}
+use Rattle.unixvol.specs.Runs.{IsStored, IsUnread}
 use Rattle.unixvol.proofs.Saved.{saved_by}
 use Rattle.unixvol.proofs.mounted.run.Goals as goal
 
@@ -14,7 +13,8 @@ returns-in-Err g c =
 pub returns : goal.returns
 returns g c =
     let served = c.serve-served in
-    let saved = saved_by (IsTaken g.R.File.Write.contents) _ (λ member. member.taken) c.new-2.result.items served.new.host.saved.items c.new-2.ensures.items c.in-Ok-new.server served.new.server
+    let saved = saved_by
+    (λ bytes. (place : ℕ) × IsStored place bytes g.R.File.Read.remaining g.R.File.Write.contents g.R.ImageFiles.had) _ (λ member. member.stored) c.new-2.result.items served.new.host.saved.items c.new-2.ensures.items c.in-Ok-new.server served.new.server
     c.in_ok-mounted.mounted c.in-Ok-new.ensures.volume _ _ _ _ served.result served.ensures.turns served.ensures.stored in
     inr (
       c.in-Ok.begun.image.items,

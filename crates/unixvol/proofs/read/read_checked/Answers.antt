@@ -7,5 +7,5 @@ pub returns-clause-given : goal.returns-clause-given
 returns-clause-given g c =
     let edition = c.args.volume.edition in
     let longer = sym (ap (is_other_longer edition) c.from_bytes-image.ensures) ∙ sym c.is_other_longer.ensures ∙ c.if-not-is_other_longer.false in
-    other_read g.R.File.Read.remaining edition _ _ _ c.in_ok-read.read.bytes.items c.read_so_far.result c.other_edition-edition.ensures
-    c.in_ok-read.ensures.given longer c.read_so_far.ensures.given
+    other_read g.R.File.Read.remaining c.args.volume.at edition _ c.in_ok-bytes.bytes.items c.read_volume.result c.other_edition-edition.ensures
+    c.in_ok-bytes.ensures.given longer c.read_volume.ensures.given

@@ -9,7 +9,7 @@ use Rattle.unixvol.proofs.serve.run_to_end.Goals as goal
 
 pub returns : goal.returns
 returns g c =
-    let files = host_files g.R.File.Read.remaining g.R.File.Write.contents g.R.ImageFiles.had g.R.ImageFiles.stood in
+    let files = host_files c.args.volume.at g.R.File.Read.remaining g.R.File.Write.contents g.R.ImageFiles.had g.R.ImageFiles.stood in
     let outcome = c.run-outcome.result in
     let told = g.E.Write.contents (writer_in c.run-outcome.new.errors) in
     let untold = has_write_failed c.run-outcome.new.errors in

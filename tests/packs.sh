@@ -1,0 +1,192 @@
+#!/usr/bin/env bash
+# Runs the built program on a volume inside a disk pack: what it shows is compared with what it shows of the volume cut out by dd, and a pack that was
+# changed with the old pack into which dd writes the changed volume.
+# Usage: tests/packs.sh PROGRAM. It prints a line for each row that fails, and ends with 'N passed, N failed'.
+. "$(dirname "$0")/rows.sh"
+: > none
+
+# cut_out PACK BLOCK COUNT FILE: FILE is so many blocks of PACK
+cut_out() { dd if="$1" of="$4" bs=512 skip="$2" count="$3" status=none; }
+
+# placed FILE BLOCK PACK: puts the volume in FILE into PACK
+placed() { dd if="$1" of="$3" bs=512 seek="$2" conv=notrunc status=none; }
+
+# stored FILE: the KiB that a file takes on its disk
+stored() { du -k "$1" | cut -f 1; }
+
+# A pack with holes, and three volumes: one of the seventh edition at its beginning, a gap, one of the seventh and one of the sixth; and some blocks more.
+blocks=24000 seventh=9614 sixth=21000
+body pack $((512 * blocks))
+printf 'what follows\n' | dd of=pack bs=512 seek=23000 conv=notrunc status=none
+"$program" mkfs 7 first 3000 100 0 0 1000
+"$program" mkfs 7 second 8000 200 0 0 1000
+"$program" mkfs 6 third 1500 20 0 0 1000
+head -c 300000 /dev/urandom > body
+"$program" mkdir 7 second /d 1001
+"$program" put 7 second /d/body body 1002
+"$program" mkdir 7 first /other 1001
+"$program" put 6 third /motd body 1001
+placed first 0 pack
+placed second $seventh pack
+placed third $sixth pack
+cp --sparse=always pack before
+room=$(stored before)
+
+# looks_same BLOCK EDITION VOLUME WORD..: a command shows the same of the volume in its place, in a file and through a pipe, as of the volume by itself
+looks_same() {
+    local at=$1 edition=$2 volume=$3 command=$4
+    shift 4
+    runs "$command" "$edition" "$volume" "$@"
+    cp output wanted
+    cp error line
+    local status
+    status=$(cat status)
+    runs "$command" "$edition" pack "$@" --at "$at"
+    wants "$command $* --at $at" "$status" wanted line
+    cat pack | { "$program" "$command" "$edition" /dev/stdin "$@" --at "$at" > output 2> error; echo $? > status; cat > /dev/null; }
+    wants "$command $* --at $at through a pipe" "$status" wanted line
+}
+
+cut_out pack $seventh 8000 cut
+saves 'the volume that was put into the pack' cut second
+for words in 'cat /d/body' 'cat 3' 'ls' 'ls /d --long' 'ls --slots' 'ls -R --json' 'get /d/body' 'find' 'find -g b*' 'export' 'sums' 'sums --json' 'inode /d/body' 'super' \
+    'free' 'block 300' 'df' 'map' 'map --svg' 'check' 'check --json' 'icheck 2' 'dcheck 2' 'ncheck 2' 'salvage -n'; do
+    read -r -a given <<< "$words"
+    looks_same $seventh 7 second "${given[@]}"
+done
+for words in 'ls' 'get /motd' 'check' 'super' 'export'; do
+    read -r -a given <<< "$words"
+    looks_same $sixth 6 third "${given[@]}"
+done
+looks_same 0 7 first ls
+
+# What is made of a volume in a pack is the volume alone.
+prints none get 7 pack --at $seventh -o . /d/body
+"$program" get 7 second /d/body > wanted
+saves 'a file that was taken out of a pack' body wanted
+"$program" salvage 7 second -o wanted > report
+prints report salvage 7 pack -o made --at $seventh
+saves 'a volume that was salvaged out of a pack' made wanted
+prints none migrate third wanted 4000 100 2000
+prints none migrate pack made 4000 100 2000 --at $sixth
+saves 'a volume that was migrated out of a pack' made wanted
+saves 'a pack that was only read' pack before
+
+# changes BLOCK EDITION VOLUME WORD..: a command changes the volume in its place, and all else in the pack stays
+changes() {
+    local at=$1 edition=$2 volume=$3 command=$4
+    shift 4
+    runs "$command" "$edition" "$volume" "$@"
+    cp output wanted
+    cp error line
+    local status
+    status=$(cat status)
+    runs "$command" "$edition" pack "$@" --at "$at"
+    wants "$command $* --at $at" "$status" wanted line
+    placed "$volume" "$at" before
+    saves "a pack after $command $* --at $at" pack before
+}
+printf '5 0 0 create /played 644\n5 0 0 write /played 0 616263\n' > script
+changes $seventh 7 second mkdir /new 2000
+changes $seventh 7 second mkdir -p /new/a/b 2000
+changes $seventh 7 second put /new/file body 2001
+changes $seventh 7 second put -t /new body script 2002
+changes $seventh 7 second ln /new/file /linked 2003
+changes $seventh 7 second mv /linked /moved 2004
+changes $seventh 7 second chmod /moved 600 2005
+changes $seventh 7 second chown /moved 3 4 2006
+changes $seventh 7 second touch /moved 2007
+changes $seventh 7 second rm /new/file 2008
+changes $seventh 7 second rm -r /new/a 2009
+changes $seventh 7 second rmdir /absent 2010
+changes $seventh 7 second salvage
+changes $seventh 7 second play script
+changes $sixth 6 third mkdir /new 2000
+changes 0 7 first mkdir /new 2000
+"$program" export 7 second /d > archive
+for volume in 'second 7' "pack 7 --at $seventh"; do
+    read -r -a given <<< "$volume"
+    "$program" import "${given[1]}" "${given[0]}" / 2011 "${given[@]:2}" < archive > output 2> error
+    has "import into ${given[0]}" 0 $?
+done
+placed second $seventh before
+saves 'a pack after an import' pack before
+has 'the room of a pack that was changed' yes "$([ "$(stored pack)" -le $((room + 2048)) ] && echo yes || stored pack)"
+
+# A pack without holes is saved without.
+cp --sparse=never pack full
+sync full
+if [ "$(stored full)" -ge 11900 ]; then
+    prints none touch 7 full --at $seventh /moved 2012
+    has 'the room of a pack that had no holes' yes "$([ "$(stored full)" -ge 11900 ] && echo yes || stored full)"
+fi
+rm full
+
+# Places where there is no volume.
+refuses 3 'unixvol: cannot read pack' ls 7 pack --at $((blocks + 1))
+printf '%s\n' 'unixvol: cannot read pack' "unixvol: pack: it ends before block $((blocks + 1))" > line
+runs --explain ls 7 pack --at $((blocks + 1))
+wants 'what is said of a place after the end of a pack' 3 none line
+runs --explain mkdir 7 pack /a 1 --at $((blocks + 1))
+wants 'what is said of a change after the end of a pack' 3 none line
+cat pack | { "$program" --explain ls 7 /dev/stdin --at $((blocks + 1)) > output 2> error; echo $? > status; }
+printf '%s\n' 'unixvol: cannot read /dev/stdin' "unixvol: /dev/stdin: it ends before block $((blocks + 1))" > line
+wants 'what is said of a place after the end of a pipe' 3 none line
+refuses 1 'unixvol: unsound, rule 1' ls 7 pack --at $blocks
+refuses 1 'unixvol: unsound, rule 1' ls 7 pack --at $((blocks - 1))
+refuses 1 'unixvol: unsound, rule 2' ls 7 pack --at 3100
+refuses 1 'unixvol: unsound, rule 2' mkdir 7 pack /a 1 --at 3100
+refuses 3 'unixvol: cannot read pack' ls 7 pack --at 4294967295
+for number in x '' -1 +1 4294967296 1,2 1.0 0x10; do
+    runs ls 7 pack "--at=$number"
+    has "the status of --at=$number" 2 "$(cat status)"
+done
+for command in 'mkfs 7 pack 100' 'identify pack'; do
+    read -r -a given <<< "$command"
+    misread "error: unexpected argument '--at' found" "${given[@]}" --at 18000
+done
+saves 'a pack after commands that were refused' pack before
+
+# A save that fails leaves the old pack.
+(ulimit -f 4000; trap '' XFSZ; runs mkdir 7 pack /e 3000 --at $seventh)
+echo 'unixvol: cannot write pack' > line
+wants 'mkdir where the new pack finds no room' 3 none line
+saves 'a pack whose new file found no room' pack before
+# Another program changes another volume of the pack meanwhile.
+mkfifo slow
+"$program" put 7 pack /slow slow 3000 --at $seventh > output 2> error &
+put=$!
+exec 3> slow
+"$program" mkdir 7 pack /meanwhile 3000
+echo slow >&3
+exec 3>&-
+wait $put
+has 'the status of a put that waited for its file' 0 $?
+"$program" mkdir 7 first /meanwhile 3000
+echo slow > text
+"$program" put 7 second /slow text 3000
+placed first 0 before
+placed second $seventh before
+saves 'a pack of which two volumes were changed at once' pack before
+
+# On a device only the volume's bytes are written.
+if device=$(losetup -f --show pack 2> /dev/null); then
+    prints none mkdir 7 "$device" /device 3000 --at $seventh
+    "$program" mkdir 7 second /device 3000
+    refuses 3 "unixvol: cannot read $device" ls 7 "$device" --at $((blocks + 1))
+    losetup -d "$device"
+    placed second $seventh before
+    saves 'a pack on a device' pack before
+else
+    echo 'skipped: no loop device can be had, so no pack on a device is changed'
+fi
+
+# A volume of a pack is served, and saved in its place.
+"$program" serve --at $seventh 7 pack < /dev/null > output 2> error
+has 'the status of a server without requests' 0 $?
+"$program" serve --read-only --at $seventh 7 pack < /dev/null > output 2> error
+has 'the status of a server that only reads' 0 $?
+saves 'a pack after servers without requests' pack before
+
+echo "$passed passed, $failed failed"
+[ "$failed" = 0 ]

@@ -32,37 +32,37 @@ _unixvol() {
         return
     fi
     case $command in
-        cat) kinds='edition file any' options='--explain -h --help' ;;
-        ls) kinds='edition file path' options='-l --long -R --recursive -d --directory --json --slots --explain -h --help' ;;
-        get) kinds='edition file path any...' options='-o --output -p --preserve --explain -h --help' valued='-o=file --output=file' others='edition file path...' ;;
-        find) kinds='edition file path' options='-g --name --lost --explain -h --help' valued='-g=any --name=any' others='' ;;
-        export) kinds='edition file path' options='--lost --status --explain -h --help' ;;
-        sums) kinds='edition file path' options='--lost --json --explain -h --help' ;;
-        inode) kinds='edition file any' options='--json --explain -h --help' ;;
-        super) kinds='edition file' options='--json --explain -h --help' ;;
-        free) kinds='edition file' options='--json --explain -h --help' ;;
-        block) kinds='edition file any' options='--explain -h --help' ;;
-        df) kinds='edition file' options='--json --explain -h --help' ;;
-        map) kinds='edition file' options='--svg --explain -h --help' ;;
-        check) kinds='edition file' options='--status --json --explain -h --help' ;;
-        icheck) kinds='edition file any' options='--json --explain -h --help' ;;
-        dcheck) kinds='edition file any' options='--json --explain -h --help' ;;
-        ncheck) kinds='edition file any' options='--json --explain -h --help' ;;
+        cat) kinds='edition file any' options='--at --explain -h --help' valued='--at=any' others='' ;;
+        ls) kinds='edition file path' options='--at -l --long -R --recursive -d --directory --json --slots --explain -h --help' valued='--at=any' others='' ;;
+        get) kinds='edition file path any...' options='--at -o --output -p --preserve --explain -h --help' valued='--at=any -o=file --output=file' others='edition file path...' ;;
+        find) kinds='edition file path' options='--at -g --name --lost --explain -h --help' valued='--at=any -g=any --name=any' others='' ;;
+        export) kinds='edition file path' options='--at --lost --status --explain -h --help' valued='--at=any' others='' ;;
+        sums) kinds='edition file path' options='--at --lost --json --explain -h --help' valued='--at=any' others='' ;;
+        inode) kinds='edition file any' options='--at --json --explain -h --help' valued='--at=any' others='' ;;
+        super) kinds='edition file' options='--at --json --explain -h --help' valued='--at=any' others='' ;;
+        free) kinds='edition file' options='--at --json --explain -h --help' valued='--at=any' others='' ;;
+        block) kinds='edition file any' options='--at --explain -h --help' valued='--at=any' others='' ;;
+        df) kinds='edition file' options='--at --json --explain -h --help' valued='--at=any' others='' ;;
+        map) kinds='edition file' options='--at --svg --explain -h --help' valued='--at=any' others='' ;;
+        check) kinds='edition file' options='--at --status --json --explain -h --help' valued='--at=any' others='' ;;
+        icheck) kinds='edition file any' options='--at --json --explain -h --help' valued='--at=any' others='' ;;
+        dcheck) kinds='edition file any' options='--at --json --explain -h --help' valued='--at=any' others='' ;;
+        ncheck) kinds='edition file any' options='--at --json --explain -h --help' valued='--at=any' others='' ;;
         mkfs) kinds='edition file any any any any any' options='--new --explain -h --help' ;;
-        put) kinds='edition file path file any any...' options='-t --target-directory -p --preserve -x --executable --explain -h --help' valued='-t=path --target-directory=path' others='edition file file...' ;;
-        import) kinds='edition file path any' options='--skip-special -o --owner --explain -h --help' valued='-o=any --owner=any' others='' ;;
-        rm) kinds='edition file path any' options='-r --recursive --explain -h --help' ;;
-        rmdir) kinds='edition file path any' options='--explain -h --help' ;;
-        mkdir) kinds='edition file path any' options='-p --parents --explain -h --help' ;;
-        ln) kinds='edition file path path any' options='--explain -h --help' ;;
-        mv) kinds='edition file path path any' options='--explain -h --help' ;;
-        chmod) kinds='edition file path any any' options='--explain -h --help' ;;
-        chown) kinds='edition file path any any any' options='--explain -h --help' ;;
-        touch) kinds='edition file path any' options='--explain -h --help' ;;
-        salvage) kinds='edition file' options='-o --output -n --dry-run --explain -h --help' valued='-o=file --output=file' others='' ;;
-        play) kinds='edition file file...' options='--journal --explain -h --help' ;;
-        migrate) kinds='file file any any any' options='--new --explain -h --help' ;;
-        serve) kinds='edition file' options='--read-only --mine -r --rescue --explain -h --help' valued='-r=file --rescue=file' others='' ;;
+        put) kinds='edition file path file any any...' options='--at -t --target-directory -p --preserve -x --executable --explain -h --help' valued='--at=any -t=path --target-directory=path' others='edition file file...' ;;
+        import) kinds='edition file path any' options='--at --skip-special -o --owner --explain -h --help' valued='--at=any -o=any --owner=any' others='' ;;
+        rm) kinds='edition file path any' options='--at -r --recursive --explain -h --help' valued='--at=any' others='' ;;
+        rmdir) kinds='edition file path any' options='--at --explain -h --help' valued='--at=any' others='' ;;
+        mkdir) kinds='edition file path any' options='--at -p --parents --explain -h --help' valued='--at=any' others='' ;;
+        ln) kinds='edition file path path any' options='--at --explain -h --help' valued='--at=any' others='' ;;
+        mv) kinds='edition file path path any' options='--at --explain -h --help' valued='--at=any' others='' ;;
+        chmod) kinds='edition file path any any' options='--at --explain -h --help' valued='--at=any' others='' ;;
+        chown) kinds='edition file path any any any' options='--at --explain -h --help' valued='--at=any' others='' ;;
+        touch) kinds='edition file path any' options='--at --explain -h --help' valued='--at=any' others='' ;;
+        salvage) kinds='edition file' options='--at -o --output -n --dry-run --explain -h --help' valued='--at=any -o=file --output=file' others='' ;;
+        play) kinds='edition file file...' options='--at --journal --explain -h --help' valued='--at=any' others='' ;;
+        migrate) kinds='file file any any any' options='--new --at --explain -h --help' valued='--at=any' others='' ;;
+        serve) kinds='edition file' options='--at --read-only --mine -r --rescue --explain -h --help' valued='--at=any -r=file --rescue=file' others='' ;;
         identify) kinds='file...' options='--explain -h --help' ;;
     esac
     if [[ $current == -* ]]; then

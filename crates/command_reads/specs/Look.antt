@@ -4,6 +4,7 @@ use Rattle.vol_layout.specs.declared.edition.Edition.{Edition}
 use Rattle.command_faults.specs.Streams.{Streams}
 use Rattle.command_reads.specs.Block.{ShowsBlock}
 use Rattle.command_reads.specs.Check.{Checks}
+use Rattle.command_reads.specs.Dump.{ShowsDump}
 use Rattle.command_reads.specs.Export.{Exports}
 use Rattle.command_reads.specs.Free.{ShowsFree}
 use Rattle.command_reads.specs.Find.{Finds}
@@ -23,6 +24,7 @@ abbrev pub Looks : Edition → List ℕ → Screen → Streams → ℕ → Look 
 Looks edition image screen streams status (looks.Export path options) = Exports edition image path.now options screen streams status
 Looks edition image screen streams status (looks.Sums path form lost) = Sums edition image path.now form lost streams status
 Looks edition image screen streams status (looks.Block block) = ShowsBlock edition image block streams status
+Looks edition image screen streams status (looks.Dump target radix) = ShowsDump edition image target radix streams status
 Looks edition image screen streams status (looks.Free form) = ShowsFree edition image form streams status
 Looks edition image screen streams status (looks.Find path name lost) = Finds edition image path.now (option_map (λ word. word.now) name) lost screen streams status
 Looks edition image screen streams status (looks.Inode node form) = ShowsInode edition image node form streams status

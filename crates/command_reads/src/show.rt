@@ -4,6 +4,7 @@ ghost use Rattle.command_reads.specs.Look.{Looks};
 
 use crate::block::show_block;
 use crate::check::check;
+use crate::dump::show_dump;
 use crate::export::export;
 use crate::find::find;
 use crate::free::show_free;
@@ -58,6 +59,7 @@ pub fn perform<O: Sink>(
         }
         Look::Sums { path, form, lost } => sums(alloc, edition, image, path, form, lost, output),
         Look::Block { block } => show_block(alloc, edition, image, block, output),
+        Look::Dump { target, radix } => show_dump(alloc, edition, image, target, radix, output),
         Look::Free { form } => show_free(alloc, edition, image, form, output),
         Look::Find { path, name, lost } => {
             find(alloc, edition, image, path, name, lost, screen, output)

@@ -9,6 +9,12 @@ returns-in-Inode g c errors hears =
     (streams g.O.Sink.contents g.O.Sink.failed c.args.output.now c.show_inode.new.output errors) c.show_inode.result.status) (sym c.in-Inode.is)
     (c.show_inode.ensures errors hears)
 
+pub returns-in-Dump : goal.returns-in-Dump
+returns-in-Dump g c errors hears =
+    subst (Looks c.args.edition c.args.image.items c.args.screen
+    (streams g.O.Sink.contents g.O.Sink.failed c.args.output.now c.show_dump.new.output errors) c.show_dump.result.status) (sym c.in-Dump.is)
+    (c.show_dump.ensures errors hears)
+
 pub returns-in-List : goal.returns-in-List
 returns-in-List g c errors hears =
     subst (Looks c.args.edition c.args.image.items c.args.screen

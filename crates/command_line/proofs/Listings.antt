@@ -175,6 +175,7 @@ asks_listing clock given edition image path (invocations.Look volume (looks.Inod
 asks_listing clock given edition image path (invocations.Look volume (looks.Super form)) test e_is i_is p_is none is = absurd (true≢false (sym test))
 asks_listing clock given edition image path (invocations.Look volume (looks.Free form)) test e_is i_is p_is none is = absurd (true≢false (sym test))
 asks_listing clock given edition image path (invocations.Look volume (looks.Block block)) test e_is i_is p_is none is = absurd (true≢false (sym test))
+asks_listing clock given edition image path (invocations.Look volume (looks.Dump target radix)) test e_is i_is p_is none is = absurd (true≢false (sym test))
 asks_listing clock given edition image path (invocations.Look volume (looks.Df form)) test e_is i_is p_is none is = absurd (true≢false (sym test))
 asks_listing clock given edition image path (invocations.Look volume (looks.Find p name lost)) test e_is i_is p_is none is = absurd (true≢false (sym test))
 asks_listing clock given edition image path (invocations.Look volume (looks.Map picture)) test e_is i_is p_is none is = absurd (true≢false (sym test))
@@ -240,6 +241,7 @@ listing_asks clock (Some met) edition image path (invocations.Look v (looks.Inod
 listing_asks clock (Some met) edition image path (invocations.Look v (looks.Super form)) is listed = absurd listed
 listing_asks clock (Some met) edition image path (invocations.Look v (looks.Free form)) is listed = absurd listed
 listing_asks clock (Some met) edition image path (invocations.Look v (looks.Block block)) is listed = absurd listed
+listing_asks clock (Some met) edition image path (invocations.Look v (looks.Dump target radix)) is listed = absurd listed
 listing_asks clock (Some met) edition image path (invocations.Look v (looks.Df form)) is listed = absurd listed
 listing_asks clock (Some met) edition image path (invocations.Look v (looks.Find p name lost)) is listed = absurd listed
 listing_asks clock (Some met) edition image path (invocations.Look v (looks.Map picture)) is listed = absurd listed

@@ -49,6 +49,7 @@ lists clock given (invocations.Look volume (looks.Inode node form)) ls is slots 
 lists clock given (invocations.Look volume (looks.Super form)) ls is slots json = absurd (true≢false (sym ls))
 lists clock given (invocations.Look volume (looks.Free form)) ls is slots json = absurd (true≢false (sym ls))
 lists clock given (invocations.Look volume (looks.Block block)) ls is slots json = absurd (true≢false (sym ls))
+lists clock given (invocations.Look volume (looks.Dump target radix)) ls is slots json = absurd (true≢false (sym ls))
 lists clock given (invocations.Look volume (looks.Df form)) ls is slots json = absurd (true≢false (sym ls))
 lists clock given (invocations.Look volume (looks.Find path name lost)) ls is slots json = absurd (true≢false (sym ls))
 lists clock given (invocations.Look volume (looks.Map picture)) ls is slots json = absurd (true≢false (sym ls))

@@ -1,18 +1,20 @@
 -- An invocation can only be read from valid words; if a word isn't valid, there is no invocation.
-use Rattle.std.proofs.Common.{◌≡◌, ◌⊎◌, ◌∙◌, ◌≤◌, ◌∷◌, ℕ, List, [], Option, None, Some, codes, length, map, sym, ap, subst, inl, inr, Result, Ok, Err, IfErr}
+use Rattle.std.proofs.Common.{◌≡◌, ◌⊎◌, ◌∙◌, ◌≤◌, ◌∷◌, ℕ, Bool, List, [], Option, None, Some, codes, length, map, sym, ap, subst, inl, inr, Result, Ok, Err, IfErr}
 use Rattle.std.specs.Borrow.{Bor}
 use Rattle.std.proofs.lemmas.List.{length-map}
 use Rattle.vol_dir.specs.declared.cred.Cred.{Cred}
 use Rattle.vol_layout.specs.declared.edition.Edition.{Edition}
 use Rattle.vol_layout.specs.declared.edition.Edition.TheVariants.{V6, V7}
 use Rattle.command_reads.specs.declared.looks.Look.TheVariants as looks
+use Rattle.command_reads.specs.declared.looks.DumpTarget.{DumpTarget}
+use Rattle.command_reads.specs.declared.looks.DumpTarget.TheVariants as targets
 use Rattle.command_reads.specs.declared.looks.NodeName.{NodeName}
 use Rattle.command_reads.specs.declared.looks.NodeName.TheVariants as nodes
 use Rattle.vol_check.specs.declared.checker.Checker.TheVariants as checkers
 use Rattle.command_changes.specs.declared.changes.Change.TheVariants as changes
-use Rattle.command_words.specs.Invocations.{AreValues, AsksForNothing, IsEditionNamed, IsGiven, IsNodeGiven, IsNodeWord, IsNumberIfAny, IsNumberOr, IsOneWrong, NameAsksFor, TellsOf, Words, verb_of}
+use Rattle.command_words.specs.Invocations.{AreValues, AsksForNothing, IsEditionNamed, IsGiven, IsNodeGiven, IsNodeWord, IsNumberIfAny, IsNumberOr, IsOneWrong, IsPlaceWord, IsTargetGiven, IsVolumeWrong, NameAsksFor, TellsOf, Words, verb_of}
 use Rattle.command_words.specs.Owners.{IsOwnerGiven, IsOwnerIfAny}
-use Rattle.command_words.specs.Verbs.{Argument, IsNoCommand, arguments_of, verb_name}
+use Rattle.command_words.specs.Verbs.{Argument, IsNoCommand, arguments_of, on_volume, verb_name}
 use Rattle.command_words.specs.declared.fault.WordFault.{WordFault}
 use Rattle.command_words.specs.declared.fault.WordFault.TheVariants as faults
 use Rattle.command_words.specs.declared.invocation.Copying.TheVariants as copies
@@ -57,6 +59,12 @@ node_value : (node : NodeName) (word : List ℕ) → IsNodeGiven word node → I
 node_value (nodes.Number number) word is = inr is.0.0
 node_value (nodes.Path path) word is = inl is.1
 
+-- if a word names this place, it is valid for a place
+place_value : (target : DumpTarget) (word : List ℕ) (inode : Bool) → IsTargetGiven word inode target → IsPlaceWord word
+place_value (targets.Block block) word inode is = inr is.0.0
+place_value (targets.Inode number) word inode is = inr is.0.0
+place_value (targets.Path path) word inode is = inl is.1
+
 -- the words of an invocation are valid for its command's arguments
 pub values_given : (clock : Option ℕ) (given : Words) (invocation : Invocation) → IsGiven clock given invocation
     → AreValues clock given (arguments_of (verb_of invocation))
@@ -96,6 +104,8 @@ values_given clock given (invocations.Look volume (looks.Inode node form)) is = 
 values_given clock given (invocations.Look volume (looks.Super form)) is = (edition_value volume.edition _ is.0.0, (tt, (at_value volume.at _ is.0.2, (tt, tt))))
 values_given clock given (invocations.Look volume (looks.Free form)) is = (edition_value volume.edition _ is.0.0, (tt, (at_value volume.at _ is.0.2, (tt, tt))))
 values_given clock given (invocations.Look volume (looks.Block block)) is = (edition_value volume.edition _ is.0.0, (tt, (at_value volume.at _ is.0.2, (is.1.0, tt))))
+values_given clock given (invocations.Look volume (looks.Dump target radix)) is =
+    (edition_value volume.edition _ is.0.0, (tt, (at_value volume.at _ is.0.2, (place_value target _ _ is.1.0, (tt, (tt, tt))))))
 values_given clock given (invocations.Look volume (looks.Df form)) is = (edition_value volume.edition _ is.0.0, (tt, (at_value volume.at _ is.0.2, (tt, tt))))
 values_given clock given (invocations.Look volume (looks.Find path name lost)) is = (edition_value volume.edition _ is.0.0, (tt, (at_value volume.at _ is.0.2, (tt, (tt, (tt, tt))))))
 values_given clock given (invocations.Look volume (looks.Map picture)) is = (edition_value volume.edition _ is.0.0, (tt, (at_value volume.at _ is.0.2, (tt, tt))))
@@ -125,6 +135,11 @@ none_wrong : (clock : Option ℕ) (given : Words) (row : List Argument) → AreV
 none_wrong clock given [] are wrong = wrong
 none_wrong clock given (argument ∷ rest) are (inl wrong) = wrong are.0
 none_wrong clock given (argument ∷ rest) are (inr wrong) = none_wrong clock given rest are.1 wrong
+
+-- if the words for a volume aren't valid, neither are the words of a command on a volume
+pub volume_wrong : (clock : Option ℕ) (given : Words) (more : List Argument) → IsVolumeWrong given → IsOneWrong clock given (on_volume more)
+volume_wrong clock given more (inl edition) = inl edition
+volume_wrong clock given more (inr at) = inr (inr (inl at))
 
 -- if one of the words isn't valid, there is no invocation
 pub no_value : (clock : Option ℕ) (verb : Verb) (given : Words) → IsOneWrong clock given (arguments_of verb) → AsksForNothing clock verb given

@@ -35,6 +35,8 @@ use Rattle.vol_listing.specs.declared.options.Lines.{Lines}
 use Rattle.vol_listing.specs.declared.options.Lines.TheVariants as lines
 use Rattle.command_reads.specs.declared.looks.Look.{Look}
 use Rattle.command_reads.specs.declared.looks.Look.TheVariants as looks
+use Rattle.command_reads.specs.declared.looks.DumpTarget.{DumpTarget}
+use Rattle.command_reads.specs.declared.looks.DumpTarget.TheVariants as targets
 use Rattle.command_reads.specs.declared.looks.NodeName.{NodeName}
 use Rattle.command_reads.specs.declared.looks.NodeName.TheVariants as nodes
 use Rattle.command_reads.specs.declared.looks.Picture.{Picture}
@@ -46,6 +48,8 @@ use Rattle.command_changes.specs.declared.kept.Keep.TheVariants as keeps
 use Rattle.command_changes.specs.declared.changes.Change.{Change}
 use Rattle.command_changes.specs.declared.changes.Change.TheVariants as changes
 use Rattle.command_changes.specs.declared.migrate.Migration.{Migration}
+use Rattle.vol_fields.specs.declared.lines.Radix.{Radix}
+use Rattle.vol_fields.specs.declared.lines.Radix.TheVariants as radixes
 use Rattle.vol_import.specs.declared.import_options.ImportOptions.{ImportOptions}
 use Rattle.vol_mkfs.specs.declared.blank.NewVolume.{NewVolume}
 
@@ -119,6 +123,16 @@ abbrev pub IsNodeGiven : List ℕ → NodeName → Type 0
 IsNodeGiven word (nodes.Number number) = IsNumberGiven 65535 word number × (is_path word ≡ false)
 IsNodeGiven word (nodes.Path path) = (path.now ≡ word) × (is_path word ≡ true)
 
+-- the word names a place in a volume: it begins with a slash, or is a 32-bit number (this project)
+abbrev pub IsPlaceWord : List ℕ → Type 0
+IsPlaceWord word = (is_path word ≡ true) ⊎ IsNumberUpTo 4294967295 word
+
+-- the word names this place: the i-node of a path if it begins with a slash; else an i-node if that option is given, and a block if not (this project)
+abbrev pub IsTargetGiven : List ℕ → Bool → DumpTarget → Type 0
+IsTargetGiven word inode (targets.Block block) = IsNumberGiven 4294967295 word block × (is_path word ≡ false) × (inode ≡ false)
+IsTargetGiven word inode (targets.Inode number) = IsNumberGiven 4294967295 word number × (is_path word ≡ false) × (inode ≡ true)
+IsTargetGiven word inode (targets.Path path) = (path.now ≡ word) × (is_path word ≡ true)
+
 -- the words are valid for an argument of this kind (this project)
 abbrev pub IsValue : Option ℕ → WordKind → List (List ℕ) → Type 0
 IsValue clock kinds.Edition words = (first_word words ≡ codes "6") ⊎ (first_word words ≡ codes "7")
@@ -126,6 +140,7 @@ IsValue clock kinds.Text words = Unit {0}
 IsValue clock kinds.Path words = IsPathWord words
 IsValue clock kinds.Word words = IsNumberUpTo 65535 (first_word words)
 IsValue clock kinds.Node words = IsNodeWord (first_word words)
+IsValue clock kinds.Place words = IsPlaceWord (first_word words)
 IsValue clock kinds.WordOr words = IsNumberIfAny 65535 words
 IsValue clock kinds.Blocks words = (blocks : ℕ) × AreBlocksOf (first_word words) blocks
 IsValue clock kinds.Long words = IsNumberUpTo 4294967295 (first_word words)
@@ -146,6 +161,11 @@ AreValues clock given (argument ∷ rest) = IsValue clock argument.1 (given argu
 abbrev pub IsOneWrong : Option ℕ → Words → List Argument → Type 0
 IsOneWrong clock given [] = ⊥
 IsOneWrong clock given (argument ∷ rest) = (IsValue clock argument.1 (given argument.0) → ⊥) ⊎ IsOneWrong clock given rest
+
+-- the words given for the edition of a volume, or for the block that it begins at, aren't valid (this project)
+abbrev pub IsVolumeWrong : Words → Type 0
+IsVolumeWrong given =
+    (IsValue None kinds.Edition (given (codes "EDITION")) → ⊥) ⊎ (IsValue None kinds.LongOr (given (codes "at")) → ⊥)
 
 -- the command of a checker (this project)
 abbrev pub checker_verb : Checker → Verb
@@ -182,6 +202,7 @@ look_verb (looks.Inode node form) = verbs.Inode
 look_verb (looks.Super form) = verbs.Super
 look_verb (looks.Free form) = verbs.Free
 look_verb (looks.Block block) = verbs.Block
+look_verb (looks.Dump target radix) = verbs.Dump
 look_verb (looks.Df form) = verbs.Df
 look_verb (looks.Find path name lost) = verbs.Find
 look_verb (looks.Map picture) = verbs.Map
@@ -307,6 +328,11 @@ IsDepthGiven given depths.Itself = is_set (given (codes "directory")) ≡ true
 IsDepthGiven given depths.Names = (is_set (given (codes "directory")) ≡ false) × (is_set (given (codes "recursive")) ≡ false)
 IsDepthGiven given depths.Below = (is_set (given (codes "directory")) ≡ false) × (is_set (given (codes "recursive")) ≡ true)
 
+-- the words choose these digits: octal ones if that option is given (this project)
+abbrev pub IsRadixGiven : Words → Radix → Type 0
+IsRadixGiven given radixes.Hex = is_set (given (codes "octal")) ≡ false
+IsRadixGiven given radixes.Octal = is_set (given (codes "octal")) ≡ true
+
 -- the words describe this part of an image (this project)
 abbrev pub IsLookGiven : Words → Look → Type 0
 IsLookGiven given (looks.Export path options) = (path.now ≡ the_word given (codes "PATH")) × (options.lost ≡ is_set (given (codes "lost")))
@@ -317,6 +343,8 @@ IsLookGiven given (looks.Inode node form) = IsNodeGiven (the_word given (codes "
 IsLookGiven given (looks.Super form) = IsFormGiven given form
 IsLookGiven given (looks.Free form) = IsFormGiven given form
 IsLookGiven given (looks.Block block) = IsNumberGiven 4294967295 (the_word given (codes "BLOCK")) block
+IsLookGiven given (looks.Dump target radix) =
+    IsTargetGiven (the_word given (codes "BLOCK")) (is_set (given (codes "inode"))) target × IsRadixGiven given radix
 IsLookGiven given (looks.Df form) = IsFormGiven given form
 IsLookGiven given (looks.Find path name lost) = (path.now ≡ the_word given (codes "PATH"))
     × (option_map (λ word. word.now) name ≡ slice_get (given (codes "name")) 0) × (lost ≡ is_set (given (codes "lost")))

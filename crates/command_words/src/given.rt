@@ -4,7 +4,7 @@ ghost use Rattle.command_words.specs.Decimal.{IsNumberUpTo, IsNumberGiven, IsThr
 ghost use Rattle.command_words.specs.Octal.{IsOctalUpTo, IsOctalGiven};
 ghost use Rattle.command_words.specs.Disks.{AreBlocksOf};
 ghost use Rattle.command_words.specs.Owners.{IsOwnerGiven, IsOwnerIfAny, IsOwnerNamed, IsOwnerWord};
-ghost use Rattle.command_words.specs.Invocations.{IsEditionNamed, IsMomentGiven, IsNodeGiven, IsNodeWord, IsNumberOr, IsPathGiven, IsPathWord, IsRescueGiven, IsValue, IsWrong, TellsOf, is_path, is_set, the_word};
+ghost use Rattle.command_words.specs.Invocations.{IsEditionNamed, IsMomentGiven, IsNodeGiven, IsNodeWord, IsNumberOr, IsPathGiven, IsPathWord, IsPlaceWord, IsRadixGiven, IsRescueGiven, IsTargetGiven, IsValue, IsWrong, TellsOf, is_path, is_set, the_word};
 ghost use Rattle.command_words.specs.declared.parameters.WordKind.TheVariants as kinds;
 
 use crate::decimal::{long_of, threads_of, word_of};
@@ -14,9 +14,10 @@ use crate::moment::moment_of;
 use crate::octal::permissions_of;
 use crate::owners::owner_of;
 use crate::texts;
-use command_reads::NodeName;
+use command_reads::{DumpTarget, NodeName};
 use std::alloc::{AllocError, Global};
 use vol_dir::Cred;
+use vol_fields::Radix;
 use vol_layout::Edition;
 
 /// The words given for the arguments of a command.
@@ -106,6 +107,33 @@ pub(crate) fn node_in<'a, G: Given<'a>>(given: &G) -> Result<NodeName<'a>, WordF
     match word_of(text) {
         Some(number) => Ok(NodeName::Number(number)),
         None => Err(wrong("INO", text, texts::NO_NODE)),
+    }
+}
+
+/// Reads what is dumped: the i-node of a path if the word begins with a slash, else the i-node or the block with its number.
+pub(crate) fn target_in<'a, G: Given<'a>>(given: &G) -> Result<DumpTarget<'a>, WordFault<'a>>
+    ensures read { IfOk result (IsTargetGiven (the_word (G.words given.now) (codes "BLOCK")) (is_set (G.words given.now (codes "inode")))) }
+    ensures refused { IfErr result (TellsOf (IsPlaceWord (the_word (G.words given.now) (codes "BLOCK")) → ⊥)) }
+{
+    let text = text_in(given, "BLOCK");
+    if is_path(text) {
+        return Ok(DumpTarget::Path(text));
+    }
+    match long_of(text) {
+        Some(number) if flag_in(given, "inode") => Ok(DumpTarget::Inode(number)),
+        Some(number) => Ok(DumpTarget::Block(number)),
+        None => Err(wrong("BLOCK", text, texts::dump::NO_PLACE)),
+    }
+}
+
+/// Returns the digits that were chosen.
+pub(crate) fn radix_in<'a, G: Given<'a>>(given: &G) -> Radix
+    ensures { IsRadixGiven (G.words given.now) result }
+{
+    if flag_in(given, "octal") {
+        Radix::Octal
+    } else {
+        Radix::Hex
     }
 }
 

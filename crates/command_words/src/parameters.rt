@@ -20,6 +20,8 @@ pub enum WordKind {
     Blocks,
     /// A 32-bit number.
     Long,
+    /// A 32-bit number, or a path.
+    Place,
     /// Permissions, in octal digits.
     Permissions,
     /// A user and a group: two 16-bit numbers with a colon between them; they may be left out.
@@ -157,6 +159,27 @@ const BLOCK: Parameter = Parameter {
     kind: WordKind::Long,
     need: Need::Once,
     help: texts::block::BLOCK,
+};
+
+const DUMPED: Parameter = Parameter {
+    name: "BLOCK",
+    kind: WordKind::Place,
+    need: Need::Once,
+    help: texts::dump::BLOCK,
+};
+
+const DUMPED_INODE: Parameter = Parameter {
+    name: "inode",
+    kind: WordKind::Flag,
+    need: Need::Flag(Some('i')),
+    help: texts::dump::INODE,
+};
+
+const OCTAL: Parameter = Parameter {
+    name: "octal",
+    kind: WordKind::Flag,
+    need: Need::Flag(None),
+    help: texts::dump::OCTAL,
 };
 
 const BLOCKS: Parameter = Parameter {
@@ -637,7 +660,15 @@ pub static SALVAGE_WORDS: [Parameter; 5] = [EDITION, IMAGE, AT, COPY, DRY_RUN];
 pub static PLAY_WORDS: [Parameter; 5] = [EDITION, IMAGE, AT, SCRIPT, JOURNAL];
 
 /// The words that `migrate` takes.
-pub static MIGRATE_WORDS: [Parameter; 7] = [OLD, NEW, BLOCKS, LIST_BLOCKS, MIGRATED, UNREPLACED, OLD_AT];
+pub static MIGRATE_WORDS: [Parameter; 7] = [
+    OLD,
+    NEW,
+    BLOCKS,
+    LIST_BLOCKS,
+    MIGRATED,
+    UNREPLACED,
+    OLD_AT,
+];
 
 /// The words that `serve` takes.
 pub static SERVE_WORDS: [Parameter; 6] = [EDITION, IMAGE, AT, READ_ONLY, MINE, RESCUE];
@@ -646,7 +677,15 @@ pub static SERVE_WORDS: [Parameter; 6] = [EDITION, IMAGE, AT, READ_ONLY, MINE, R
 pub static IDENTIFY_WORDS: [Parameter; 1] = [IMAGES];
 
 /// The words of `import`.
-pub static IMPORT_WORDS: [Parameter; 7] = [EDITION, IMAGE, AT, IMPORTED, CALL_NOW, SKIP_SPECIAL, OWNER];
+pub static IMPORT_WORDS: [Parameter; 7] = [
+    EDITION,
+    IMAGE,
+    AT,
+    IMPORTED,
+    CALL_NOW,
+    SKIP_SPECIAL,
+    OWNER,
+];
 
 /// The words that `export` takes.
 pub static EXPORT_WORDS: [Parameter; 6] = [EDITION, IMAGE, AT, BELOW, LOST, EXPORT_GRADED];
@@ -659,6 +698,9 @@ pub static INODE_WORDS: [Parameter; 5] = [EDITION, IMAGE, AT, NODE, JSON];
 
 /// The words that `block` takes.
 pub static BLOCK_WORDS: [Parameter; 4] = [EDITION, IMAGE, AT, BLOCK];
+
+/// The words that `dump` takes.
+pub static DUMP_WORDS: [Parameter; 6] = [EDITION, IMAGE, AT, DUMPED, DUMPED_INODE, OCTAL];
 
 /// The words that `super`, `free` and `df` take.
 pub static SUPER_WORDS: [Parameter; 4] = [EDITION, IMAGE, AT, JSON];

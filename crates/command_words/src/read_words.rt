@@ -1,7 +1,7 @@
 //! Reads the words after a command.
 ghost use Rattle.std.specs.Prelude.{◌≡◌, ℕ, false, true, List, None, Option, IfOk, IfErr, codes};
-ghost use Rattle.command_words.specs.Invocations.{AreLinesGiven, AsksFor, AsksForNothing, IsDepthGiven, IsFormGiven, IsKeepGiven, IsMadeGiven, IsOneWrong, IsPictureGiven, IsValue, IsVolumeGiven, TellsOf, checker_verb, is_set};
-ghost use Rattle.command_words.specs.Verbs.{Argument, arguments_of, of_checker, on_volume};
+ghost use Rattle.command_words.specs.Invocations.{AreLinesGiven, AsksFor, AsksForNothing, IsDepthGiven, IsFormGiven, IsKeepGiven, IsMadeGiven, IsOneWrong, IsPictureGiven, IsValue, IsVolumeGiven, IsVolumeWrong, TellsOf, checker_verb, is_set};
+ghost use Rattle.command_words.specs.Verbs.{arguments_of, of_checker};
 ghost use Rattle.command_words.specs.declared.parameters.WordKind.TheVariants as kinds;
 ghost use Rattle.command_words.specs.declared.verbs.Verb.TheVariants as verbs;
 
@@ -9,7 +9,8 @@ use crate::disks::list_default;
 use crate::fault::{Said, WordFault, WrongWord};
 use crate::given::{
     Given, blocks_in, edition_in, flag_in, long_in, long_or, moment_in, node_in, owner_in, path_in,
-    permissions_in, rescue_in, scripts_in, text_in, threads_in, word_in, word_or,
+    permissions_in, radix_in, rescue_in, scripts_in, target_in, text_in, threads_in, word_in,
+    word_or,
 };
 use crate::invocation::{Copying, Invocation, MadeFile, Serving, VolumeFile, Work};
 use crate::several::{PutFiles, file_in, files_in, no_more, not_empty, nothing_kept, paths_in};
@@ -46,6 +47,7 @@ pub fn read<'a, G: Given<'a>>(
         Verb::Super => read_super(given),
         Verb::Free => read_free(given),
         Verb::Block => read_block(given),
+        Verb::Dump => read_dump(given),
         Verb::Df => read_df(given),
         Verb::Map => read_map(given),
         Verb::Check => read_check(given),
@@ -279,6 +281,20 @@ fn read_block<'a, G: Given<'a>>(given: &G) -> Result<Invocation<'a>, WordFault<'
     Ok(Invocation::Look {
         volume,
         look: Look::Block { block },
+    })
+}
+
+/// Reads the words of `dump`.
+fn read_dump<'a, G: Given<'a>>(given: &G) -> Result<Invocation<'a>, WordFault<'a>>
+    ensures read { IfOk result (AsksFor None verbs.Dump (G.words given.now)) }
+    ensures refused { IfErr result (TellsOf (IsOneWrong None (G.words given.now) (arguments_of verbs.Dump))) }
+{
+    let volume = volume_in(given)?;
+    let target = target_in(given)?;
+    let radix = radix_in(given);
+    Ok(Invocation::Look {
+        volume,
+        look: Look::Dump { target, radix },
     })
 }
 
@@ -692,7 +708,7 @@ fn read_identify<'a, G: Given<'a>>(
 /// Reads the edition and the file of the volume, and the block that it begins at.
 fn volume_in<'a, G: Given<'a>>(given: &G) -> Result<VolumeFile<'a>, WordFault<'a>>
     ensures read { IfOk result (IsVolumeGiven (G.words given.now)) }
-    ensures refused { IfErr result (λ fault. (clock : Option ℕ) (more : List Argument) → TellsOf (IsOneWrong clock (G.words given.now) (on_volume more)) fault) }
+    ensures refused { IfErr result (TellsOf (IsVolumeWrong (G.words given.now))) }
 {
     let edition = edition_in(given)?;
     let image = text_in(given, "IMAGE");

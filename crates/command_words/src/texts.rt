@@ -2,6 +2,7 @@
 
 pub mod block;
 pub mod df;
+pub mod dump;
 pub mod export;
 pub mod find;
 pub mod free;
@@ -61,8 +62,7 @@ pub const IMAGE: &str = "The disk image, a file that holds a volume";
 pub const AT: &str =
     "The block of IMAGE, of 512 bytes, that the volume begins at; by default 0. All else in IMAGE stays the same, and one lock serves the whole of it";
 
-pub const OLD_AT: &str =
-    "The block of OLD, of 512 bytes, that the volume begins at; by default 0";
+pub const OLD_AT: &str = "The block of OLD, of 512 bytes, that the volume begins at; by default 0";
 
 pub const NODE: &str = "The file's i-number, or a path that begins with a slash";
 

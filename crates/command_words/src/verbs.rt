@@ -3,10 +3,11 @@ ghost use Rattle.std.specs.Prelude.{◌≡◌, ◌∷◌, [], None, IfSome, map}
 ghost use Rattle.command_words.specs.Verbs.{IsNoCommand, argument_of, arguments_of, verb_name};
 
 use crate::parameters::{
-    BLOCK_WORDS, CAT_WORDS, CHECK_WORDS, CHECKER_WORDS, CHMOD_WORDS, CHOWN_WORDS, EXPORT_WORDS,
-    FIND_WORDS, GET_WORDS, IDENTIFY_WORDS, IMPORT_WORDS, INODE_WORDS, LS_WORDS, MAP_WORDS,
-    MIGRATE_WORDS, MKDIR_WORDS, MKFS_WORDS, NAMES_WORDS, PLAY_WORDS, PUT_WORDS, Parameter,
-    RM_WORDS, RMDIR_WORDS, SALVAGE_WORDS, SERVE_WORDS, SUMS_WORDS, SUPER_WORDS, TOUCH_WORDS,
+    BLOCK_WORDS, CAT_WORDS, CHECK_WORDS, CHECKER_WORDS, CHMOD_WORDS, CHOWN_WORDS, DUMP_WORDS,
+    EXPORT_WORDS, FIND_WORDS, GET_WORDS, IDENTIFY_WORDS, IMPORT_WORDS, INODE_WORDS, LS_WORDS,
+    MAP_WORDS, MIGRATE_WORDS, MKDIR_WORDS, MKFS_WORDS, NAMES_WORDS, PLAY_WORDS, PUT_WORDS,
+    Parameter, RM_WORDS, RMDIR_WORDS, SALVAGE_WORDS, SERVE_WORDS, SUMS_WORDS, SUPER_WORDS,
+    TOUCH_WORDS,
 };
 use crate::texts;
 
@@ -23,6 +24,7 @@ pub enum Verb {
     Super,
     Free,
     Block,
+    Dump,
     Df,
     Map,
     Check,
@@ -48,7 +50,7 @@ pub enum Verb {
 }
 
 /// All commands, in the order in which the help lists them.
-pub static VERBS: [Verb; 32] = [
+pub static VERBS: [Verb; 33] = [
     Verb::Cat,
     Verb::Ls,
     Verb::Get,
@@ -59,6 +61,7 @@ pub static VERBS: [Verb; 32] = [
     Verb::Super,
     Verb::Free,
     Verb::Block,
+    Verb::Dump,
     Verb::Df,
     Verb::Map,
     Verb::Check,
@@ -99,6 +102,7 @@ impl Verb {
             Verb::Super => "super",
             Verb::Free => "free",
             Verb::Block => "block",
+            Verb::Dump => "dump",
             Verb::Df => "df",
             Verb::Map => "map",
             Verb::Check => "check",
@@ -146,6 +150,7 @@ impl Verb {
             Verb::Inode => &INODE_WORDS,
             Verb::Super | Verb::Free | Verb::Df => &SUPER_WORDS,
             Verb::Block => &BLOCK_WORDS,
+            Verb::Dump => &DUMP_WORDS,
             Verb::Map => &MAP_WORDS,
             Verb::Check => &CHECK_WORDS,
             Verb::Salvage => &SALVAGE_WORDS,
@@ -198,6 +203,7 @@ impl Verb {
             Verb::Super => texts::SUPER_ABOUT,
             Verb::Free => texts::free::ABOUT,
             Verb::Block => texts::block::ABOUT,
+            Verb::Dump => texts::dump::ABOUT,
             Verb::Df => texts::df::ABOUT,
             Verb::Map => texts::MAP_ABOUT,
             Verb::Check => texts::CHECK_ABOUT,
@@ -236,6 +242,7 @@ impl Verb {
             Verb::Super => texts::SUPER_MORE,
             Verb::Free => texts::free::MORE,
             Verb::Block => texts::block::MORE,
+            Verb::Dump => texts::dump::MORE,
             Verb::Df => texts::df::MORE,
             Verb::Map => texts::MAP_MORE,
             Verb::Check => texts::CHECK_MORE,

@@ -141,6 +141,7 @@ fn read_seen<R: ImageFiles + Eprint + AllocGlobal>(
         | Look::Super { .. }
         | Look::Free { .. }
         | Look::Block { .. }
+        | Look::Dump { .. }
         | Look::Df { .. }
         | Look::Find { .. }
         | Look::Map { .. }

@@ -296,6 +296,7 @@ fn no_entry(verb: Verb) -> &'static str {
     match verb {
         Verb::Cat => "there is no i-node of this number, it is free, or the path leads to none",
         Verb::Inode => "there is no i-node of this number, or the path leads to none",
+        Verb::Dump => "there is no block or i-node of this number, or the path leads to none",
         Verb::Put | Verb::Mkdir => "a directory on the way to it isn't there",
         Verb::Import => {
             "a directory on the way to it, or the file that it is a link to, isn't there"

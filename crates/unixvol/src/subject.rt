@@ -2,7 +2,7 @@
 
 use command_changes::Change;
 use command_line::{Copying, Invocation, VolumeFile, Work};
-use command_reads::{Look, NodeName};
+use command_reads::{DumpTarget, Look, NodeName};
 use command_words::Verb;
 use vol_check::Checker;
 use vol_layout::Edition;
@@ -109,6 +109,7 @@ impl<'a> Subject<'a> {
             Look::Super { .. } => (Verb::Super, About::Image),
             Look::Free { .. } => (Verb::Free, About::Image),
             Look::Block { .. } => (Verb::Block, About::Image),
+            Look::Dump { target, .. } => (Verb::Dump, about_target(target)),
             Look::Df { .. } => (Verb::Df, About::Image),
             Look::Find { path, .. } => (Verb::Find, About::Path(path)),
             Look::Map { .. } => (Verb::Map, About::Image),
@@ -167,6 +168,14 @@ fn about_node(node: NodeName<'_>) -> About<'_> {
     match node {
         NodeName::Number(number) => About::Inode(number),
         NodeName::Path(path) => About::Path(path),
+    }
+}
+
+/// Returns what is dumped, as the part of the image that a command works on.
+fn about_target(target: DumpTarget<'_>) -> About<'_> {
+    match target {
+        DumpTarget::Block(_) | DumpTarget::Inode(_) => About::Image,
+        DumpTarget::Path(path) => About::Path(path),
     }
 }
 

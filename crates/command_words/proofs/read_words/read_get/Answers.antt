@@ -1,12 +1,15 @@
-use Rattle.std.proofs.Common.{sym}
+use Rattle.std.proofs.Common.{drop, sym}
 use Rattle.command_words.proofs.Copies.{empty_output, kept_got, no_paths, too_many_got}
 use Rattle.command_words.proofs.Faults.{hands_on}
-use Rattle.command_words.proofs.Values.{no_value}
+use Rattle.command_words.proofs.Values.{no_value, volume_wrong}
+use Rattle.command_words.specs.Verbs.{arguments_of}
 use Rattle.command_words.specs.declared.verbs.Verb.TheVariants as verbs
 use Rattle.command_words.proofs.read_words.read_get.Goals as goal
 
 pub returns-in_err-volume-clause-refused : goal.returns-in_err-volume-clause-refused
-returns-in_err-volume-clause-refused g c = λ clock. hands_on _ _ _ _ c.from_residual.ensures.1 (c.in_err-volume.ensures.refused clock _) (no_value clock verbs.Get _)
+returns-in_err-volume-clause-refused g c = λ clock.
+    hands_on _ _ _ _ c.from_residual.ensures.1 c.in_err-volume.ensures.refused
+    (λ wrong. no_value clock verbs.Get (g.G.Given.words c.args.given.now) (volume_wrong clock (g.G.Given.words c.args.given.now) (drop 3 (arguments_of verbs.Get)) wrong))
 
 pub returns-in_err-paths-in-Some-clause-refused : goal.returns-in_err-paths-in-Some-clause-refused
 returns-in_err-paths-in-Some-clause-refused g c = λ clock.

@@ -1,13 +1,16 @@
 -- If the slots of a directory are asked for as JSON, the words of `ls` mean nothing.
-use Rattle.std.proofs.Common.{sym, ◌∙◌}
+use Rattle.std.proofs.Common.{drop, sym, ◌∙◌}
 use Rattle.command_words.proofs.SlotWords.{slots_as_json}
 use Rattle.command_words.proofs.Faults.{hands_on}
-use Rattle.command_words.proofs.Values.{no_value}
+use Rattle.command_words.proofs.Values.{no_value, volume_wrong}
+use Rattle.command_words.specs.Verbs.{arguments_of}
 use Rattle.command_words.specs.declared.verbs.Verb.TheVariants as verbs
 use Rattle.command_words.proofs.read_words.read_ls.Goals as goal
 
 pub returns-in_err-volume-clause-refused : goal.returns-in_err-volume-clause-refused
-returns-in_err-volume-clause-refused g c = λ clock. hands_on _ _ _ _ c.from_residual.ensures.1 (c.in_err-volume.ensures.refused clock _) (no_value clock verbs.Ls _)
+returns-in_err-volume-clause-refused g c = λ clock.
+    hands_on _ _ _ _ c.from_residual.ensures.1 c.in_err-volume.ensures.refused
+    (λ wrong. no_value clock verbs.Ls (g.G.Given.words c.args.given.now) (volume_wrong clock (g.G.Given.words c.args.given.now) (drop 3 (arguments_of verbs.Ls)) wrong))
 
 pub returns-in_err-no_json-clause-refused : goal.returns-in_err-no_json-clause-refused
 returns-in_err-no_json-clause-refused g c = λ clock.

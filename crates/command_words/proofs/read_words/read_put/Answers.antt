@@ -1,12 +1,15 @@
-use Rattle.std.proofs.Common.{sym}
+use Rattle.std.proofs.Common.{drop, sym}
 use Rattle.command_words.proofs.Copies.{empty_target, no_file, no_files, no_moment, too_many_put}
 use Rattle.command_words.proofs.Faults.{hands_on}
-use Rattle.command_words.proofs.Values.{no_value}
+use Rattle.command_words.proofs.Values.{no_value, volume_wrong}
+use Rattle.command_words.specs.Verbs.{arguments_of}
 use Rattle.command_words.specs.declared.verbs.Verb.TheVariants as verbs
 use Rattle.command_words.proofs.read_words.read_put.Goals as goal
 
 pub returns-in_err-volume-clause-refused : goal.returns-in_err-volume-clause-refused
-returns-in_err-volume-clause-refused g c = hands_on _ _ _ _ c.from_residual.ensures.1 (c.in_err-volume.ensures.refused c.args.clock _) (no_value c.args.clock verbs.Put _)
+returns-in_err-volume-clause-refused g c =
+    hands_on _ _ _ _ c.from_residual.ensures.1 c.in_err-volume.ensures.refused
+    (λ wrong. no_value c.args.clock verbs.Put (g.G.Given.words c.args.given.now) (volume_wrong c.args.clock (g.G.Given.words c.args.given.now) (drop 3 (arguments_of verbs.Put)) wrong))
 
 pub returns-in_err-files-in-Some-clause-refused : goal.returns-in_err-files-in-Some-clause-refused
 returns-in_err-files-in-Some-clause-refused g c =

@@ -11,7 +11,7 @@ use vol_losses::{filled, is_lost, is_unsure, is_whole, losses, next_block};
 
 /// A regular file of 12 blocks, as i-node 3 of the seventh edition: blocks 20 to 29, but for a hole in the place of 24, and block 30, an indirect block
 /// that points to blocks 40 and 41.
-const FILE: [Piece; 4] = [
+pub(crate) const FILE: [Piece; 4] = [
     (1152, b"\xA4\x81\x01\0\0\0\0\0\0\0\0\x18"),
     (1164, b"\0\x14\0\0\x15\0\0\x16\0\0\x17\0\0\0\0"),
     (1179, b"\0\x19\0\0\x1A\0\0\x1B\0\0\x1C\0\0\x1D\0\0\x1E\0"),

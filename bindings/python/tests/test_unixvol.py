@@ -1,5 +1,6 @@
 """Tests of the Python package. What the library itself does is proved; here it is that Python hands it on."""
 
+import builtins
 import copy
 import errno
 import fcntl
@@ -525,6 +526,120 @@ class Saving(InFolder):
         with unixvol.open(self.name, 7) as volume:
             volume.save()
         self.assertEqual((_files.ACL in os.listxattr(self.name), self.mode()), (False, 0o640))
+
+
+class Packs(InFolder):
+    """A volume inside a disk pack, between other bytes."""
+
+    AT = 37
+
+    def pack(self, volume: bytes, *, at: int = AT, rest: int = 3000) -> None:
+        """Makes a pack of random bytes, with a volume from a block on."""
+        self.front, self.rest = os.urandom(512 * at), os.urandom(rest)
+        self.name.write_bytes(self.front + volume + self.rest)
+
+    def test_only_the_volume_changes(self):
+        for edition, at, rest in ((6, self.AT, 3000), (7, self.AT, 0), (7, 0, 3000), (6, 70000, 1)):
+            with made(edition) as volume:
+                self.pack(bytes(volume), at=at, rest=rest)
+            with unixvol.open(self.name, edition, at=at) as volume:
+                self.assertEqual(len(bytes(volume)), 400 * 512)
+                (volume / "new").mkdir()
+                volume.save()
+                self.assertEqual(self.name.read_bytes(), self.front + bytes(volume) + self.rest)
+                (volume / "more").mkdir()
+                volume.save(self.name)
+                self.assertEqual(self.name.read_bytes(), self.front + bytes(volume) + self.rest)
+                volume.save(self.folder / "alone.img")
+                self.assertEqual((self.folder / "alone.img").read_bytes(), bytes(volume))
+            with unixvol.open(self.name, edition, at=at) as volume:
+                self.assertTrue((volume / "new").is_dir() and (volume / "more").is_dir())
+
+    def test_what_is_not_there(self):
+        with made() as volume:
+            image = bytes(volume)
+        self.pack(image, rest=0)
+        for source in self.name, self.name.read_bytes():
+            with self.assertRaisesRegex(ValueError, "^the file ends before block 438$"):
+                unixvol.open(source, 7, at=self.AT + 401)
+            with self.assertRaises(unixvol.Unsound) as raised:
+                unixvol.open(source, 7, at=self.AT + 400)
+            self.assertEqual(raised.exception.rule, 1)
+            self.assertRaises(OverflowError, unixvol.open, source, 7, at=-1)
+            self.assertRaises(unixvol.NoEdition, unixvol.open, source, 8, at=self.AT)
+        os.truncate(self.name, 512 * (self.AT + 399))
+        self.assertEqual(unixvol.judge(self.name, 7, at=self.AT), 1)
+        # The super-block says more than there is.
+        self.name.write_bytes(self.front + bytes(512) + b"\xff" * 512)
+        self.assertEqual(unixvol.judge(self.name, 7, at=self.AT), 1)
+
+    def test_judge_explain_salvage(self):
+        with made() as volume:
+            image = bytearray(bytes(volume))
+        whole = bytes(image)
+        # The free list of the seventh edition begins at byte 6 of the super-block with its length.
+        image[512 + 6 : 512 + 8] = bytes(2)
+        self.pack(bytes(image))
+        for source in self.name, self.name.read_bytes():
+            self.assertEqual(unixvol.judge(source, 7, at=self.AT), unixvol.judge(bytes(image), 7))
+            self.assertEqual(unixvol.explain(source, 7, at=self.AT), unixvol.explain(bytes(image), 7))
+            mended = unixvol.salvage(source, 7, at=self.AT)
+            self.assertEqual((len(mended), unixvol.judge(mended, 7)), (len(whole), None))
+
+    def test_a_pipe(self):
+        with made() as volume:
+            self.pack(bytes(volume))
+        data = self.name.read_bytes()
+        os.mkfifo(self.folder / "pipe")
+        writer = threading.Thread(target=(self.folder / "pipe").write_bytes, args=(data,))
+        writer.start()
+        with unixvol.open(self.folder / "pipe", 7, at=self.AT) as volume:
+            self.assertTrue((volume / "etc/motd").is_file())
+        writer.join()
+
+    def test_holes(self):
+        with made() as volume:
+            image = bytes(volume)
+        for is_sparse in True, False:
+            with builtins.open(self.name, "wb") as file:
+                file.truncate(1 << 25)
+                file.seek(1 << 20)
+                file.write(image)
+                if not is_sparse:
+                    file.seek(0)
+                    file.write(bytes(1 << 20))
+                    file.seek((1 << 20) + len(image))
+                    file.write(bytes((1 << 25) - file.tell()))
+            before = self.name.read_bytes()
+            with unixvol.open(self.name, 7, at=2048) as volume:
+                (volume / "new").mkdir()
+                volume.save()
+                image_now = bytes(volume)
+            self.assertEqual(self.name.read_bytes(), before[: 1 << 20] + image_now + before[(1 << 20) + len(image) :])
+            self.assertEqual(512 * self.name.stat().st_blocks < 1 << 24, is_sparse)
+
+    def test_what_another_program_wrote_stays(self):
+        with made() as volume:
+            self.pack(bytes(volume))
+        with unixvol.open(self.name, 7, at=self.AT) as volume:
+            (volume / "y").mkdir()
+            with builtins.open(self.name, "r+b") as file:
+                file.write(b"another volume")
+            before = self.name.read_bytes()
+            self.assertRaises(unixvol.Changed, volume.save)
+            self.assertEqual((self.name.read_bytes(), self.names()), (before, ["disk.img"]))
+
+    def test_a_failed_save_leaves_the_old_pack(self):
+        with made() as volume:
+            self.pack(bytes(volume))
+        before = self.name.read_bytes()
+        with unixvol.open(self.name, 7, at=self.AT, lock=True) as volume:
+            (volume / "y").mkdir()
+            with mock.patch("os.fsync", side_effect=InterruptedError):
+                self.assertRaises(InterruptedError, volume.save)
+            self.assertEqual((self.name.read_bytes(), self.names()), (before, ["disk.img"]))
+            volume.save()
+            self.assertEqual(self.name.read_bytes(), self.front + bytes(volume) + self.rest)
 
 
 class Images(InFolder):

@@ -14,6 +14,7 @@ from contextlib import suppress
 from typing import NamedTuple
 
 from ._faults import Changed, Locked
+from ._packs import has_holes, read_volume, spliced, write_all
 
 # How long to wait while another program has a file locked, and the pause between two tries, in seconds.
 PATIENCE = 30.0
@@ -40,15 +41,23 @@ class Stamp(NamedTuple):
         return cls(found.st_dev, found.st_ino, found.st_size, found.st_mtime_ns)
 
 
+class Part(NamedTuple):
+    """The place of a volume in a disk pack: the block of 512 bytes that it begins at, and its edition."""
+
+    at: int
+    edition: int
+
+
 class ImageFile:
     """A file from which a volume was opened, or in which it is saved.
 
     `stamp` is the one it had when it was last read or saved, or None. `lock` is a descriptor that has it locked, if the
-    lock is kept.
+    lock is kept. `part` is the volume's place in the file, or None if it is the whole file.
     """
 
-    def __init__(self, path: str, stamp: Stamp | None = None, lock: int | None = None):
+    def __init__(self, path: str, stamp: Stamp | None = None, lock: int | None = None, part: Part | None = None):
         self.lock = lock
+        self.part = part
         self.stamp = stamp
         self.path = path
         self.place = os.path.realpath(path)
@@ -61,11 +70,12 @@ class ImageFile:
         return path == self.path or os.path.realpath(path) == self.place
 
     def save(self, data: bytes) -> None:
-        """Replaces the file by a new one with these bytes. If it has a stamp here, it must still have that one."""
+        """Replaces the file by a new one with these bytes, in the volume's place. If it has a stamp here, it must still
+        have that one."""
         place = os.path.realpath(self.path)
-        old = _open_old(place, self.stamp, is_locked=self.lock is not None)
+        old = _open_old(place, self.stamp, is_read=self.part is not None, is_locked=self.lock is not None)
         try:
-            new, self.stamp = _replace(place, data, old, self.stamp)
+            new, self.stamp = _replace(place, data, old, self.stamp, self.part)
         finally:
             if old is not None:
                 os.close(old)
@@ -83,27 +93,28 @@ class ImageFile:
             self.lock = None
 
 
-def read_image(path: str, lock: bool = False) -> tuple[bytes, ImageFile]:
-    """Returns the bytes of a file, and the file, with the stamp that it had before the first byte was read; only a
-    regular file has one, and can be locked."""
+def read_image(path: str, lock: bool = False, part: Part | None = None) -> tuple[bytes, ImageFile]:
+    """Returns the bytes of a file, or of a volume in it, and the file, with the stamp that it had before the first byte
+    was read; only a regular file has one, and can be locked."""
     number = _open_locked(path, os.O_RDONLY) if lock else None
     try:
         with builtins.open(path if number is None else number, "rb", closefd=number is None) as file:
             found = os.fstat(file.fileno())
-            data = file.read()
+            data = file.read() if part is None else read_volume(file, *part)
     except BaseException:
         if number is not None:
             os.close(number)
         raise
-    return data, ImageFile(path, Stamp.of(found) if stat.S_ISREG(found.st_mode) else None, number)
+    return data, ImageFile(path, Stamp.of(found) if stat.S_ISREG(found.st_mode) else None, number, part)
 
 
-def _open_old(place: str, known: Stamp | None, *, is_locked: bool) -> int | None:
+def _open_old(place: str, known: Stamp | None, *, is_read: bool, is_locked: bool) -> int | None:
     """Opens and locks the file to replace, and returns its descriptor, or None if there is no file.
 
-    It is opened for writing, since nobody may replace what he may not write."""
+    It is opened for writing, since nobody may replace what he may not write, and for reading if it is a pack."""
+    flags = os.O_RDWR if is_read else os.O_WRONLY
     try:
-        return _open_locked(place, os.O_WRONLY | os.O_NOFOLLOW, known, is_locked=is_locked)
+        return _open_locked(place, flags | os.O_NOFOLLOW, known, is_locked=is_locked)
     except FileNotFoundError:
         if known is None:
             return None
@@ -156,15 +167,14 @@ def _try_lock(number: int) -> bool:
     return True
 
 
-def _replace(place: str, data: bytes, old: int | None, known: Stamp | None) -> tuple[int, Stamp]:
-    """Replaces the file that is open as `old` by a new one, and returns the new one's descriptor, which has it locked,
-    and its stamp. If a stamp is given, the old file must still have it."""
+def _replace(place: str, data: bytes, old: int | None, known: Stamp | None, part: Part | None) -> tuple[int, Stamp]:
+    """Replaces the file that is open as `old` by a new one, with these bytes in a volume's place or alone, and returns
+    the new one's descriptor, which has it locked, and its stamp. If a stamp is given, the old file must still have it."""
     new, beside = _new_file(place, 0o666 if old is None else 0o600)
     try:
         if old is not None:
             _keep_rights(new, old)
-        with builtins.open(new, "wb", closefd=False) as file:
-            file.write(data)
+        _fill(new, data, old, part)
         os.fsync(new)
         if not _try_lock(new):
             raise Changed("another program has locked the new file that was to take its place", place)
@@ -180,6 +190,19 @@ def _replace(place: str, data: bytes, old: int | None, known: Stamp | None) -> t
         raise
     _sync_folder(os.path.dirname(place))
     return new, stamp
+
+
+def _fill(new: int, data: bytes, old: int | None, part: Part | None) -> None:
+    """Writes a new file: these bytes, or the old file's with these in a volume's place. It has holes if the old one
+    has."""
+    with builtins.open(new, "wb", closefd=False) as file:
+        if old is None:
+            file.write(data)
+        elif part is None:
+            write_all(file, iter([data]), has_holes=has_holes(old))
+        else:
+            with builtins.open(old, "rb", closefd=False) as pack:
+                write_all(file, spliced(pack, part.at, data), has_holes=has_holes(old))
 
 
 def _expect_there(place: str, old: Stamp | None, known: Stamp | None) -> None:

@@ -3,13 +3,15 @@
 from __future__ import annotations
 
 import ctypes
+import io
 import os
 import threading
 from dataclasses import dataclass
 from typing import Any, Literal
 
 from ._faults import NoReport, Unsound, check
-from ._files import ImageFile, read_image
+from ._files import ImageFile, Part, read_image
+from ._packs import read_volume
 from ._library import Handle, Moment, Sizes, function, room, seconds, word
 from ._paths import VolumePath
 
@@ -122,7 +124,8 @@ class Volume:
 
         A new file is written beside it, and then takes its name. So whatever happens, that name has the old bytes or
         the new ones. The permissions stay, and owner and group too, if the system allows it. The file is locked
-        meanwhile; if another program has it locked for half a minute, `Locked` is raised.
+        meanwhile; if another program has it locked for half a minute, `Locked` is raised. A volume that was opened in a
+        pack is saved in its place there, and alone under another name. A file with holes keeps them.
 
         A file that the volume was read from, or saved in before, must be as it was then: if another program has changed
         it since, `Changed` is raised, and nothing is written. `save` under another name then keeps both."""
@@ -169,17 +172,20 @@ class Volume:
         return into.raw
 
 
-def open(source: Source, edition: int, *, lock: bool = False) -> Volume:
+def open(source: Source, edition: int, *, at: int | None = None, lock: bool = False) -> Volume:
     """Opens the volume in a file, or in bytes. It must be sound, else `Unsound` is raised.
+
+    With `at` the file is a disk pack, and the volume begins at that block of 512 bytes: only the volume is read, and
+    `save` keeps every other byte of the pack. A file that ends before that block is a `ValueError`.
 
     With `lock` the file, a regular one, stays locked until the volume is closed, also while it is saved: commands of the
     program that change it, and other volumes here, wait until then, for half a minute. Without it `save` locks the file,
-    and looks then if it has changed."""
+    and looks then if it has changed. One lock serves all volumes of a pack."""
     if not isinstance(source, (str, os.PathLike)):
         if lock:
             raise ValueError("bytes can't be locked, only a file")
-        return Volume(_opened(bytes(source), edition))
-    data, file = read_image(os.path.abspath(source), lock)
+        return Volume(_opened(_data(source, edition, at), edition))
+    data, file = read_image(os.path.abspath(source), lock, _part(at, edition))
     try:
         return Volume(_opened(data, edition), file)
     except BaseException:
@@ -206,9 +212,10 @@ def mkfs(edition: int, blocks: int, list_blocks: int, *, uid: int = 0, gid: int 
     return Volume(handle, now=now)
 
 
-def judge(source: Source, edition: int) -> int | None:
-    """Returns the least of the twelve rules that a file or bytes break, or None for a sound volume."""
-    data = _data(source)
+def judge(source: Source, edition: int, *, at: int | None = None) -> int | None:
+    """Returns the least of the twelve rules that a file or bytes break, or None for a sound volume. `at` is its block in
+    a pack, as for `open`."""
+    data = _data(source, edition, at)
     try:
         check(function("judge")(word(edition, 8, "edition"), data, len(data)))
     except Unsound as fault:
@@ -216,19 +223,21 @@ def judge(source: Source, edition: int) -> int | None:
     return None
 
 
-def explain(source: Source, edition: int) -> str:
-    """Returns what is found of each of the twelve rules in a file or bytes, a line for each."""
-    data, into, count = _data(source), room(4096), ctypes.c_size_t()
+def explain(source: Source, edition: int, *, at: int | None = None) -> str:
+    """Returns what is found of each of the twelve rules in a file or bytes, a line for each. `at` is the volume's block
+    in a pack, as for `open`."""
+    data, into, count = _data(source, edition, at), room(4096), ctypes.c_size_t()
     check(function("explain")(word(edition, 8, "edition"), data, len(data), into, len(into), count))
     return os.fsdecode(into.raw[: count.value])
 
 
-def salvage(source: Source, edition: int) -> bytes:
-    """Returns the image in a file or bytes with its free list made anew.
+def salvage(source: Source, edition: int, *, at: int | None = None) -> bytes:
+    """Returns the image in a file or bytes with its free list made anew. `at` is the volume's block in a pack, as for
+    `open`; the image is that of the volume alone.
 
     It is sound then, and all files and directories are as they were. If anything else is wrong with it, `Unsound` is
     raised."""
-    data = bytearray(_data(source))
+    data = bytearray(_data(source, edition, at))
     view = (ctypes.c_char * len(data)).from_buffer(data)
     check(function("salvage")(word(edition, 8, "edition"), view, len(data)))
     return bytes(data)
@@ -240,7 +249,13 @@ def _opened(data: bytes, edition: int) -> Handle:
     return handle
 
 
-def _data(source: Source) -> bytes:
+def _part(at: int | None, edition: int) -> Part | None:
+    return None if at is None else Part(word(at, 32, "at"), edition)
+
+
+def _data(source: Source, edition: int, at: int | None) -> bytes:
+    part = _part(at, edition)
     if isinstance(source, (str, os.PathLike)):
-        return read_image(os.path.abspath(source))[0]
-    return bytes(source)
+        return read_image(os.path.abspath(source), part=part)[0]
+    data = bytes(source)
+    return data if part is None else read_volume(io.BytesIO(data), *part)

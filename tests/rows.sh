@@ -2,7 +2,8 @@
 # a folder of the test's own: `program` is the program, `samples` the folder of the samples.
 set -uo pipefail
 : "${1:?usage: $0 PROGRAM}"
-program=$(realpath "$1")
+program=$(realpath -m "$1")
+[ -x "$program" ] || { echo "$0: there is no program $1" >&2; exit 2; }
 unset UNIXVOL_EXPLAIN
 rows_script=$(realpath "$0")
 samples=$(realpath "$(dirname "${BASH_SOURCE[0]}")/../samples")

@@ -107,7 +107,7 @@ ringed rings 40755 1082201088 1 8 00000b00
 printf '%d 0 1\n' {1..8} > lines
 (ulimit -t 6; runs dcheck 7 rings 1)
 wants 'dcheck of directories in a ring, without entries' 1 lines none
-(ulimit -t 6; runs ncheck 7 rings 1)
+(ulimit -t 6; in_memory 300000 runs ncheck 7 rings 1)
 wants 'ncheck of directories in a ring, without entries' 0 none none
 
 # A root of 16,522 blocks that are one block: the lines of 298,304 names are kept, but not their JSON.
@@ -207,6 +207,15 @@ for length in 10239 1025 1024 512 1 0; do
     head -c "$length" new.6 > "cut at $length"
     for command in icheck dcheck ncheck; do finds 1 "$command" "cut at $length" 'rule 1'; done
 done
+
+# The bytes of files take no memory, even if they would read as entries. Here are 15 files of the sixth edition with 16 MB each, all of whose logical and indirect
+# blocks are block 11, with the word 11 again and again.
+"$program" mkfs 6 files 12 1 0 0 1
+repeated 15 'A491010000FFFFFF 0B000B000B000B00 0B000B000B000B00 0000000000000000' > inodes
+put files 1056 "$(cat inodes)"
+put files 5632 "$(repeated 256 0B00)"
+(in_memory 300000 runs_within 20 ncheck 6 files 1)
+wants 'ncheck of files that would read as entries' 0 none none
 
 # The steps of a sweep and the queries of a view take no lock. Proofs don't see one that is only tried a limited number of times, so the sources are searched.
 crates=${samples%/*}/crates

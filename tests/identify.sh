@@ -126,6 +126,7 @@ echo 'longer.img: looks like a volume of edition 6, with 8 blocks, sound' > line
 (in_memory 100000 runs identify longer.img)
 wants 'a file of 3 GB that begins with a volume' 0 line none
 mkfifo fifo
+: > output
 timeout 60 "$program" identify six.img fifo > output 2> error &
 for _ in $(seq 300); do
     [ ! -s output ] || break

@@ -1,1 +1,4 @@
+pub mod PackScans
 pub mod Searches
+pub mod SoundFronts
+pub mod FoundVolumes

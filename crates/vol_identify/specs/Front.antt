@@ -1,5 +1,6 @@
 -- The front of a volume: the boot block, the super-block and the first block of the i-list.
 use Rattle.std.specs.Prelude.{ℕ, ◌+◌, ◌-◌, ◌*◌, Bool, true, false, ◌&&◌, ◌||◌, ◌==◌, nat_le, nat_lt, max, if◌then◌else◌, List, [], ◌∷◌, length, slice_range, Option, None, Some}
+use Rattle.std.specs.Option.{option_or}
 use Rattle.pdp_words.specs.Words.{word}
 use Rattle.vol_layout.specs.Edition.{constants, number}
 use Rattle.vol_layout.specs.Geometry.{block_count, geometry_of, in_zone, is_bounded}
@@ -63,6 +64,15 @@ volume_of edition front = record { edition = edition; blocks = block_count editi
 unfoldable pub begun : List ℕ → Option FoundVolume
 begun front =
     if begins V6 front then Some (volume_of V6 front) else if begins V7 front then Some (volume_of V7 front) else None
+
+-- the volume of this edition that begins with this front, if a test says that one does, and if it has at most `room` blocks (this project)
+abbrev pub within : (Edition → List ℕ → Bool) → Edition → List ℕ → ℕ → Option FoundVolume
+within test edition front room =
+    if test edition front && nat_le (block_count edition front) room then Some (volume_of edition front) else None
+
+-- the volume of either edition, the sixth tried first (this project)
+abbrev pub within_either : (Edition → List ℕ → Bool) → List ℕ → ℕ → Option FoundVolume
+within_either test front room = option_or (within test V6 front room) (within test V7 front room)
 
 -- the number of blocks of the volume of this edition that may begin with this front; 0 if none may (this project)
 unfoldable pub blocks_if : Edition → List ℕ → ℕ

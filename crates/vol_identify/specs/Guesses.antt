@@ -4,7 +4,7 @@ use Rattle.std.specs.Option.{option_or, unwrap_or}
 use Rattle.ustar.specs.Read.{is_zeros}
 use Rattle.vol_layout.specs.declared.edition.Edition.TheVariants.{V6, V7}
 use Rattle.vol_judge.specs.Sound.{IsJudged}
-use Rattle.vol_identify.specs.Front.{begun, front_at, is_volume, swab, volume_of}
+use Rattle.vol_identify.specs.Front.{begins, begun, front_at, is_volume, swab, volume_of, within_either}
 use Rattle.vol_identify.specs.Magic.{is_ext2, is_tar, packing_of}
 use Rattle.vol_identify.specs.declared.front.FoundVolume.{FoundVolume}
 use Rattle.vol_identify.specs.declared.guess.Guess.{Guess}
@@ -58,9 +58,13 @@ by_front image =
     unwrap_or (option_or (whole image) (option_or (swapped image) (if is_ext2 image then Some Ext2 else
     option_or (cut_off image) (inside image)))) Unknown
 
--- what an image seems to be: by its first bytes, else by super-blocks, if it has three blocks (this project)
+-- a whole volume whose sizes, head of the free list and root are those of one, whatever its boot block has (this project)
+unfoldable pub begun_whole : List ℕ → Option Guess
+begun_whole image = if nat_lt (length image) 1536 then None else option_map Volume (within_either begins image (length image / 512))
+
+-- what an image seems to be: a volume that begins it; else by its first bytes, else by super-blocks, if it has three blocks (this project)
 unfoldable pub guess_of : List ℕ → Guess
-guess_of image = unwrap_or (by_magic image) (if nat_lt (length image) 1536 then Unknown else by_front image)
+guess_of image = unwrap_or (option_or (begun_whole image) (by_magic image)) (if nat_lt (length image) 1536 then Unknown else by_front image)
 
 -- a whole volume is judged; of all else nothing is said (this project)
 abbrev pub IsJudgedSo : List ℕ → Guess → Option ℕ → Type 0

@@ -4,4 +4,6 @@ pub use Rattle.vol_layout.specs.Geometry
 pub mod Magic
 pub mod Front
 pub mod Guesses
+pub mod Packs
+pub mod Laws
 pub mod Texts

@@ -1,7 +1,7 @@
 //! The front of a volume: the boot block, the super-block and the first block of the i-list.
 ghost use Rattle.std.specs.Prelude.{◌≡◌, ◌+◌, ◌*◌, ◌≤◌, ◌++◌, length, vec_len, IfOk, OnOk};
 ghost use Rattle.vol_layout.specs.Geometry.{is_bounded};
-ghost use Rattle.vol_identify.specs.Front.{blocks_if, blocks_wanted, front_at, begins, begun, is_volume, may_begin, has_free_head, has_root, swab, volume_of};
+ghost use Rattle.vol_identify.specs.Front.{blocks_if, blocks_wanted, front_at, begins, begun, is_volume, may_begin, has_free_head, has_root, swab, volume_of, within_either};
 
 use pdp_words::{BLOCK, Image};
 use std::alloc::{AllocError, Global};
@@ -32,6 +32,38 @@ pub(crate) fn begun(front: &Image) -> Option<FoundVolume>
     } else {
         None
     }
+}
+
+/// Returns the volume of at most `room` blocks that begins with this front, by its super-block and its root.
+pub(crate) fn begun_within(front: &Image, room: usize) -> Option<FoundVolume>
+    requires { 1536 ≤ length front.now }
+    ensures { result ≡ within_either begins front.now room }
+{
+    let six = volume_of(Edition::V6, front);
+    if begins(Edition::V6, front) && six.blocks as usize <= room {
+        return Some(six);
+    }
+    let seven = volume_of(Edition::V7, front);
+    if begins(Edition::V7, front) && seven.blocks as usize <= room {
+        return Some(seven);
+    }
+    None
+}
+
+/// Returns the volume of at most `room` blocks that may begin with this front, by its super-block.
+pub(crate) fn may_be_within(front: &Image, room: usize) -> Option<FoundVolume>
+    requires { 1536 ≤ length front.now }
+    ensures { result ≡ within_either may_begin front.now room }
+{
+    let six = volume_of(Edition::V6, front);
+    if may_begin(Edition::V6, front) && six.blocks as usize <= room {
+        return Some(six);
+    }
+    let seven = volume_of(Edition::V7, front);
+    if may_begin(Edition::V7, front) && seven.blocks as usize <= room {
+        return Some(seven);
+    }
+    None
 }
 
 /// Returns the volume of this edition that a super-block describes.

@@ -1,8 +1,10 @@
 //! The guess, and what the rules say of a volume.
 ghost use Rattle.std.specs.Prelude.{◌≡◌, ◌+◌, ◌*◌, ◌≤◌, length, IfOk};
-ghost use Rattle.vol_identify.specs.Guesses.{IsJudgedSo, is_open, by_front, by_magic, cut_off, fits_in, guess_of, inside, inside_at, swapped, whole};
+ghost use Rattle.vol_identify.specs.Guesses.{IsJudgedSo, begun_whole, is_open, by_front, by_magic, cut_off, fits_in, guess_of, inside, inside_at, swapped, whole};
 
-use crate::front::{FRONT, FoundVolume, begun, front_at, is_volume, swapped_front, volume_of};
+use crate::front::{
+    FRONT, FoundVolume, begun, begun_within, front_at, is_volume, swapped_front, volume_of,
+};
 use crate::magic::{Packing, is_ext2, is_tar, packing_of};
 use pdp_words::{BLOCK, Image};
 use std::alloc::{AllocError, Global};
@@ -67,11 +69,14 @@ pub fn identify(alloc: Global, image: &Image) -> Result<Identified, AllocError>
     Ok(Identified { guess, broken })
 }
 
-/// Guesses what an image is: by its first bytes, and otherwise as a volume. Judges no volume.
+/// Guesses what an image is: a volume that begins it; otherwise by its first bytes, or by super-blocks. Judges no volume.
 #[tactic(auto, unfolding(crate::specs::Guesses::guess_of))]
 pub fn guess_image(alloc: Global, image: &Image) -> Result<Guess, AllocError>
     ensures { IfOk result (λ guess. guess ≡ guess_of image.now) }
 {
+    if let Some(guess) = begun_whole(image) {
+        return Ok(guess);
+    }
     if let Some(guess) = by_magic(image) {
         return Ok(guess);
     }
@@ -79,6 +84,20 @@ pub fn guess_image(alloc: Global, image: &Image) -> Result<Guess, AllocError>
         return Ok(Guess::Unknown);
     }
     by_front(alloc, image)
+}
+
+/// Guesses a whole volume whose sizes, head of the free list and root are those of one.
+#[tactic(auto, unfolding(crate::specs::Guesses::begun_whole))]
+fn begun_whole(image: &Image) -> Option<Guess>
+    ensures { result ≡ begun_whole image.now }
+{
+    if image.len() < FRONT {
+        return None;
+    }
+    match begun_within(image, image.len() / BLOCK) {
+        Some(volume) => Some(Guess::Volume(volume)),
+        None => None,
+    }
 }
 
 /// Guesses by the first bytes.

@@ -3,9 +3,13 @@
 
 mod front;
 mod guess;
+mod laws;
 mod magic;
+mod pack_scan;
 mod texts;
 
 pub use front::{FoundVolume, blocks_wanted};
 pub use guess::{Guess, Identified, guess_image, identify};
+pub use laws::{sound_volumes_are_found, sound_volumes_are_guessed};
 pub use magic::{Packing, packing_of};
+pub use pack_scan::{Part, ScanFault, scan_pack};

@@ -6,4 +6,5 @@ pub mod Front
 pub mod Guesses
 pub mod Packs
 pub mod Laws
+pub mod PackTexts
 pub mod Texts

@@ -1,5 +1,6 @@
 -- The parts of a pack: its volumes, and what is between them.
 use Rattle.std.specs.Prelude.{◌≡◌, ◌⊎◌, ℕ, zero, suc, ◌+◌, ◌-◌, ◌*◌, ◌≤◌, Bool, true, ◌&&◌, ◌==◌, nat_lt, max, min, ◌<◌, ◌/◌, IfSome, if◌then◌else◌, List, [], ◌∷◌, ◌++◌, length, drop, Option, None, Some}
+use Rattle.std.specs.Io.KnownBytes.{Consumes, IsAtEnd}
 use Rattle.std.specs.Option.{option_or}
 use Rattle.ustar.specs.Read.{is_zeros}
 use Rattle.pdp_words.specs.Words.{block_of}
@@ -54,6 +55,14 @@ unscanned = record { next = 0; zeros = true; parts = [] }
 -- the parts of a pack of `blocks` blocks: its volumes, and what is between them, in order (this project)
 unfoldable pub parts_of : ℕ → List ℕ → List Part
 parts_of blocks pack = parts_before blocks (through blocks 0 pack blocks unscanned)
+
+-- a whole pack of `blocks` blocks was read from a source, and these are its parts (this project)
+abbrev pub IsScanned : ℕ → Option (List ℕ) → Option (List ℕ) → List Part → Type 0
+IsScanned blocks old new parts = (pack : List ℕ) × Consumes old new pack × (length pack ≡ 512 * blocks) × (parts ≡ parts_of blocks pack)
+
+-- the source ended before a pack of `blocks` blocks did (this project)
+abbrev pub IsCutShort : ℕ → Option (List ℕ) → Option (List ℕ) → Type 0
+IsCutShort blocks old new = (read : List ℕ) × Consumes old new read × IsAtEnd new × (length read < 512 * blocks)
 
 -- what the program has found (this project)
 abbrev pub found_of : Found → Scanned

@@ -6,6 +6,7 @@ mod guess;
 mod laws;
 mod magic;
 mod pack_scan;
+mod pack_texts;
 mod texts;
 
 pub use front::{FoundVolume, blocks_wanted};
@@ -13,3 +14,4 @@ pub use guess::{Guess, Identified, guess_image, identify};
 pub use laws::{sound_volumes_are_found, sound_volumes_are_guessed};
 pub use magic::{Packing, packing_of};
 pub use pack_scan::{Part, ScanFault, scan_pack};
+pub use pack_texts::{JudgedPart, is_pack, pack_lines};

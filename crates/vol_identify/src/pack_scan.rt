@@ -2,8 +2,7 @@
 ghost use Rattle.std.specs.Prelude.{false, true, IsErrOf, OnErr, ◌≡◌, ◌∷◌, [], ◌+◌, ◌*◌, ◌^◌, ◌<◌, ◌≤◌, ◌++◌, ℕ, List, Some, drop, length, IfOk};
 ghost use Rattle.pdp_words.specs.Words.{block_of};
 ghost use Rattle.vol_identify.specs.Front.{front_at};
-ghost use Rattle.vol_identify.specs.Packs.{CanLook, Fits, HasScanned, found_of, looked_at, parts_before, parts_of, ready_of, step, through, volume_at};
-ghost use Rattle.std.specs.Io.KnownBytes.{Consumes, IsAtEnd};
+ghost use Rattle.vol_identify.specs.Packs.{CanLook, Fits, HasScanned, IsCutShort, IsScanned, found_of, looked_at, parts_before, parts_of, ready_of, step, through, volume_at};
 ghost use Rattle.pdp_words.specs.Devices.{LosesFront};
 
 use crate::front::{FoundVolume, begun_within, front_at, may_be_within};
@@ -72,12 +71,11 @@ pub fn scan_pack<S: Source>(
     blocks: u32,
 ) -> Result<Vec<Part>, ScanFault>
     requires { S.failed source.old ≡ false }
-    ensures parts { IfOk result (λ parts. (pack : List ℕ) × Consumes (S.remaining source.old) (S.remaining source.new) pack
-        × (length pack ≡ 512 * blocks) × (parts.items ≡ parts_of blocks pack)) }
+    ensures parts { IfOk result (λ parts. IsScanned blocks (S.remaining source.old) (S.remaining source.new) parts.items) }
     ensures front { OnErr result (LosesFront (S.remaining source.old) (S.remaining source.new)) }
     ensures device { IsErrOf result ScanFault.Device → S.failed source.new ≡ true }
     ensures memory { IsErrOf result ScanFault.NoMemory → S.failed source.new ≡ false }
-    ensures short { IsErrOf result ScanFault.Short → IsAtEnd (S.remaining source.new) }
+    ensures short { IsErrOf result ScanFault.Short → IsCutShort blocks (S.remaining source.old) (S.remaining source.new) }
 {
     let mut scan = PackScan::new(alloc, blocks);
     let mut piece = [0; PIECE];

@@ -1,10 +1,15 @@
 pub mod Answered
 pub mod Asked
+pub mod Births
 pub mod Climbs
 pub mod ClosedFiles
 pub mod FirstValues
+pub mod FreeNodes
 pub mod Held
 pub mod Makings
+pub mod MakingPlans
+pub mod NewNodes
+pub mod NodeNumbers
 pub mod Stores
 pub mod TurnLaws
 pub mod Upwards

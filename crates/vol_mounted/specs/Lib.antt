@@ -1,4 +1,5 @@
 pub mod Errno
+pub mod Laws
 pub mod Losses
 pub mod Numbers
 pub mod Orphans

@@ -1,5 +1,5 @@
 -- The kernel's numbers of the nodes of a volume that changes.
-use Rattle.std.specs.Prelude.{ℕ, ◌+◌, ◌-◌, ◌*◌, ◌^◌, min, ◌%◌, ◌==◌, if◌then◌else◌, List, slice_get, slice_set, Option, None, Some}
+use Rattle.std.specs.Prelude.{ℕ, ◌+◌, ◌-◌, ◌*◌, ◌^◌, min, nat_lt, ◌%◌, ◌==◌, if◌then◌else◌, List, slice_get, slice_set, Option, None, Some}
 use Rattle.std.specs.Option.{option_map_or}
 use Rattle.vol_layout.specs.Edition.{constants}
 use Rattle.vol_layout.specs.Slot.{padded_name}
@@ -33,7 +33,7 @@ met nodes i directory name = with_known nodes i (λ known.
 
 -- the record of an i-number that was allocated again, for a new node, which isn't open (this project)
 abbrev pub born : KnownNode → KnownNode
-born known = record known { birth = min (2 ^ 32 - 1) (known.birth + 1); opened = 0 }
+born known = record known { birth = if nat_lt known.birth (2 ^ 32 - 1) then known.birth + 1 else known.birth; opened = 0 }
 
 -- the record after a file was opened once more (open)
 abbrev pub opened : KnownNode → KnownNode

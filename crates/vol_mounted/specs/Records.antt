@@ -23,8 +23,8 @@ use Rattle.vol_mounted.specs.declared.known.KnownNode.{KnownNode}
 -- is the root; if the node is new, its i-number was allocated again before (this project)
 abbrev pub found_by : Edition → List KnownNode → Bool → ℕ → List ℕ → Result ℕ NodeFault → List KnownNode
 found_by edition nodes is_new d name (Ok i) =
-    if is_dots name || (i == (constants edition).root) then nodes
-    else met (if is_new then with_known nodes i born else nodes) i d name
+    let counted = if is_new then with_known nodes i born else nodes in
+    if is_dots name || (i == (constants edition).root) then counted else met counted i d name
 found_by edition nodes is_new d name (Err fault) = nodes
 
 -- the records after a name was looked up in a directory, if there is such a directory (this project)

@@ -8,6 +8,7 @@ use Rattle.vol_volume.specs.declared.calls.Call.{Call}
 use Rattle.vol_import.specs.Make.{AreMade, AreStopped}
 use Rattle.vol_mounted.specs.Orphans.{KeptFile, held_by}
 use Rattle.vol_mounted.specs.Plans.{Sight}
+use Rattle.vol_mounted.specs.declared.known.KnownNode.{KnownNode}
 use Rattle.vol_mounted.specs.declared.orphan.Limits.{Limits}
 use Rattle.vol_mounted.specs.declared.owner.Owner.{Owner}
 use Rattle.vol_mounted.specs.declared.refusal.MountedRefusal.{MountedRefusal}
@@ -21,6 +22,10 @@ volume_in server = server.volume
 -- the user that all nodes are shown as, if any (this project)
 abbrev pub owner_in : MountedServer → Option Owner
 owner_in server = server.owner
+
+-- the records of the i-numbers (this project)
+abbrev pub nodes_in : MountedServer → List KnownNode
+nodes_in server = server.nodes
 
 -- the files without a name (this project)
 abbrev pub files_in : MountedServer → List KeptFile

@@ -51,12 +51,12 @@ IsMade old new now header operation =
     Made old.volume (planned old now header operation) new.volume × Remembers old new now header operation true
 
 -- the volume, the records and the files without a name are unchanged, since the plan failed for this reason or memory ran out; or some calls were made, and the next one was
--- refused with this refusal (this project)
+-- refused with this refusal: if it wasn't the first, the records are those after the operation (this project)
 abbrev pub IsUnmade : MountedServer → MountedServer → ℕ → Header → Operation → MountedRefusal → Type 0
 IsUnmade old new now header operation refusal =
     ((new.volume ≡ old.volume) × (new.nodes ≡ old.nodes) × (files_in new ≡ files_in old) × (refusal ≢ no_memory → planned old now header operation ≡ Err refusal))
     ⊎ ((calls : List Call) × (planned old now header operation ≡ Ok calls) × IsStopped old.volume calls new.volume refusal
-    × Remembers old new now header operation false)
+    × Remembers old new now header operation (nat_lt (length old.volume.journal) (length new.volume.journal)))
 
 -- an operation was answered: its calls were made, and the reply shows the tree after them; or it was refused: its calls weren't made, or there is no
 -- reply from that tree, or memory ran out for the reply (this project)

@@ -16,13 +16,13 @@ use vol_serve::errno::RequestRefusal;
 use vol_serve::memory::Room;
 
 impl MountedServer {
-    ghost use Rattle.std.specs.Prelude.{◌≡◌, ◌≢◌, ◌<◌, ◌≤◌, ◌+◌, ℕ, List, length, IsSome, Some, None, Ok, Err, if◌then◌else◌, IfOk, OnOk, IfErr};
+    ghost use Rattle.std.specs.Prelude.{◌≡◌, ◌≢◌, ◌<◌, ◌≤◌, ◌+◌, ℕ, List, length, nat_lt, IsSome, Some, None, Ok, Err, if◌then◌else◌, IfOk, OnOk, IfErr};
     ghost use Rattle.fuse_words.specs.Requests.{request_of};
     ghost use Rattle.vol_serve.specs.Messages.{Grows};
     ghost use Rattle.vol_mounted.specs.Losses.{loss_size, lost_node, lost_file, kept_after, node_of, file_of};
     ghost use Rattle.std.specs.Vec.{vec_capacity};
     ghost use Rattle.vol_layout.specs.Geometry.{geometry_of};
-    ghost use Rattle.vol_mounted.specs.Records.{after_loss};
+    ghost use Rattle.vol_mounted.specs.Records.{after_loss, settled};
     ghost use Rattle.vol_mounted.specs.Refusals.{Puts, no_memory};
     ghost use Rattle.vol_mounted.specs.Replies.{reply_of};
     ghost use Rattle.vol_mounted.specs.Servers.{sight_at, files_in, held_in, spare_in, Kept};
@@ -158,6 +158,7 @@ impl MountedServer {
     {
         let (calls, loss) = self.plan(alloc, now, header, operation)?;
         self.orphans.reserve(loss.is_some())?;
+        let count = self.volume.journal().len();
         match self.make(alloc, calls) {
             Ok(()) => {
                 self.nodes.settle(&self.volume, header, operation);
@@ -165,6 +166,8 @@ impl MountedServer {
                 Ok(())
             }
             Err(refusal) => {
+                // A new node has a new number, even if it couldn't be given to its owner.
+                self.settle_if_grown(count, header, operation);
                 self.lose(loss);
                 Err(refusal)
             }
@@ -189,6 +192,22 @@ impl MountedServer {
         let calls = scene.plan(header, operation)?;
         let loss = scene.loss(header, operation, self.spare())?;
         Ok((calls, loss))
+    }
+
+    /// Records the effect of an operation on the nodes that the kernel knows, if the journal has more than `count` records.
+    fn settle_if_grown(&mut self, count: usize, header: &Header, operation: &Operation<'_>)
+        ensures volume { self.new.volume ≡ self.old.volume }
+        ensures orphans { self.new.orphans ≡ self.old.orphans }
+        ensures owner { self.new.owner ≡ self.old.owner }
+        ensures is_changed { self.new.is_changed ≡ self.old.is_changed }
+        ensures weight { self.new.weight ≡ self.old.weight }
+        ensures nodes { self.new.nodes ≡ (if nat_lt count (length self.old.volume.journal)
+            then settled (geometry_of self.old.volume.edition self.old.volume.image) self.old.volume.image self.old.nodes header.now operation.now
+            else self.old.nodes) }
+    {
+        if count < self.volume.journal().len() {
+            self.nodes.settle(&self.volume, header, operation);
+        }
     }
 
     /// Records that a file lost a name, if one did.

@@ -7,6 +7,7 @@ mod attribute_plan;
 pub mod calls;
 pub mod host;
 pub mod known;
+pub mod laws;
 mod loss;
 mod orphan;
 mod orphan_answer;

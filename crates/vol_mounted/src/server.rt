@@ -38,7 +38,7 @@ impl MountedServer {
     ghost use Rattle.vol_mounted.specs.Turns.{IsSaved, IsCut};
     ghost use Rattle.vol_import.specs.Make.{AreMade};
     ghost use Rattle.vol_mounted.specs.Scenes.{sight_of};
-    ghost use Rattle.vol_mounted.specs.Servers.{volume_in, owner_in, spare_in, sight_at, IsStopped, IsNoted};
+    ghost use Rattle.vol_mounted.specs.Servers.{volume_in, owner_in, nodes_in, spare_in, sight_at, IsStopped, IsNoted};
 
     /// Returns a server of a volume. With an owner, all nodes are shown as the owner's, and new ones belong to user 0. Takes two MiB.
     pub fn new(
@@ -48,6 +48,7 @@ impl MountedServer {
     ) -> Result<MountedServer, AllocError>
         ensures volume { IfOk result (λ server. volume_in server ≡ volume) }
         ensures owner { IfOk result (λ server. owner_in server ≡ owner) }
+        ensures records { IfOk result (λ server. length (nodes_in server) ≡ 65536) }
     {
         Ok(MountedServer {
             volume,

@@ -77,11 +77,11 @@ impl NodeTable {
         let Ok(i) = look_up(image, geometry, dir, name) else {
             return;
         };
-        if is_dots(name) || i == geometry.edition.constants().root {
-            return;
-        }
         if is_new {
             self.bear(i);
+        }
+        if is_dots(name) || i == geometry.edition.constants().root {
+            return;
         }
         self.meet(i, dir, name);
     }

@@ -32,7 +32,9 @@ impl NodeTable {
     ghost use Rattle.vol_mounted.specs.Paths.{climb};
 
     /// Returns a table of nodes that have not been found yet.
-    pub(crate) fn new(alloc: Global) -> Result<NodeTable, AllocError> {
+    pub(crate) fn new(alloc: Global) -> Result<NodeTable, AllocError>
+        ensures { IfOk result (λ table. length table ≡ 65536) }
+    {
         let nodes = vec![in alloc; KnownNode::UNMET; NODES]?;
         Ok(NodeTable { nodes })
     }
@@ -97,7 +99,9 @@ impl NodeTable {
         ensures { self.new ≡ with_known self.old i born }
     {
         if let Some(known) = self.nodes.get_mut(usize::from(i)) {
-            known.birth = known.birth.saturating_add(1);
+            if known.birth < u32::MAX {
+                known.birth += 1;
+            }
             known.opened = 0;
         }
     }

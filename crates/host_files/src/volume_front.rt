@@ -32,8 +32,8 @@ pub enum FrontFault {
     Endless,
 }
 
-/// The greatest number of bytes in one read.
-pub(crate) const PIECE: usize = 64 * 1024;
+/// The greatest number of bytes in one read. The piece lies on the stack, which may be small.
+pub(crate) const PIECE: usize = 16 * 1024;
 
 /// The number of bytes up to the end of the super-block.
 const HEAD: usize = 1024;

@@ -1,25 +1,16 @@
 -- A volume in a pack: read, and written in its place.
 use Rattle.std.proofs.Common.{◌≡◌, ◌∙◌, ◌+◌, ◌≤◌, ◌++◌, ℕ, true, false, List, [], length, take, drop, Option, None, Some, inl, inr, refl, sym, ap, subst, length-append, length-drop, arith}
-use Rattle.std.proofs.Math.ListN.{drop_of_length-le}
 use Rattle.std.proofs.Math.Seq.{drop-append-add, take-append_seam}
-use Rattle.std.proofs.lemmas.Bool.{cases_lt}
-use Rattle.std.proofs.lemmas.List.{append-nil, drop_at, drop-drop, length-take-le}
+use Rattle.std.proofs.lemmas.List.{drop_at, drop-drop, length-take-le}
 use Rattle.std.proofs.KnownBytes.{Appends-trans, Consumes-trans}
 use Rattle.std.specs.Io.KnownBytes.{Appends}
-use Rattle.host_files.specs.Packs.{IsCopied, IsMisfit, IsMovedTo, IsReadFrom, IsSpliced, spliced}
+use Rattle.host_files.specs.Packs.{IsCopied, IsMisfit, IsMovedTo, IsReadFrom, IsShorter, IsSpliced, spliced}
 use Rattle.host_files.specs.ReadParts.{IsReadUpTo, IsSkipped}
 use Rattle.host_files.specs.declared.volume_front.UpTo.{UpTo}
 
--- if the first bytes of a pack were dropped, all of them if it has fewer, what is left is the rest of the pack
+-- if the first bytes of a pack were dropped, what is left is the rest of the pack
 left_after : (at : ℕ) (pack rest : List ℕ) → IsMovedTo at (Some pack) (Some rest) → drop at pack ≡ rest
-left_after at pack rest (lost, front, within, end) =
-    elim (cases_lt (length lost) at) [
-      | inl short ↦
-          let none : rest ≡ [] = end short in
-          let all : pack ≡ lost = front ∙ ap (λ xs. lost ++ xs) none ∙ append-nil lost in
-          ap (drop at) all ∙ drop_of_length-le lost (omega (arith, short)) ∙ sym none
-      | inr enough ↦ ap (drop at) front ∙ drop_at lost rest at (omega (arith, within, enough))
-    ]
+left_after at pack rest (lost, front, all) = ap (drop at) front ∙ drop_at lost rest at all
 
 -- the bytes that are read from a pack at byte `at` are those that would be read from the rest of the pack, by itself
 pub read_of_rest : (at : ℕ) (up_to : UpTo) (pack : List ℕ) (new : Option (List ℕ)) (bytes : List ℕ) → IsReadFrom at up_to (Some pack) new bytes
@@ -30,12 +21,17 @@ read_of_rest at up_to pack new bytes (Some rest, moved, read) =
 
 -- a file that stays where it is was moved over no bytes
 pub stays : (count : ℕ) (known : Option (List ℕ)) → count ≡ 0 → IsMovedTo count known known
-stays count None none = ([], tt, omega (arith, none), λ less. absurd (omega (arith, none, less)))
-stays count (Some bytes) none = ([], refl, omega (arith, none), λ less. absurd (omega (arith, none, less)))
+stays count None none = ([], tt, sym none)
+stays count (Some bytes) none = ([], refl, sym none)
 
 -- a file of which so many bytes were read and dropped was moved over them
 pub skipped_to : (count : ℕ) (old new : Option (List ℕ)) → IsSkipped count old new false → IsMovedTo count old new
-skipped_to count old new (lost, front, end, on) = (lost, front, omega (arith, on refl), λ less. absurd (omega (arith, on refl, less)))
+skipped_to count old new (lost, front, end, on) = (lost, front, on refl)
+
+-- a file that ended while so many bytes were read and dropped has fewer
+pub skipped_all : (count : ℕ) (old new : Option (List ℕ)) → IsSkipped count old new true → IsShorter count old
+skipped_all count old new (lost, front, end, on) =
+    let ended = end refl in (lost, new, front, ended.0, ended.1)
 
 -- a pack with a volume in its place is as long as before
 pub spliced_length : (at : ℕ) (bytes pack : List ℕ) → at + length bytes ≤ length pack → length (spliced at bytes pack) ≡ length pack

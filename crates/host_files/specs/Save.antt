@@ -32,6 +32,10 @@ Saves {F} contents content = (old : F) × (new : F) × Grows content (contents o
 abbrev pub IsTaken : {F : Type 0} → (F → Option (List ℕ)) → List ℕ → Type 0
 IsTaken {F} contents bytes = (old : F) × (new : F) × Appends (contents old) (contents new) bytes
 
+-- the system reported a stamp for an open file, and not that of a regular file (this project)
+abbrev pub IsIrregular : {F : Type 0} → (F → Stamp → Type 0) → F → Type 0
+IsIrregular had file = (stamp : Stamp) × had file stamp × (stamp.kind ≢ kinds.Regular)
+
 -- a file that the system said isn't regular was open, and these bytes were written to some file (this project)
 abbrev pub IsInPlace : {F : Type 0} → (F → Option (List ℕ)) → (F → Stamp → Type 0) → List ℕ → Type 0
 IsInPlace {F} contents had bytes = (opened : F) × (stamp : Stamp) × had opened stamp × (stamp.kind ≢ kinds.Regular) × IsTaken contents bytes

@@ -3,7 +3,7 @@ ghost use Rattle.std.specs.Prelude.{◌≡◌, false};
 ghost use Rattle.std.specs.Option.{is_some};
 
 use crate::holes::{HoleSink, SinkFailed};
-use crate::image_file::ImageFiles;
+use crate::system::ImageFiles;
 use pdp_words::{Sink, write_uninterrupted};
 use std::io;
 

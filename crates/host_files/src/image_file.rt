@@ -1,12 +1,10 @@
 //! The file of an image to change: its kind, its lock, and whether it has changed since it was read.
-ghost use Rattle.std.specs.Prelude.{◌≡◌, ◌≢◌, ◌↔◌, ◌==◌, ◌&&◌, ℕ, List, Bool, true, false, replicate, IfErr, IfOk, IfSome, OnOk};
-ghost use Rattle.std.specs.Io.KnownBytes.{Appends};
+ghost use Rattle.std.specs.Prelude.{◌≡◌, ◌↔◌, ◌==◌, ◌&&◌, IfOk, IfSome};
 ghost use Rattle.std.specs.Fs.{IsDir, IsFile, file_type, metadata_len};
-ghost use Rattle.host_files.specs.declared.image_file.Stamp.{Stamp};
 ghost use Rattle.host_files.specs.OpenedFiles.{IsOpenTo, OpensTo};
-ghost use Rattle.host_files.specs.Packs.{IsMovedTo};
 
-use std::fs::{self, File, Files, Metadata, OpenFile, TryLockError};
+use crate::system::ImageFiles;
+use std::fs::{self, File, Metadata, OpenFile, TryLockError};
 use std::io::{self, IsTerminal, Seek, SeekFrom};
 use std::os::unix::fs::{FileTypeExt, MetadataExt, fchown};
 use std::rt::Clock;
@@ -97,54 +95,14 @@ impl Stamp {
     }
 }
 
-/// The system's functions for the file of an image.
-pub trait ImageFiles: Files {
-    /// The system reported this stamp for an open file.
-    ghost had: { Self.File → Stamp → Type 0 };
-
-    /// The system reported this stamp for the file at a path.
-    ghost stood: { Stamp → Type 0 };
-
-    /// The system reported whether something exists at a path.
-    ghost stands: { List ℕ → Bool → Type 0 };
-
-    /// Returns the present stamp of an open file; a terminal is a stream.
-    fn stamp_of(&self, file: &Self::File) -> io::Result<Stamp>
-        ensures { IfOk result (had file.now) };
-
-    /// Returns the present stamp of the file at `path`. Symbolic links are followed; a terminal counts as a device.
-    fn stamp_at(&self, path: &str) -> io::Result<Stamp>
-        ensures { IfOk result stood };
-
-    /// Returns the stamp of the name `path` itself: symbolic links aren't followed, and count as streams.
-    fn stamp_of_name(&self, path: &str) -> io::Result<Stamp>;
-
-    /// True if something exists at `path`, even a symbolic link that leads nowhere. A path that can't be examined counts as existing.
-    fn is_there(&self, path: &str) -> bool
-        ensures { stands path.now result };
-
-    /// Changes the user, the group or both of an open file. True if the system allowed it.
-    fn give(&self, file: &Self::File, user: Option<u32>, group: Option<u32>) -> bool;
-
-    /// Locks an open file for this program alone, until all its handles are closed. False if another program has it locked; true also if the file's
-    /// system has no locks.
-    fn try_lock(&self, file: &Self::File) -> bool;
-
-    /// Moves over the next `count` bytes of an open file, without reading or writing them. If it has fewer, it has none left.
-    fn pass_over(&self, file: &mut Self::File, count: u64) -> io::Result<()>
-        ensures { OnOk result (IsMovedTo count (Self.File.remaining file.old) (Self.File.remaining file.new)) };
-
-    /// Appends `count` zeros to an open file that ends where it is written, as a hole if its system has holes.
-    fn append_hole(&self, file: &mut Self::File, count: u64) -> io::Result<()>
-        ensures { OnOk result (Appends (Self.File.contents file.old) (Self.File.contents file.new) (replicate count 0)) };
-}
-
 impl ImageFiles for HostRuntime {
     ghost had = { λ _ _. Unit {0} };
 
     ghost stood = { λ _. Unit {0} };
 
     ghost stands = { λ _ _. Unit {0} };
+
+    ghost refused = { λ _ _ _. Unit {0} };
 
     fn stamp_of(&self, file: &File) -> io::Result<Stamp> {
         let stamp = Stamp::of(&file.metadata()?);

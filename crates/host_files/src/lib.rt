@@ -9,12 +9,11 @@ mod marks;
 mod noted;
 mod pack;
 mod saved_files;
+mod system;
 mod volume_front;
 
 pub use holes::{HoleSink, SinkFailed, write_with_holes};
-pub use image_file::{
-    FileKind, ImageFiles, OpenFault, Stamp, expect_image, open_image, open_stamped,
-};
+pub use image_file::{FileKind, OpenFault, Stamp, expect_image, open_image, open_stamped};
 pub use marks::{Marks, modified_in, permissions_of};
 pub use noted::{Noted, noted_reader, noted_writer};
 pub use pack::{MoveFault, SpliceFault, moved_to, splice};
@@ -22,4 +21,5 @@ pub use saved_files::{
     Content, HeldFile, VolumePart, is_pipe, save_apart, save_file, save_held, save_marked,
     save_volume,
 };
+pub use system::ImageFiles;
 pub use volume_front::{FrontFault, UpTo, read_on, read_up_to};

@@ -1,12 +1,13 @@
 //! A volume in a pack: the part of a file from a block on, which is read, and saved so that every other byte of the pack stays the same.
-ghost use Rattle.std.specs.Prelude.{◌≡◌, ◌+◌, ◌*◌, true, length, IfOk, IsErrOf, OnOk};
-ghost use Rattle.host_files.specs.Packs.{IsCopied, IsMisfit, IsMovedTo, IsSpliced};
+ghost use Rattle.std.specs.Prelude.{◌≡◌, ◌≢◌, ◌+◌, ◌*◌, true, length, IfErr, IfOk, IsErrAnd, IsErrOf, OnOk};
+ghost use Rattle.host_files.specs.Packs.{HasBytes, HasFailed, IsCopied, IsMisfit, IsMoveFault, IsMovedTo, IsShorter, IsSpliced};
 
 use crate::holes::{HoleSink, write_with_holes};
-use crate::image_file::{FileKind, ImageFiles, Stamp};
-use crate::noted::noted_reader;
+use crate::image_file::{FileKind, Stamp};
+use crate::noted::{Noted, noted_reader};
+use crate::system::ImageFiles;
 use crate::volume_front::{PIECE, skip};
-use pdp_words::{BLOCK, Source};
+use pdp_words::{BLOCK, FromRead, Source};
 use std::io::{self, ErrorKind, Read};
 
 /// The reason why a file wasn't moved to a block.
@@ -26,12 +27,19 @@ pub fn moved_to<R: ImageFiles>(
     stamp: Stamp,
     first: u32,
 ) -> Result<R::File, MoveFault>
-    ensures { IfOk result (λ moved. IsMovedTo (512 * first) (R.File.remaining file) (R.File.remaining moved)) }
+    requires { R.had file stamp }
+    ensures moved { IfOk result (λ moved. IsMovedTo (512 * first) (R.File.remaining file) (R.File.remaining moved)) }
+    ensures fault { IfErr result (IsMoveFault R.File.remaining R.refused ⟦<Noted<FromRead<R::File>> as Source>⟧.remaining
+        ⟦<Noted<FromRead<R::File>> as Source>⟧.failed stamp file (512 * first)) }
 {
     let bytes = BLOCK as u64 * u64::from(first);
     match stamp.kind {
         FileKind::Regular if stamp.size < bytes => Err(MoveFault::Short),
-        FileKind::Regular | FileKind::Device => match passed_over(rt, file, bytes) {
+        FileKind::Regular => match passed_over(rt, file, bytes) {
+            Ok(moved) => Ok(moved),
+            Err(why) => Err(MoveFault::Unread(why)),
+        },
+        FileKind::Device => match passed_over(rt, file, bytes) {
             Ok(moved) => Ok(moved),
             // A device that ends before has no such place.
             Err(why) if why.kind() == ErrorKind::InvalidInput => Err(MoveFault::Short),
@@ -41,13 +49,16 @@ pub fn moved_to<R: ImageFiles>(
     }
 }
 
-/// Moves over bytes of an open file without reading or writing them, and returns it. A file that can't be moved serves too, if there are none.
+/// Moves over bytes of an open file without reading or writing them, and returns it. A regular file must have them. A file that can't be moved serves
+/// too, if there are none.
 pub(crate) fn passed_over<R: ImageFiles>(
     rt: &R,
     mut file: R::File,
     bytes: u64,
 ) -> io::Result<R::File>
-    ensures { IfOk result (λ moved. IsMovedTo bytes (R.File.remaining file) (R.File.remaining moved)) }
+    requires { HasBytes R.had file bytes }
+    ensures moved { IfOk result (λ moved. IsMovedTo bytes (R.File.remaining file) (R.File.remaining moved)) }
+    ensures fault { IfErr result (R.refused file bytes) }
 {
     if bytes > 0 {
         rt.pass_over(&mut file, bytes)?;
@@ -57,7 +68,10 @@ pub(crate) fn passed_over<R: ImageFiles>(
 
 /// Reads and drops the first bytes of an open file, and returns it.
 fn read_past<F: Read + Drop>(file: F, bytes: usize) -> Result<F, MoveFault>
-    ensures { IfOk result (λ moved. IsMovedTo bytes (F.remaining file) (F.remaining moved)) }
+    ensures moved { IfOk result (λ moved. IsMovedTo bytes (F.remaining file) (F.remaining moved)) }
+    ensures short { IsErrOf result MoveFault.Short → IsShorter bytes (F.remaining file) }
+    ensures unread { IsErrAnd result (λ fault. fault ≢ MoveFault.Short) → HasFailed ⟦<Noted<FromRead<F>> as Source>⟧.remaining
+        ⟦<Noted<FromRead<F>> as Source>⟧.failed (F.remaining file) }
 {
     let mut source = noted_reader(file);
     match skip(&mut source, bytes) {

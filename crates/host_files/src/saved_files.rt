@@ -2,15 +2,16 @@
 ghost use Rattle.std.specs.Prelude.{◌≡◌, ◌≢◌, ◌*◌, true, IfOk, IfSome, OnErr, OnOk};
 ghost use Rattle.std.specs.Io.KnownBytes.{Appends};
 ghost use Rattle.std.specs.Path.{path_bytes, path_buf_bytes};
-ghost use Rattle.host_files.specs.Save.{Fills, FillsPart, Grows, GrowsInPlace, Holds, IsBeside, IsPlaced, Saves, Stores};
+ghost use Rattle.host_files.specs.Save.{Fills, FillsPart, Grows, GrowsInPlace, Holds, IsBeside, IsIrregular, IsPlaced, Saves, Stores};
 ghost use Rattle.host_files.specs.declared.image_file.FileKind.TheVariants as kinds;
 
 use crate::holed_file::HoledFile;
 use crate::holes::{SinkFailed, write_with_holes};
-use crate::image_file::{FileKind, ImageFiles, Stamp, open_stamped};
+use crate::image_file::{FileKind, Stamp, open_stamped};
 use crate::marks::{Marks, give_marks};
 use crate::noted::{noted_reader, noted_writer};
 use crate::pack::{SpliceFault, passed_over, splice};
+use crate::system::ImageFiles;
 use pdp_words::{BLOCK, SaveFault, Sink, write_all};
 use std::fs::{self, Files, Metadata, OpenFile, OpenOptions, Permissions};
 use std::io::{self, ErrorKind, Write};
@@ -249,9 +250,7 @@ fn put<R: ImageFiles + AllocGlobal>(
                 replace(rt, place.as_path(), Some(&old), read, filling, marks)
             } else {
                 expect_unchanged(rt, path, read)?;
-                expect_same(stamp, rt.stamp_at(path)?)?;
-                let file = fill_in_place(rt, file, filling)?;
-                Ok(Place::Old(rt.stamp_of(&file)?))
+                put_in_place(rt, path, file, stamp, filling)
             }
         }
         Err(error) if error.kind() == ErrorKind::NotFound => {
@@ -260,6 +259,23 @@ fn put<R: ImageFiles + AllocGlobal>(
         }
         Err(error) => Err(error),
     }
+}
+
+/// Saves a filling in the open file at `path`, which isn't regular and has this stamp, if it is still there, and returns its new stamp.
+fn put_in_place<R: ImageFiles>(
+    rt: &R,
+    path: &str,
+    file: R::File,
+    stamp: Stamp,
+    filling: Filling<'_>,
+) -> io::Result<Place<R::File>>
+    requires had { R.had file stamp }
+    requires irregular { stamp.kind ≢ kinds.Regular }
+    ensures { IfOk result (IsPlaced R.File.remaining R.File.contents R.had filling.entry) }
+{
+    expect_same(stamp, rt.stamp_at(path)?)?;
+    let file = fill_in_place(rt, file, filling)?;
+    Ok(Place::Old(rt.stamp_of(&file)?))
 }
 
 /// Fails if the file at `path` doesn't have the stamp that it had when it was read.
@@ -516,6 +532,7 @@ fn without_group(mode: u32) -> u32 {
 
 /// Writes a filling into something other than a regular file, a volume in its place, and returns the file.
 fn fill_in_place<R: ImageFiles>(rt: &R, file: R::File, filling: Filling<'_>) -> io::Result<R::File>
+    requires { IsIrregular R.had file }
     ensures { IfOk result (λ filled. GrowsInPlace R.File.contents filling.entry filled) }
 {
     match filling {

@@ -229,6 +229,7 @@ fn read_part<R: ImageFiles + Eprint + AllocGlobal>(
     file: R::File,
     stamp: Stamp,
 ) -> Result<ReadFile<R::File>, u8>
+    requires { R.had file stamp }
     ensures given { IfOk result (λ read. IsReadFrom (512 * volume.entry.at) (UpTo.Volume volume.entry.edition) (R.File.remaining file) (R.File.remaining read.file) read.bytes.items) }
     ensures fault { IfErr result (IsUnread R.File.remaining) }
 {

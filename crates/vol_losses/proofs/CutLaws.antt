@@ -1,11 +1,11 @@
 -- Lemmas on images that were cut off.
 use Rattle.std.proofs.Common.{◌≡◌, ℕ, ◌+◌, ◌-◌, ◌*◌, ◌/◌, ◌<◌, ◌≤◌, ◌∙◌, sym, ap, Bool, true, false, not, nat_le, List, [], ◌++◌, length, replicate, get_or, refl, arith, inl, inr, nat_lt, cond, subst, take, drop, append_assoc}
-use Rattle.std.proofs.lemmas.Bool.{cases_lt, lt-leb, le-leb, leb-true, true≢false}
+use Rattle.std.proofs.lemmas.Bool.{cases_lt, lt-leb, le-leb, le-ltb, leb-true, true≢false}
 use Rattle.std.proofs.lemmas.List.{append-nil, get_or_append_left, take-append-drop}
 use Rattle.vol_layout.specs.Geometry.{Fits, block_count}
 use Rattle.vol_layout.specs.declared.geometry.Geometry.{Geometry}
 use Rattle.vol_losses.specs.Losses.{is_lost, AgreesOutside}
-use Rattle.vol_losses.specs.CutImages.{IsCompleted, IsCompletedIf, IsFilled}
+use Rattle.vol_losses.specs.CutImages.{IsCompleted, IsCompletedIf, IsFilled, has_size}
 use Rattle.vol_losses.proofs.LostPaths.{no_marks}
 
 -- a block that isn't lost is whole in the bytes that are left
@@ -32,6 +32,7 @@ filled_whole bytes blocks all =
       zeros = sym (ap (λ n. bytes ++ replicate n 0) none ∙ append-nil bytes);
       marks = λ k inside. let whole : 512 * k + 512 ≤ length bytes = omega arith in
           no_marks [] refl k ∙ sym (ap not (le-leb (512 * k + 512) (length bytes) whole));
+      count = sym (ap (λ (b : Bool). cond b blocks 0) (le-ltb (length bytes / 512) blocks all));
     }
 
 -- the marks of blocks of which some first ones are whole
@@ -56,7 +57,7 @@ pub completed_agrees : (geometry : Geometry) (lost : List Bool) (bytes rest imag
     → AgreesOutside geometry lost image (bytes ++ rest)
 completed_agrees geometry lost bytes rest image fits end completed =
     let blocks = block_count geometry.edition bytes in
-    elim (nat_le 1024 (length bytes)) as (λ b. IsCompletedIf b geometry.edition bytes image lost → AgreesOutside geometry lost image (bytes ++ rest)) [
+    elim (has_size geometry.edition bytes) as (λ b. IsCompletedIf b geometry.edition bytes image lost → AgreesOutside geometry lost image (bytes ++ rest)) [
       | false ↦ λ same. record {
         bytes = λ k r inside low sure.
             let at : 512 * k + r < length image = omega (arith, inside, low, fits.blocks) in

@@ -1,6 +1,6 @@
 //! Images that were cut off, with zeros up to the end of their volumes.
 ghost use Rattle.std.specs.Prelude.{◌≡◌, ◌+◌, ◌/◌, ◌≤◌, length, IfErr, IfOk};
-ghost use Rattle.vol_losses.specs.CutImages.{IsCompleted, IsFilled, IsIncomplete};
+ghost use Rattle.vol_losses.specs.CutImages.{IsCompleted, IsFilled, IsIncomplete, has_size};
 
 use pdp_words::{BLOCK, Image};
 use std::alloc::{AllocError, Global};
@@ -50,8 +50,8 @@ pub enum CutFault {
 const HEAD: usize = 1024;
 
 /// Completes the image of a volume of which only some first bytes are left, as [`filled`] does, up to the last block that its super-block states. A
-/// block that is there in part is lost: zeros take the place of all its bytes, so no entry is read that was cut in two. An image without a super-block
-/// stays as it is, with no marks.
+/// block that is there in part is lost: zeros take the place of all its bytes, so no entry is read that was cut in two. An image without a super-block,
+/// or whose super-block states more blocks than a volume can have, stays as it is, with no marks.
 ///
 /// Takes memory as [`filled`] does.
 pub fn completed(alloc: Global, edition: Edition, bytes: Vec<u8>) -> Result<CutImage, CutFault>
@@ -59,7 +59,7 @@ pub fn completed(alloc: Global, edition: Edition, bytes: Vec<u8>) -> Result<CutI
     ensures fault { IfErr result (IsIncomplete edition bytes.items) }
 {
     let image = Image::from_bytes(bytes);
-    if image.len() < HEAD {
+    if !has_size(edition, &image) {
         let lost = Vec::new(alloc);
         return Ok(CutImage { image, lost });
     }
@@ -76,4 +76,11 @@ pub fn completed(alloc: Global, edition: Edition, bytes: Vec<u8>) -> Result<CutI
         Ok(cut) => Ok(cut),
         Err(_) => Err(CutFault::NoMemory),
     }
+}
+
+/// True if an image has a super-block, which states no more blocks than a volume of the edition can have.
+fn has_size(edition: Edition, image: &Image) -> bool
+    ensures { result ≡ has_size edition image.now }
+{
+    image.len() >= HEAD && Super { edition }.block_count(image) <= edition.constants().block_limit
 }

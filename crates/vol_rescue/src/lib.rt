@@ -6,4 +6,4 @@ pub mod laws;
 pub mod lines;
 
 pub use damage::{Damage, damage_of, without_damaged};
-pub use lines::{ToldLosses, tell_losses};
+pub use lines::{ToldLosses, push_role, tell_losses};

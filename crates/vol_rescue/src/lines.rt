@@ -206,9 +206,18 @@ fn lost_line(
 fn role_line(alloc: Global, path: &[u8], role: Role) -> Result<Vec<u8>, AllocError>
     ensures { IfOk result (λ line. line.items ≡ role_line path.now role) }
 {
+    let mut line = Vec::new(alloc);
+    push_role(&mut line, path, role)?;
+    Ok(line)
+}
+
+/// Appends the line of an entry with this path and role, if it is left out.
+pub fn push_role(lines: &mut Vec<u8>, path: &[u8], role: Role) -> Result<(), AllocError>
+    ensures { OnOk result (lines.new.items ≡ lines.old.items ++ role_line path.now role) }
+{
     match role {
-        Role::Left(reason) => named_line(alloc, path, b": ", reason_text(reason)),
-        _ => Ok(Vec::new(alloc)),
+        Role::Left(reason) => push_named(lines, path, b": ", reason_text(reason)),
+        _ => Ok(()),
     }
 }
 
@@ -242,7 +251,6 @@ fn inode_text(alloc: Global, i: u16) -> Result<String, AllocError>
 }
 
 /// Returns a line about a path.
-#[tactic(auto, unfolding(crate::specs::Lines::named_line))]
 fn named_line(
     alloc: Global,
     path: &[u8],
@@ -251,10 +259,25 @@ fn named_line(
 ) -> Result<Vec<u8>, AllocError>
     ensures { IfOk result (λ line. line.items ≡ named_line path.now between.now text.now) }
 {
-    let mut line = Vec::from_slice(alloc, b"unixvol: ")?;
-    push_escaped(&mut line, path)?;
-    line.extend_from_slice(between)?;
-    line.extend_from_slice(text)?;
-    line.push(b'\n')?;
+    let mut line = Vec::new(alloc);
+    push_named(&mut line, path, between, text)?;
     Ok(line)
+}
+
+/// Appends a line about a path.
+#[tactic(auto, unfolding(crate::specs::Lines::named_line))]
+fn push_named(
+    lines: &mut Vec<u8>,
+    path: &[u8],
+    between: &[u8],
+    text: &[u8],
+) -> Result<(), AllocError>
+    ensures { OnOk result (lines.new.items ≡ lines.old.items ++ named_line path.now between.now text.now) }
+{
+    lines.extend_from_slice(b"unixvol: ")?;
+    push_escaped(lines, path)?;
+    lines.extend_from_slice(between)?;
+    lines.extend_from_slice(text)?;
+    lines.push(b'\n')?;
+    Ok(())
 }

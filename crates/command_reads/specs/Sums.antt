@@ -18,7 +18,7 @@ use Rattle.command_reads.specs.declared.looks.OutputForm.TheVariants as forms
 
 -- the options of the export that has the same entries and the same remarks (this project)
 abbrev pub as_exported : Bool → ExportOptions
-as_exported lost = record { lost = lost; graded = false }
+as_exported lost = record { lost = lost; graded = false; losses = record { cut = false; damaged = false } }
 
 -- the manifest of the entries that the walk found, in this format (sha256sum; this project)
 abbrev pub sums_in : Tree → List MetEntry → OutputForm → List ℕ

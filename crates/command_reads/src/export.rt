@@ -6,11 +6,13 @@ ghost use Rattle.command_faults.specs.Faults.{line_after};
 ghost use Rattle.command_faults.specs.Streams.{ErrorStream, Hears, streams};
 ghost use Rattle.vol_inspect.specs.Lost.{IsInList};
 ghost use Rattle.command_reads.specs.Remarks.{AreOutOfReach};
-ghost use Rattle.command_reads.specs.Export.{AreFound, begun, Exports, ExportsTo, ExportsBelow, WritesBelow, told_status, unstarted, unstarted_status, unwritten};
+ghost use Rattle.command_reads.specs.Losses.{IsUnreadEnding};
+ghost use Rattle.command_reads.specs.Export.{AreFound, begun, Exports, ExportsFrom, ExportsTo, ExportsBelow, WritesBelow, told_status, unstarted, unstarted_status, unwritten};
 
 use crate::faults::unmeasured;
 use crate::looks::ExportOptions;
-use crate::remarks::{Remarks, tell_all};
+use crate::losses::{is_graded, read_as, remarks_on, short_fault};
+use crate::remarks::Remarks;
 use crate::statuses::{NO_VOLUME, SHORT};
 use command_faults::status::{DONE, REFUSED};
 use command_faults::{Ending, Fault};
@@ -24,6 +26,8 @@ use vol_dir::Refusal;
 use vol_inspect::lost_inodes;
 use vol_layout::{Edition, Geometry};
 use vol_listing::Screen;
+use vol_losses::{CutFault, CutImage};
+use vol_rescue::without_damaged;
 
 /// Writes an archive of everything below the directory at a path. As an option, the archive also has the i-nodes that no entry names and those that are
 /// out of reach, as in a ring of directories, with everything below them, under `lost+found`; then the path may lead to a root that is no directory,
@@ -32,6 +36,10 @@ use vol_listing::Screen;
 /// status is 5 instead if an entry or an i-node isn't exported, and 6 if the image breaks rule 1 or 2. It is 3 if `output` failed, 4 if memory ran out.
 /// The fault has a line for each entry that is left out, with unprintable bytes escaped, for each i-node that no entry names or, as an option, is out
 /// of reach, and for each other flaw of the image. An archive is never written to a terminal.
+///
+/// As another option, the image may be shorter than its volume. If blocks of it are lost, each file that isn't whole is left out, or is exported with
+/// zeros in place of the lost bytes; the fault then has the lines about what is lost, and no others, and the status is 5 if anything is damaged or left
+/// out, else 1. If more than [`vol_losses::MOST_MISSING`] blocks are missing, the status is 6.
 ///
 /// Costs the walk, [`vol_judge::judge`], for an unsound image [`lost_inodes`], and writing the bytes. All memory except for one header at a time is
 /// taken before the first byte is written.
@@ -47,9 +55,47 @@ pub(crate) fn export<O: Sink>(
     ensures { (errors : ErrorStream) → Hears errors result.fault
         → Exports edition image.items path.now options screen (streams O.contents O.failed output.old output.new errors) result.status }
 {
-    let image = Image::from_bytes(image);
-    match begun(edition, &image, path.as_bytes(), options.lost) {
-        Ok(start) => export_to(alloc, edition, &image, &start, options, screen, output),
+    match read_as(alloc, edition, image, options.losses.cut) {
+        Ok(read) => export_read(alloc, edition, &read, path, options, screen, output),
+        Err(fault) => unread(alloc, fault),
+    }
+}
+
+/// Returns the ending of an export whose image isn't completed for this reason.
+fn unread(alloc: Global, fault: CutFault) -> Ending
+    ensures { IsUnreadEnding fault result.status result.fault }
+{
+    let CutFault::TooShort { there, blocks } = fault else {
+        return Ending::from(Fault::Refused(Refusal::NoMemory));
+    };
+    match short_fault(alloc, there, blocks) {
+        Ok(fault) => Ending {
+            status: NO_VOLUME,
+            fault: Some(fault),
+        },
+        Err(_) => Ending::from(Fault::Refused(Refusal::NoMemory)),
+    }
+}
+
+/// Writes the archive of everything below the directory at a path of an image that was read.
+fn export_read<O: Sink>(
+    alloc: Global,
+    edition: Edition,
+    read: &CutImage,
+    path: &str,
+    options: ExportOptions,
+    screen: Screen,
+    output: &mut O,
+) -> Ending
+    ensures { (errors : ErrorStream) → Hears errors result.fault
+        → ExportsFrom edition read.now.image read.now.lost.items options screen (streams O.contents O.failed output.old output.new errors) result.status
+        (begun options.lost edition read.now.image path.now) }
+{
+    let image = &read.image;
+    match begun(edition, image, path.as_bytes(), options.lost) {
+        Ok(start) => export_to(
+            alloc, edition, image, &read.lost, &start, options, screen, output,
+        ),
         Err(fault) => Ending {
             status: unstarted_status(options.graded, fault),
             fault: Some(unstarted(fault)),
@@ -63,6 +109,7 @@ fn export_to<O: Sink>(
     alloc: Global,
     edition: Edition,
     image: &Image,
+    lost: &[bool],
     start: &ExportStart,
     options: ExportOptions,
     screen: Screen,
@@ -71,11 +118,11 @@ fn export_to<O: Sink>(
     requires fits { Fits start.now.geometry image.now }
     requires directory { options.lost ≡ false → IsDirectory start.now.geometry image.now start.now.inode }
     ensures { (errors : ErrorStream) → Hears errors result.fault
-        → ExportsTo edition image.now start.now options (streams O.contents O.failed output.old output.new errors) result.status screen }
+        → ExportsTo edition image.now lost.now start.now options (streams O.contents O.failed output.old output.new errors) result.status screen }
 {
     match screen {
         Screen::Terminal { .. } => Ending::from(Fault::Output),
-        Screen::Stream => export_below(alloc, edition, image, start, options, output),
+        Screen::Stream => export_below(alloc, edition, image, lost, start, options, output),
     }
 }
 
@@ -84,6 +131,7 @@ fn export_below<O: Sink>(
     alloc: Global,
     edition: Edition,
     image: &Image,
+    lost: &[bool],
     start: &ExportStart,
     options: ExportOptions,
     output: &mut O,
@@ -91,31 +139,35 @@ fn export_below<O: Sink>(
     requires fits { Fits start.now.geometry image.now }
     requires directory { options.lost ≡ false → IsDirectory start.now.geometry image.now start.now.inode }
     ensures { (errors : ErrorStream) → Hears errors result.fault
-        → ExportsBelow edition image.now start.now options (streams O.contents O.failed output.old output.new errors) result.status }
+        → ExportsBelow edition image.now lost.now start.now options (streams O.contents O.failed output.old output.new errors) result.status }
 {
-    match write_below(alloc, edition, image, start, options, output) {
-        Ok(remarks) => ending_with(options.graded, remarks),
+    match write_below(alloc, edition, image, lost, start, options, output) {
+        Ok(remarks) => ending_with(is_graded(options.graded, lost), remarks),
         Err(fault) => Ending::from(fault),
     }
 }
 
-/// Writes the archive of everything below a directory, and returns the remarks on it.
+/// Writes the archive of everything below a directory, without the damaged files, and returns the remarks on it.
 fn write_below<O: Sink>(
     alloc: Global,
     edition: Edition,
     image: &Image,
+    lost: &[bool],
     start: &ExportStart,
     options: ExportOptions,
     output: &mut O,
 ) -> Result<Remarks, Fault>
     requires fits { Fits start.now.geometry image.now }
     requires directory { options.lost ≡ false → IsDirectory start.now.geometry image.now start.now.inode }
-    ensures { WritesBelow edition image.now start.now options (O.contents output.old) (O.contents output.new)
+    ensures { WritesBelow edition image.now lost.now start.now options (O.contents output.old) (O.contents output.new)
         (O.failed output.old) (O.failed output.new) result }
 {
-    let rescue = walk_all(alloc, image, &start.geometry, start.inode, options.lost)?;
-    let remarks = tell_all(alloc, edition, image, &start.geometry, &rescue, options)?;
-    match put_archive(alloc, image, &start.geometry, &rescue.founds, output) {
+    let geometry = &start.geometry;
+    let rescue = walk_all(alloc, image, geometry, start.inode, options.lost)?;
+    let remarks = remarks_on(alloc, edition, image, lost, start, &rescue, options)?;
+    let damaged = options.losses.damaged;
+    let kept = without_damaged(alloc, image, geometry, lost, damaged, rescue.founds)?;
+    match put_archive(alloc, image, geometry, &kept, output) {
         Ok(()) => Ok(remarks),
         Err(fault) => Err(unwritten(fault)),
     }

@@ -6,7 +6,7 @@ ghost use Rattle.command_faults.specs.Streams.{ErrorStream, Hears, streams};
 ghost use Rattle.command_reads.specs.Sums.{IsManifest, IsManifestFault, Sums, sums_in};
 
 use crate::export::{begun, unstarted, walk_all};
-use crate::looks::{ExportOptions, OutputForm};
+use crate::looks::{ExportOptions, LossOptions, OutputForm};
 use crate::print::{RemarkedText, print_remarked};
 use crate::remarks::tell_all;
 use command_faults::{Ending, Fault};
@@ -62,6 +62,10 @@ fn make_manifest(
     let options = ExportOptions {
         lost,
         graded: false,
+        losses: LossOptions {
+            cut: false,
+            damaged: false,
+        },
     };
     let remarks = tell_all(alloc, edition, image, &start.geometry, &rescue, options)?;
     let text = sums_in(alloc, image, &start.geometry, &rescue.founds, form)?;

@@ -1,4 +1,4 @@
-use Rattle.std.proofs.Common.{List, ℕ, Result, refl, subst, ◌∙◌}
+use Rattle.std.proofs.Common.{Result, refl, subst, ◌∙◌, ap}
 use Rattle.std.proofs.KnownBytes.{Keeps-refl}
 use Rattle.vol_archive.specs.declared.export_tree.ExportStart.{ExportStart}
 use Rattle.vol_archive.specs.declared.export_tree.StartFault.{StartFault}
@@ -6,21 +6,24 @@ use Rattle.command_faults.specs.Faults.{fault_line}
 use Rattle.command_faults.specs.Streams.{Streams, streams}
 use Rattle.command_faults.specs.declared.fault.Fault.{Fault}
 use Rattle.command_reads.specs.Export.{ExportsFrom, ExportsTo, begun}
-use Rattle.command_reads.proofs.export.export.Goals as goal
+use Rattle.command_reads.proofs.export.export_read.Goals as goal
 
 pub returns-in-Ok : goal.returns-in-Ok
 returns-in-Ok g c errors hears =
     let start = c.in-Ok.start in
+    let image = c.args.read.now.image in
     let both : Streams = streams g.O.Sink.contents g.O.Sink.failed c.args.output.now c.export_to.new.output errors in
-    subst (λ (s : Result ExportStart StartFault). ExportsFrom c.args.edition c.args.image.items c.args.options c.args.screen both c.export_to.result.status s)
-    (c.in-Ok.ensures.exact ∙ (λ i. begun c.args.options.lost c.args.edition (c.from_bytes-image.ensures i) (c.as_bytes.ensures.value i)))
-    (subst (λ (image : List ℕ). ExportsTo c.args.edition image start c.args.options both c.export_to.result.status c.args.screen) c.from_bytes-image.ensures (c.export_to.ensures errors hears))
+    subst (λ (s : Result ExportStart StartFault). ExportsFrom c.args.edition image c.args.read.now.lost.items c.args.options c.args.screen both c.export_to.result.status s)
+    (c.in-Ok.ensures.exact ∙ ap (begun c.args.options.lost c.args.edition image) c.as_bytes.ensures.value)
+    (subst (λ lost. ExportsTo c.args.edition image lost start c.args.options both c.export_to.result.status c.args.screen) c.deref.ensures.value
+    (c.export_to.ensures errors hears))
 
-pub returns : goal.returns
-returns g c errors hears =
+pub returns-in-Err : goal.returns-in-Err
+returns-in-Err g c errors hears =
+    let image = c.args.read.now.image in
     let both : Streams = streams g.O.Sink.contents g.O.Sink.failed c.args.output.now c.args.output.now errors in
-    subst (λ (s : Result ExportStart StartFault). ExportsFrom c.args.edition c.args.image.items c.args.options c.args.screen both c.unstarted_status.result s)
-    (c.in-Err.ensures.exact ∙ (λ i. begun c.args.options.lost c.args.edition (c.from_bytes-image.ensures i) (c.as_bytes.ensures.value i))) (record {
+    subst (λ (s : Result ExportStart StartFault). ExportsFrom c.args.edition image c.args.read.now.lost.items c.args.options c.args.screen both c.unstarted_status.result s)
+    (c.in-Err.ensures.exact ∙ ap (begun c.args.options.lost c.args.edition image) c.as_bytes.ensures.value) (record {
       status = c.unstarted_status.ensures;
       kept = Keeps-refl (g.O.Sink.contents c.args.output.now);
       working = refl;

@@ -2,7 +2,8 @@ use Rattle.std.proofs.Common.{List, [], if◌then◌else◌, ◌++◌, ap, ◌�
 use Rattle.std.specs.List.{flat_map}
 use Rattle.std.proofs.lemmas.List.{take_all}
 use Rattle.vol_archive.specs.declared.met_entries.MetEntry.{MetEntry}
-use Rattle.command_reads.specs.Remarks.{is_limited, limit_lines, role_line}
+use Rattle.vol_rescue.specs.Lines.{role_line}
+use Rattle.command_reads.specs.Remarks.{is_limited, limit_lines}
 use Rattle.command_reads.proofs.remarks.push_limits.Goals as goal
 
 pub returns : goal.returns

@@ -1,7 +1,8 @@
 use Rattle.std.proofs.Common.{◌≡◌, ◌++◌, [], if◌then◌else◌, take}
 use Rattle.std.specs.List.{flat_map}
 use Rattle.vol_archive.specs.declared.met_entries.MetEntry.{MetEntry}
-use Rattle.command_reads.specs.Remarks.{is_limited, role_line}
+use Rattle.vol_rescue.specs.Lines.{role_line}
+use Rattle.command_reads.specs.Remarks.{is_limited}
 use Rattle.command_reads.proofs.remarks.push_limits.Given as goal
 
 -- Invariant: the lines of the entries so far at which the walk stopped have been added.

@@ -1,5 +1,5 @@
 -- The manifest of a tree.
-use Rattle.std.specs.Prelude.{◌≡◌, ◌⊎◌, ℕ, ◌==◌, false, if◌then◌else◌, Bool, List, length, Ok, Err}
+use Rattle.std.specs.Prelude.{◌≡◌, ◌⊎◌, ℕ, false, Bool, List, Ok, Err}
 use Rattle.vol_archive.specs.declared.export_tree.ExportStart.{ExportStart}
 use Rattle.vol_archive.specs.declared.export_tree.StartFault.{StartFault}
 use Rattle.vol_archive.specs.declared.met_entries.MetEntry.{MetEntry}

@@ -1,4 +1,4 @@
-use Rattle.std.proofs.Common.{◌++◌, codes}
+use Rattle.std.proofs.Common.{codes}
 use Rattle.vol_archive.proofs.Outputs.{cut_front, handed_on}
 use Rattle.command_reads.proofs.PrintedPieces.{writes_then}
 use Rattle.command_reads.specs.CheckersJson.{line_data}

@@ -1,4 +1,4 @@
-use Rattle.std.proofs.Common.{◌≡◌, ◌∙◌, ◌++◌, List, ap, codes, sym}
+use Rattle.std.proofs.Common.{◌∙◌, ◌++◌, List, ap, codes, sym}
 use Rattle.vol_archive.proofs.Outputs.{cut_front, cut_same, handed_on}
 use Rattle.command_reads.proofs.PrintedPieces.{writes_same, writes_then}
 use Rattle.command_reads.specs.CheckersJson.{checker_json, line_data, report_front}

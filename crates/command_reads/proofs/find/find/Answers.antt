@@ -1,4 +1,4 @@
-use Rattle.std.proofs.Common.{◌≡◌, List, ℕ, Bool, Option, inl, inr, refl, subst}
+use Rattle.std.proofs.Common.{List, ℕ, Bool, Option, inl, inr, refl, subst}
 use Rattle.std.proofs.KnownBytes.{Keeps-refl}
 use Rattle.std.specs.Prelude.{option_map, true}
 use Rattle.command_faults.specs.Streams.{Hears, Streams, streams}

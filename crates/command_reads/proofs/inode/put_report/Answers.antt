@@ -1,4 +1,4 @@
-use Rattle.std.proofs.Common.{◌≡◌, ◌++◌, sym}
+use Rattle.std.proofs.Common.{◌++◌, sym}
 use Rattle.vol_archive.proofs.Outputs.{cut_front, cut_same, handed_on}
 use Rattle.command_reads.proofs.PrintedPieces.{writes_same, writes_then}
 use Rattle.command_reads.specs.Inode.{inode_back, inode_front, inode_json}

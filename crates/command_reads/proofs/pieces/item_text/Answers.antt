@@ -1,5 +1,3 @@
-use Rattle.std.proofs.Common.{◌∙◌, ap, sym}
-use Rattle.serde_json.specs.Written.{compact_text, has_float}
 use Rattle.command_reads.specs.Json.{item_text}
 use Rattle.command_reads.proofs.ListTexts.{text_of}
 use Rattle.command_reads.proofs.pieces.item_text.Goals as goal

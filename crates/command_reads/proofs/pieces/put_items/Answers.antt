@@ -1,4 +1,4 @@
-use Rattle.std.proofs.Common.{◌≡◌, ◌++◌, ap, sym}
+use Rattle.std.proofs.Common.{◌++◌, ap, sym}
 use Rattle.std.specs.List.{flat_map}
 use Rattle.vol_archive.proofs.Outputs.{cut_front, cut_same, handed_on}
 use Rattle.command_reads.proofs.PrintedPieces.{writes_same, writes_then}

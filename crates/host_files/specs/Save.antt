@@ -56,6 +56,10 @@ abbrev pub Fills : {F : Type 0} → (F → Option (List ℕ)) → (F → Option 
 Fills remaining contents (Whole content) old new = Grows content (contents old) (contents new)
 Fills remaining contents (Part part) old new = FillsPart remaining contents part old new
 
+-- a new file was filled, and the system synchronised it (this project)
+abbrev pub IsFilled : {F : Type 0} → (F → Option (List ℕ)) → (F → Option (List ℕ)) → (F → Type 0) → Filling → Type 0
+IsFilled {F} remaining contents synced filling = (old : F) × (new : F) × Fills remaining contents filling old new × synced new
+
 -- something was written to a file in its place: a volume, by itself (this project)
 abbrev pub GrowsInPlace : {F : Type 0} → (F → Option (List ℕ)) → Filling → F → Type 0
 GrowsInPlace {F} contents (Whole content) new = (old : F) × Grows content (contents old) (contents new)
@@ -67,6 +71,12 @@ abbrev pub IsPlaced : {F : Type 0} → (F → Option (List ℕ)) → (F → Opti
 IsPlaced {F} remaining contents had filling (New file stamp) = (old : F) × Fills remaining contents filling old file × had file stamp
 IsPlaced {F} remaining contents had filling (Old stamp) =
     ((opened : F) × (was : Stamp) × had opened was × (was.kind ≢ kinds.Regular)) × (new : F) × GrowsInPlace contents filling new × had new stamp
+
+-- if a save put a new file in a place, the system gave that file some path; such a file was filled, synchronised and locked before, and compared with
+-- what it replaces (this project)
+abbrev pub IsNamed : {F : Type 0} → (F → List ℕ → Type 0) → Place F → Type 0
+IsNamed named (New file stamp) = (path : List ℕ) × named file path
+IsNamed named (Old stamp) = Unit {0}
 
 -- after a save, the held file was filled, and had the stamp; or the held file is the same as before, one was open that isn't regular, and the volume was
 -- written to some file that had the stamp (this project)

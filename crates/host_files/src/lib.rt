@@ -1,7 +1,9 @@
 //! Files of the host that hold an image: opening and locking them, noticing changes, and saving.
 #![tactic(auto)]
 
+mod acts;
 mod archive_front;
+mod filling;
 mod holed_file;
 mod holes;
 mod image_file;

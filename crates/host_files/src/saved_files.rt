@@ -1,54 +1,28 @@
 //! Saves an image in a file so that a failure leaves the old file unchanged.
-ghost use Rattle.std.specs.Prelude.{◌≡◌, ◌≢◌, ◌*◌, true, IfOk, IfSome, OnErr, OnOk};
-ghost use Rattle.std.specs.Io.KnownBytes.{Appends};
+ghost use Rattle.std.specs.Prelude.{◌≡◌, true, IfOk, IfSome, OnErr, OnOk};
 ghost use Rattle.std.specs.Path.{path_bytes, path_buf_bytes};
-ghost use Rattle.host_files.specs.Save.{Fills, FillsPart, Grows, GrowsInPlace, Holds, IsBeside, IsIrregular, IsPlaced, Saves, Stores};
-ghost use Rattle.host_files.specs.declared.image_file.FileKind.TheVariants as kinds;
+ghost use Rattle.host_files.specs.Save.{Fills, Grows, Holds, IsBeside, IsFilled, IsNamed, IsPlaced, Saves, Stores};
 
-use crate::holed_file::HoledFile;
-use crate::holes::{SinkFailed, write_with_holes};
-use crate::image_file::{FileKind, Stamp, open_stamped};
-use crate::marks::{Marks, give_marks};
-use crate::noted::{noted_reader, noted_writer};
-use crate::pack::{SpliceFault, passed_over, splice};
+use crate::acts::{HostActs, SaveActs, end_of_links};
+use crate::image_file::{FileKind, Stamp};
+use crate::marks::Marks;
 use crate::system::ImageFiles;
-use pdp_words::{BLOCK, SaveFault, Sink, write_all};
-use std::fs::{self, Files, Metadata, OpenFile, OpenOptions, Permissions};
-use std::io::{self, ErrorKind, Write};
-use std::os::unix::fs::{MetadataExt, OpenOptionsExt, PermissionsExt};
+use pdp_words::{SaveFault, Sink, write_all};
+use std::alloc::Global;
+use std::fs::{Metadata, OpenFile};
+use std::io::{self, ErrorKind};
+use std::os::unix::fs::MetadataExt;
 use std::path::{Path, PathBuf};
 use vol_mkfs::BlankVolume;
 
 /// The number of names that are tried for the new file.
 const TRIES: u32 = 1000;
 
-/// The greatest number of symbolic links that are followed in a row, which is the same as the system's.
-const MOST_LINKS: u32 = 40;
-
-/// The message for a file whose stamp has changed since it was read.
-const CHANGED: &str = "it has changed since it was read";
-
-/// The message for a file that another program has replaced.
-const REPLACED: &str = "another program has put another file in its place";
-
-/// The message if another program gave the new file's name to something else.
-const MOVED: &str = "another program moved the new file that was to take its place";
-
 /// The message for a new file that another program has locked.
 const TAKEN: &str = "another program has locked the new file that was to take its place";
 
-/// The message for a path with too many symbolic links.
-const TOO_MANY_LINKS: &str = "more than 40 symbolic links lead on from it";
-
 /// The message for a folder in which no new file can be made.
 const NO_NAME: &str = "beside it .unixvol-0 to .unixvol-999 are all there";
-
-/// The permissions of a new file until it gets the old file's: only its owner may use it.
-const PRIVATE: u32 = 0o600;
-
-/// The permissions that a new file takes over from the old one. The bits that run a program with its owner's rights aren't among them, since an image
-/// isn't run.
-const RIGHTS: u32 = 0o777;
 
 /// The size of the blocks in which the system counts what a file stores.
 const STORED_BLOCK: u64 = 512;
@@ -73,7 +47,7 @@ pub struct VolumePart<'a> {
 
 /// What is written into a file.
 #[derive(Clone, Copy)]
-enum Filling<'a> {
+pub(crate) enum Filling<'a> {
     /// A content, which is all that a new file holds.
     Whole(Content<'a>),
     /// A volume. A new file also holds what precedes it and what follows it in the old one.
@@ -82,24 +56,37 @@ enum Filling<'a> {
 
 /// The regular file that a new one will replace.
 #[derive(Drop)]
-struct Replaced {
+pub(crate) struct Replaced {
     /// Its stamp.
-    stamp: Stamp,
+    pub(crate) stamp: Stamp,
     /// Its owner, its group and its permissions.
-    metadata: Metadata,
+    pub(crate) metadata: Metadata,
 }
 
 impl Replaced {
     /// True if the file stores fewer blocks than its size takes, so that it has holes. If the system counts no blocks, the file counts as one without.
-    fn has_holes(&self) -> bool {
+    pub(crate) fn has_holes(&self) -> bool {
         let blocks = self.metadata.blocks();
         0 < blocks && blocks < self.metadata.len() / STORED_BLOCK
     }
 }
 
+/// The place of a new file, and what it gets besides its bytes.
+#[derive(Drop)]
+pub(crate) struct Target {
+    /// The path that the file gets, which isn't a symbolic link.
+    pub(crate) path: PathBuf,
+    /// The file that it replaces, if there is one.
+    pub(crate) old: Option<Replaced>,
+    /// The stamp that the file at `path` must have just before, if it was read.
+    pub(crate) read: Option<Stamp>,
+    /// The marks that it gets, if some are given.
+    pub(crate) marks: Option<Marks>,
+}
+
 /// The file in which a content was saved, and its stamp now.
 #[derive(Drop)]
-enum Place<F> {
+pub(crate) enum Place<F> {
     /// A new file, which replaced the old one and is locked.
     New(F, Stamp),
     /// The old file, which isn't a regular file.
@@ -117,7 +104,7 @@ pub struct HeldFile<F> {
 
 impl Content<'_> {
     /// Writes all bytes of the content, from the first to the last.
-    fn write_to<W: Sink>(self, sink: &mut W) -> Result<(), SaveFault>
+    pub(crate) fn write_to<W: Sink>(self, sink: &mut W) -> Result<(), SaveFault>
         ensures ok { OnOk result (Grows self.entry (W.contents sink.old) (W.contents sink.new)) }
         ensures fault { OnErr result (W.failed sink.new ≡ true) }
     {
@@ -143,7 +130,8 @@ pub fn save_file<R: ImageFiles + AllocGlobal>(
 ) -> io::Result<()>
     ensures { OnOk result (Saves R.File.contents content.entry) }
 {
-    put(rt, path, None, Filling::Whole(content), None)?;
+    let acts = HostActs::new(rt);
+    put(&acts, rt.alloc(), path, None, Filling::Whole(content), None)?;
     Ok(())
 }
 
@@ -165,7 +153,9 @@ pub fn save_volume<R: ImageFiles + AllocGlobal>(
     ensures saved { OnOk result (Stores R.File.remaining R.File.contents R.had part.entry) }
     ensures unchanged { OnOk result (R.stood read) }
 {
-    put(rt, path, Some(read), Filling::Part(part), None)?;
+    let acts = HostActs::new(rt);
+    let filling = Filling::Part(part);
+    put(&acts, rt.alloc(), path, Some(read), filling, None)?;
     Ok(())
 }
 
@@ -181,25 +171,44 @@ pub fn save_marked<R: ImageFiles + AllocGlobal>(
 ) -> io::Result<()>
     ensures { OnOk result (Saves R.File.contents content.entry) }
 {
-    put(rt, path, None, Filling::Whole(content), Some(marks))?;
+    let acts = HostActs::new(rt);
+    let filling = Filling::Whole(content);
+    put(&acts, rt.alloc(), path, None, filling, Some(marks))?;
     Ok(())
 }
 
 /// Saves a content in a new file at `path`, which only its owner may use. If there is anything at `path`, even a symbolic link, it stays, and the error
 /// is `AlreadyExists`. If the file can't be written or synchronised, it is removed, and the error is the system's.
-pub fn save_apart<R: ImageFiles>(rt: &R, path: &str, content: Content<'_>) -> io::Result<()>
+pub fn save_apart<R: ImageFiles + AllocGlobal>(
+    rt: &R,
+    path: &str,
+    content: Content<'_>,
+) -> io::Result<()>
     ensures { OnOk result (Saves R.File.contents content.entry) }
 {
-    let mut options = OpenOptions::new();
-    options.write(true).create_new(true).mode(PRIVATE);
-    let file = options.open(rt, path)?;
-    match fill(rt, file, None, Filling::Whole(content), None) {
+    let acts = HostActs::new(rt);
+    let target = Target {
+        path: PathBuf::from_str(rt.alloc(), path)?,
+        old: None,
+        read: None,
+        marks: None,
+    };
+    put_apart(&acts, &target, Filling::Whole(content))
+}
+
+/// Saves a filling in a new file, which only its owner may use, or removes it again.
+fn put_apart<A: SaveActs>(acts: &A, target: &Target, filling: Filling<'_>) -> io::Result<()>
+    ensures { OnOk result (IsFilled A.File.remaining A.File.contents A.synced filling.entry) }
+{
+    let path = target.path.as_path();
+    let file = acts.create(path, true)?;
+    match fill(acts, file, target, filling) {
         Ok(_) => {
-            sync_folder(rt, Path::new(path));
+            acts.sync_folder(path);
             Ok(())
         }
         Err(error) => {
-            let _ = fs::remove_file(rt, path);
+            acts.remove(path);
             Err(error)
         }
     }
@@ -221,7 +230,9 @@ pub fn save_held<R: ImageFiles + AllocGlobal>(
     ensures held { OnOk result (Holds R.File.remaining R.File.contents R.had part.entry held.old held.new) }
     ensures kept { OnErr result (held.new ≡ held.old) }
 {
-    match put(rt, path, Some(held.stamp), Filling::Part(part), None)? {
+    let acts = HostActs::new(rt);
+    let filling = Filling::Part(part);
+    match put(&acts, rt.alloc(), path, Some(held.stamp), filling, None)? {
         Place::New(file, stamp) => *held = HeldFile { file, stamp },
         Place::Old(stamp) => held.stamp = stamp,
     }
@@ -230,97 +241,106 @@ pub fn save_held<R: ImageFiles + AllocGlobal>(
 
 /// Saves a filling in the file `path`, as [`save_file`] and [`save_volume`] do, with these marks if it is a new file and some are given, and returns the
 /// file in which it was saved.
-fn put<R: ImageFiles + AllocGlobal>(
-    rt: &R,
+fn put<A: SaveActs>(
+    acts: &A,
+    alloc: Global,
     path: &str,
     read: Option<Stamp>,
     filling: Filling<'_>,
     marks: Option<Marks>,
-) -> io::Result<Place<R::File>>
-    ensures saved { IfOk result (IsPlaced R.File.remaining R.File.contents R.had filling.entry) }
-    ensures unchanged { OnOk result (IfSome read R.stood) }
+) -> io::Result<Place<A::File>>
+    ensures saved { IfOk result (IsPlaced A.File.remaining A.File.contents A.had filling.entry) }
+    ensures unchanged { OnOk result (IfSome read A.stood) }
+    ensures named { IfOk result (IsNamed A.named) }
 {
-    match OpenOptions::new().write(true).open(rt, path) {
+    match acts.open(path) {
         Ok(file) => {
             let metadata = file.metadata()?;
-            let stamp = rt.stamp_of(&file)?;
-            if stamp.kind == FileKind::Regular {
-                let place = end_of_links(rt, path)?;
-                let old = Replaced { stamp, metadata };
-                replace(rt, place.as_path(), Some(&old), read, filling, marks)
-            } else {
-                expect_unchanged(rt, path, read)?;
-                put_in_place(rt, path, file, stamp, filling)
+            let stamp = acts.stamp_of(&file)?;
+            if stamp.kind != FileKind::Regular {
+                return acts.put_in_place(path, file, stamp, read, filling);
             }
+            let target = Target {
+                path: acts.end_of_links(path)?,
+                old: Some(Replaced { stamp, metadata }),
+                read,
+                marks,
+            };
+            replace(acts, alloc, &target, filling)
         }
         Err(error) if error.kind() == ErrorKind::NotFound => {
-            let place = end_of_links(rt, path)?;
-            replace(rt, place.as_path(), None, read, filling, marks)
+            let target = Target {
+                path: acts.end_of_links(path)?,
+                old: None,
+                read,
+                marks,
+            };
+            replace(acts, alloc, &target, filling)
         }
         Err(error) => Err(error),
     }
 }
 
-/// Saves a filling in the open file at `path`, which isn't regular and has this stamp, if it is still there, and returns its new stamp.
-fn put_in_place<R: ImageFiles>(
-    rt: &R,
-    path: &str,
-    file: R::File,
-    stamp: Stamp,
+/// Saves a filling in a new file, which takes its path once it is complete, and returns it, locked.
+fn replace<A: SaveActs>(
+    acts: &A,
+    alloc: Global,
+    target: &Target,
     filling: Filling<'_>,
-) -> io::Result<Place<R::File>>
-    requires had { R.had file stamp }
-    requires irregular { stamp.kind ≢ kinds.Regular }
-    ensures { IfOk result (IsPlaced R.File.remaining R.File.contents R.had filling.entry) }
+) -> io::Result<Place<A::File>>
+    ensures saved { IfOk result (IsPlaced A.File.remaining A.File.contents A.had filling.entry) }
+    ensures unchanged { OnOk result (IfSome target.now.read A.stood) }
+    ensures named { IfOk result (IsNamed A.named) }
 {
-    expect_same(stamp, rt.stamp_at(path)?)?;
-    let file = fill_in_place(rt, file, filling)?;
-    Ok(Place::Old(rt.stamp_of(&file)?))
+    acts.expect_there(target)?;
+    let (file, beside) = new_file(acts, alloc, target)?;
+    match finish(acts, file, beside.as_path(), target, filling) {
+        Ok((file, stamp)) => Ok(Place::New(file, stamp)),
+        Err(error) => {
+            acts.remove(beside.as_path());
+            Err(error)
+        }
+    }
 }
 
-/// Fails if the file at `path` doesn't have the stamp that it had when it was read.
-fn expect_unchanged<R: ImageFiles>(rt: &R, path: &str, read: Option<Stamp>) -> io::Result<()>
-    ensures { OnOk result (IfSome read R.stood) }
+/// Fills the new file, which is open as `file` and named `beside`, locks it, renames it to its path, and returns it with its stamp. Both names must still
+/// belong to the same files as before, and the old file must still have the stamp that it was read with.
+fn finish<A: SaveActs>(
+    acts: &A,
+    file: A::File,
+    beside: Path<'_>,
+    target: &Target,
+    filling: Filling<'_>,
+) -> io::Result<(A::File, Stamp)>
+    requires made { A.made (path_bytes beside) }
+    ensures filled { IfOk result (λ done. Fills A.File.remaining A.File.contents filling.entry file done.0) }
+    ensures stamp { IfOk result (λ done. A.had done.0 done.1) }
+    ensures unchanged { OnOk result (IfSome target.now.read A.stood) }
+    ensures named { IfOk result (λ done. A.named done.0 (path_buf_bytes target.now.path)) }
 {
-    match read {
-        Some(read) if rt.stamp_at(path)? != read => Err(io::Error::new(
-            ErrorKind::ResourceBusy,
-            CHANGED,
-        )),
-        _ => Ok(()),
+    let file = fill(acts, file, target, filling)?;
+    if !acts.lock(&file) {
+        return Err(io::Error::new(ErrorKind::ResourceBusy, TAKEN));
     }
+    let stamp = acts.compare(&file, beside, target)?;
+    acts.rename(&file, beside, target)?;
+    acts.sync_folder(target.path.as_path());
+    Ok((file, stamp))
 }
 
-/// Fails if two stamps are of different files.
-fn expect_same(one: Stamp, other: Stamp) -> io::Result<()> {
-    if one.is_of(other) {
-        Ok(())
-    } else {
-        Err(io::Error::new(ErrorKind::ResourceBusy, REPLACED))
-    }
-}
-
-/// Fails if the file at `path` isn't `old`, or, if `old` is `None`, if there is any file at `path`.
-fn expect_there<R: ImageFiles>(rt: &R, path: &str, old: Option<&Replaced>) -> io::Result<()> {
-    match old {
-        Some(old) => expect_same(old.stamp, rt.stamp_of_name(path)?),
-        None if rt.is_there(path) => Err(io::Error::new(ErrorKind::ResourceBusy, REPLACED)),
-        None => Ok(()),
-    }
-}
-
-/// Follows the symbolic links from `path` until a path that isn't a link, and returns that path, which is `path` itself if it isn't a link. There may
-/// be no file at its end.
-fn end_of_links<R: Files + AllocGlobal>(rt: &R, path: &str) -> io::Result<PathBuf> {
-    let mut place = PathBuf::from_str(rt.alloc(), path)?;
-    for _ in 0..=MOST_LINKS {
-        let target = match fs::read_link(rt, place.as_path()) {
-            Err(error) if is_end(error) => return Ok(place),
-            read => read?,
-        };
-        place = place.with_file_name(rt.alloc(), target.as_str())?;
-    }
-    Err(io::Error::new(ErrorKind::FilesystemLoop, TOO_MANY_LINKS))
+/// Fills a new file, waits until its bytes are on the disk, and returns it.
+fn fill<A: SaveActs>(
+    acts: &A,
+    file: A::File,
+    target: &Target,
+    filling: Filling<'_>,
+) -> io::Result<A::File>
+    ensures filled { IfOk result (λ filled. Fills A.File.remaining A.File.contents filling.entry file filled) }
+    ensures synced { IfOk result A.synced }
+{
+    let file = acts.fill(file, target, filling)?;
+    acts.sync(&file)?;
+    Ok(file)
 }
 
 /// True if `path`, or the end of its symbolic links, is a pipe or a socket: opening a pipe for writing waits until another program reads from it.
@@ -335,250 +355,19 @@ pub fn is_pipe<R: ImageFiles + AllocGlobal>(rt: &R, path: &str) -> bool {
     }
 }
 
-/// True if the system's error for reading a link means that the path isn't a link: it is another kind of file, or doesn't exist.
-fn is_end(error: io::Error) -> bool {
-    let kind = error.kind();
-    kind == ErrorKind::InvalidInput || kind == ErrorKind::NotFound
-}
-
-/// Replaces the file at `path` by a new file with this filling, and with these marks if some are given, and returns the new file, locked. `path` isn't a
-/// symbolic link, and must still have the stamp `read`, if one is given.
-fn replace<R: ImageFiles + AllocGlobal>(
-    rt: &R,
-    path: Path<'_>,
-    old: Option<&Replaced>,
-    read: Option<Stamp>,
-    filling: Filling<'_>,
-    marks: Option<Marks>,
-) -> io::Result<Place<R::File>>
-    ensures saved { IfOk result (IsPlaced R.File.remaining R.File.contents R.had filling.entry) }
-    ensures unchanged { OnOk result (IfSome read R.stood) }
+/// Makes an empty file beside the one that it is to replace, with an unused name.
+fn new_file<A: SaveActs>(acts: &A, alloc: Global, target: &Target) -> io::Result<(A::File, PathBuf)>
+    ensures beside { IfOk result (λ new. IsBeside (path_buf_bytes target.now.path) (path_buf_bytes new.1)) }
+    ensures made { IfOk result (λ new. A.made (path_buf_bytes new.1)) }
 {
-    expect_there(rt, path.as_str(), old)?;
-    let (file, beside) = new_file(rt, path, old.is_some())?;
-    let result = match fill(rt, file, old.map(|old| (path, old)), filling, marks) {
-        Ok(file) => rename_over(rt, file, beside.as_path(), path, old, read),
-        Err(error) => Err(error),
-    };
-    match result {
-        Ok((file, stamp)) => Ok(Place::New(file, stamp)),
-        Err(error) => {
-            let _ = fs::remove_file(rt, beside.as_path());
-            Err(error)
-        }
-    }
-}
-
-/// Locks the new file, which is open as `file` and named `beside`, renames it to `path`, and returns it with its stamp. Both names must still belong
-/// to the same files as before, and the old file must still have the stamp `read`.
-fn rename_over<R: ImageFiles>(
-    rt: &R,
-    file: R::File,
-    beside: Path<'_>,
-    path: Path<'_>,
-    old: Option<&Replaced>,
-    read: Option<Stamp>,
-) -> io::Result<(R::File, Stamp)>
-    ensures same { IfOk result (λ renamed. renamed.0 ≡ file) }
-    ensures stamp { IfOk result (λ renamed. R.had renamed.0 renamed.1) }
-    ensures unchanged { OnOk result (IfSome read R.stood) }
-{
-    if !rt.try_lock(&file) {
-        return Err(io::Error::new(ErrorKind::ResourceBusy, TAKEN));
-    }
-    let stamp = rt.stamp_of(&file)?;
-    expect_unchanged(rt, path.as_str(), read)?;
-    expect_there(rt, path.as_str(), old)?;
-    if !rt.stamp_of_name(beside.as_str())?.is_of(stamp) {
-        return Err(io::Error::new(ErrorKind::ResourceBusy, MOVED));
-    }
-    fs::rename(rt, beside, path)?;
-    sync_folder(rt, path);
-    Ok((file, stamp))
-}
-
-/// Synchronises the folder of `path`, if the system allows it. The image is complete in any case.
-fn sync_folder<R: Files>(rt: &R, path: Path<'_>) {
-    let folder = match path.parent() {
-        Some(folder) if folder.as_str() != "" => folder,
-        _ => Path::new("."),
-    };
-    if let Ok(folder) = fs::open(rt, folder) {
-        let _ = folder.sync_all();
-    }
-}
-
-/// Makes an empty file in the folder of `path`, with an unused name.
-fn new_file<R: Files + AllocGlobal>(
-    rt: &R,
-    path: Path<'_>,
-    is_private: bool,
-) -> io::Result<(R::File, PathBuf)>
-    ensures { IfOk result (λ made. IsBeside (path_bytes path.entry) (path_buf_bytes made.1)) }
-{
-    let mut options = OpenOptions::new();
-    options.write(true).create_new(true);
-    if is_private {
-        options.mode(PRIVATE);
-    }
+    let path = target.path.as_path();
     for number in 0..TRIES {
-        let name = format!(in rt.alloc(); ".unixvol-{number}")?;
-        let beside = path.with_file_name(rt.alloc(), name.as_str())?;
-        match options.open(rt, beside.as_path()) {
+        let name = format!(in alloc; ".unixvol-{number}")?;
+        let beside = path.with_file_name(alloc, name.as_str())?;
+        match acts.create(beside.as_path(), target.old.is_some()) {
             Err(error) if error.kind() == ErrorKind::AlreadyExists => {}
-            opened => return Ok((opened?, beside)),
+            made => return Ok((made?, beside)),
         }
     }
     Err(io::Error::new(ErrorKind::AlreadyExists, NO_NAME))
-}
-
-/// Fills the new file `file`, gives it these marks, if some are given, waits until its bytes are on the disk, and returns the file. `old` is the file
-/// that it will replace, if there is one, and its path.
-fn fill<R: ImageFiles>(
-    rt: &R,
-    file: R::File,
-    old: Option<(Path<'_>, &Replaced)>,
-    filling: Filling<'_>,
-    marks: Option<Marks>,
-) -> io::Result<R::File>
-    ensures { IfOk result (λ filled. Fills R.File.remaining R.File.contents filling.entry file filled) }
-{
-    if let Some((_, old)) = old {
-        keep_owner(rt, &file, &old.metadata)?;
-    }
-    let file = write_new(rt, file, old, filling)?;
-    if let Some(marks) = marks {
-        give_marks(&file, marks)?;
-    }
-    file.sync_all()?;
-    Ok(file)
-}
-
-/// Writes a filling after the bytes that a new file holds, and returns the file. Zeros of bytes in memory and of the old file become holes if the old
-/// file has holes.
-fn write_new<R: ImageFiles>(
-    rt: &R,
-    file: R::File,
-    old: Option<(Path<'_>, &Replaced)>,
-    filling: Filling<'_>,
-) -> io::Result<R::File>
-    ensures { IfOk result (λ written. Fills R.File.remaining R.File.contents filling.entry file written) }
-{
-    match (filling, old) {
-        (Filling::Part(part), Some((path, old))) => write_part(rt, file, path, old, part),
-        // A volume has a place only in a file that is there.
-        (Filling::Part(_), None) => Err(io::Error::new(ErrorKind::ResourceBusy, CHANGED)),
-        (Filling::Whole(Content::Bytes(bytes)), Some((_, old))) if old.has_holes() => {
-            write_holed(rt, file, bytes)
-        }
-        (Filling::Whole(content), _) => write(file, content),
-    }
-}
-
-/// Writes the old file at `path` into a new one, with a volume in its place, and returns the new file. Zeros become holes if the old file has holes. The
-/// old file must still have its stamp.
-fn write_part<R: ImageFiles>(
-    rt: &R,
-    file: R::File,
-    path: Path<'_>,
-    old: &Replaced,
-    part: VolumePart<'_>,
-) -> io::Result<R::File>
-    ensures { IfOk result (λ written. FillsPart R.File.remaining R.File.contents part.entry file written) }
-{
-    let (whole, stamp) = open_stamped(rt, path.as_str())?;
-    if stamp != old.stamp {
-        return Err(io::Error::new(ErrorKind::ResourceBusy, CHANGED));
-    }
-    let mut pack = noted_reader(whole);
-    let mut sink = HoledFile::new(rt, file, old.has_holes());
-    match splice(&mut pack, &mut sink, BLOCK * part.at as usize, part.bytes) {
-        Ok(()) => Ok(sink.into_inner()),
-        Err(SpliceFault::Unread) => Err(unread(pack.error())),
-        Err(SpliceFault::Unwritten) => Err(unwritten(sink.error())),
-        Err(SpliceFault::Misfit) => Err(io::Error::new(ErrorKind::ResourceBusy, CHANGED)),
-    }
-}
-
-/// Writes bytes after those that a file holds, with holes for zeros, and returns the file.
-fn write_holed<R: ImageFiles>(rt: &R, file: R::File, bytes: &[u8]) -> io::Result<R::File>
-    ensures { IfOk result (λ written. Appends (R.File.contents file) (R.File.contents written) bytes.now) }
-{
-    let mut sink = HoledFile::new(rt, file, true);
-    match write_with_holes(&mut sink, bytes) {
-        Ok(()) => Ok(sink.into_inner()),
-        Err(SinkFailed) => Err(unwritten(sink.error())),
-    }
-}
-
-/// Changes the owner, group and permissions of an open file to those of an old file. Only the super-user can change a file's owner; other users stay
-/// its owner, and can only choose one of their groups.
-fn keep_owner<R: ImageFiles>(rt: &R, file: &R::File, old: &Metadata) -> io::Result<()> {
-    let new = file.metadata()?;
-    let mut mode = old.permissions().mode() & RIGHTS;
-    if new.gid() != old.gid() && !rt.give(file, None, Some(old.gid())) {
-        mode = without_group(mode);
-    }
-    if new.uid() != old.uid() {
-        let _ = rt.give(file, Some(old.uid()), None);
-    }
-    file.set_permissions(Permissions::from_mode(mode))
-}
-
-/// Returns the permissions of a file that can't have its old group: the new group gets none, and other users only those that the old group had too.
-fn without_group(mode: u32) -> u32 {
-    (mode & 0o700) | (mode & (mode >> 3) & 0o007)
-}
-
-/// Writes a filling into something other than a regular file, a volume in its place, and returns the file.
-fn fill_in_place<R: ImageFiles>(rt: &R, file: R::File, filling: Filling<'_>) -> io::Result<R::File>
-    requires { IsIrregular R.had file }
-    ensures { IfOk result (λ filled. GrowsInPlace R.File.contents filling.entry filled) }
-{
-    match filling {
-        Filling::Whole(content) => write_in_place(file, content),
-        Filling::Part(part) => {
-            let file = passed_over(rt, file, BLOCK as u64 * u64::from(part.at))?;
-            write_in_place(file, Content::Bytes(part.bytes))
-        }
-    }
-}
-
-/// Writes a content into something other than a regular file, synchronises it if it is on a disk, and returns the file.
-fn write_in_place<F: Write + OpenFile + Drop>(file: F, content: Content<'_>) -> io::Result<F>
-    ensures { IfOk result (λ written. Grows content.entry (F.contents file) (F.contents written)) }
-{
-    let file = write(file, content)?;
-    match file.sync_all() {
-        // A pipe or a terminal can't be synchronised.
-        Err(error) if error.kind() != ErrorKind::InvalidInput => Err(error),
-        _ => Ok(file),
-    }
-}
-
-/// Writes a content after the bytes that a file holds, and returns the file.
-fn write<F: Write + Drop>(file: F, content: Content<'_>) -> io::Result<F>
-    ensures { IfOk result (λ written. Grows content.entry (F.contents file) (F.contents written)) }
-{
-    let mut sink = noted_writer(file);
-    match content.write_to(&mut sink) {
-        Ok(()) => Ok(sink.into_inner().into_inner()),
-        Err(_) => Err(unwritten(sink.error())),
-    }
-}
-
-/// Returns the error for a file that couldn't be written completely: the system's, unless it would mean that this program ran out of memory.
-fn unwritten(error: Option<io::Error>) -> io::Error {
-    match error {
-        Some(error) if error.kind() != ErrorKind::OutOfMemory => error,
-        _ => io::Error::from(ErrorKind::WriteZero),
-    }
-}
-
-/// Returns the error for a file that couldn't be read completely: the system's, unless it would mean that this program ran out of memory.
-fn unread(error: Option<io::Error>) -> io::Error {
-    match error {
-        Some(error) if error.kind() != ErrorKind::OutOfMemory => error,
-        _ => io::Error::from(ErrorKind::Other),
-    }
 }

@@ -124,7 +124,7 @@ fn save_numbered<R: ImageFiles + AllocGlobal>(
 }
 
 /// Writes an image to a new file at `place`.
-fn write_image<R: ImageFiles>(
+fn write_image<R: ImageFiles + AllocGlobal>(
     host: &Surroundings<'_, R>,
     place: &str,
     image: &Image,

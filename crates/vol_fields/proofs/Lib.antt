@@ -1,4 +1,6 @@
+pub mod DiffLaws
 pub mod FieldLaws
+pub mod GroupLaws
 pub mod RoleLaws
 pub mod RowLaws
 pub mod RunLaws

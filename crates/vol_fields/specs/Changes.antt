@@ -1,6 +1,6 @@
 -- The fields that differ between two images.
 use Rattle.std.specs.Prelude.{◌≡◌, ◌≢◌, ℕ, ◌+◌, ◌<◌, ◌≤◌, List, length, slice_index, slice_index_or}
-use Rattle.std.specs.List.{Contains}
+use Rattle.std.specs.List.{All, Contains}
 use Rattle.vol_layout.specs.declared.geometry.Geometry.{Geometry}
 use Rattle.vol_fields.specs.Fields.{field_at}
 use Rattle.vol_fields.specs.declared.field.Field.{Field}
@@ -23,3 +23,7 @@ pub record ListsUpTo (g : Geometry) (roles : List Role) (old new : List ℕ) (n 
   pub covers : (m : ℕ) → n ≤ m → m < covered → Contains found (field_at g roles (length old) m)
   pub ends : (f : Field) → Contains found f → f.spot.start + f.spot.bytes ≤ covered
   pub edge : (m : ℕ) → covered ≤ m → m < length old → covered ≤ (field_at g roles (length old) m).spot.start
+
+-- each field is within an image of `len` bytes, and begins within one of `other` bytes (this project)
+abbrev pub AreShared : ℕ → ℕ → List Field → Type 0
+AreShared len other fields = All (λ field. (field.spot.start + field.spot.bytes ≤ len) × (field.spot.start < other)) fields

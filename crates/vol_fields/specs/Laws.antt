@@ -1,5 +1,6 @@
 -- Laws of the field map.
-use Rattle.std.specs.Prelude.{◌≡◌, ℕ, ◌+◌, ◌*◌, ◌<◌, ◌≤◌, ◌↔◌, List, length}
+use Rattle.std.specs.Prelude.{◌≡◌, ℕ, ◌+◌, ◌*◌, ◌<◌, ◌≤◌, ◌↔◌, Bool, List, [], length, min, slice_index_or}
+use Rattle.std.specs.List.{Contains}
 use Rattle.vol_layout.specs.Geometry.{Fits}
 use Rattle.vol_layout.specs.Edition.{constants}
 use Rattle.vol_layout.specs.Inode.{inode_place}
@@ -8,9 +9,15 @@ use Rattle.vol_layout.specs.declared.edition.Edition.{Edition}
 use Rattle.vol_layout.specs.declared.edition.Edition.TheVariants.{V6, V7}
 use Rattle.vol_layout.specs.declared.geometry.Geometry.{Geometry}
 use Rattle.vol_layout.specs.declared.super_block.Flag.TheVariants as flags
+use Rattle.vol_fields.specs.Changes.{Differs, ListsChanges}
+use Rattle.vol_fields.specs.Differences.{IsDiffText}
+use Rattle.vol_fields.specs.FieldGroups.{field_joins}
 use Rattle.vol_fields.specs.Fields.{field_at}
+use Rattle.vol_fields.specs.Groups.{AreGroups}
 use Rattle.vol_fields.specs.Runs.{spot_at, total}
 use Rattle.vol_fields.specs.Tables.{parts, super_runs, node_runs}
+use Rattle.vol_fields.specs.declared.field.Field.{Field}
+use Rattle.vol_fields.specs.declared.groups.Group.{Group}
 use Rattle.vol_fields.specs.declared.names.Name.{Name}
 use Rattle.vol_fields.specs.declared.names.Name.TheVariants as names
 use Rattle.vol_fields.specs.declared.role.Role.{Role}
@@ -72,3 +79,17 @@ pub record FollowsLayout : Type 0 where
   pub parts : (g : Geometry) (image : List ℕ) → Fits g image → FollowsParts g image
   pub super_block : (edition : Edition) → FollowsSuper edition
   pub inode : (edition : Edition) (at : ℕ) → FollowsNode edition at
+
+-- the text of the differences is empty if and only if the images are equal byte for byte; equal images have equal sizes and roles (this project's law)
+abbrev pub TellsNothingIfEqual : Type 0
+TellsNothingIfEqual = (g h : Geometry) (table roles : List Role) (old new : List ℕ) (all : Bool) (text : List ℕ)
+    → IsDiffText g table old h roles new all text → (old ≡ new → table ≡ roles → text ≡ []) × (text ≡ [] → old ≡ new)
+
+-- each byte that both images have and that differs is in a field of a group, and so in a line: this field is the one at place k of those that differ,
+-- and the group has place k (this project's law)
+abbrev pub TellsEachByte : Type 0
+TellsEachByte = (h : Geometry) (roles : List Role) (old new : List ℕ) (least : ℕ) (fields : List Field) (groups : List Group)
+    → ListsChanges h roles new old (min (length new) (length old)) fields → AreGroups (field_joins fields) least groups
+    → (n : ℕ) → n < length new → n < length old → Differs new old n
+    → (group : Group) × Contains groups group × ((k : ℕ) × (group.first ≤ k) × (k ≤ group.last) × (k < length fields)
+    × ((d : Field) → slice_index_or fields k d ≡ field_at h roles (length new) n))

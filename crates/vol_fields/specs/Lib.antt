@@ -1,9 +1,14 @@
 pub use Rattle.vol_layout.specs.Edition
 pub use Rattle.vol_layout.specs.Geometry
 pub mod Changes
+pub mod DiffLines
+pub mod Differences
+pub mod FieldGroups
 pub mod Fields
+pub mod Groups
 pub mod Laws
 pub mod Lines
+pub mod RoleChanges
 pub mod Roles
 pub mod Rows
 pub mod Runs

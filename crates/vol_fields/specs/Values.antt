@@ -1,5 +1,5 @@
 -- The values of fields, and what they mean.
-use Rattle.std.specs.Prelude.{ℕ, ◌==◌, nat_lt, nat_le, ◌||◌, ◌&&◌, Bool, true, false, if◌then◌else◌, List, [], ◌∷◌, ◌++◌, length, map, take, drop, codes, decimal, Option, Some, None, slice_index}
+use Rattle.std.specs.Prelude.{ℕ, ◌==◌, nat_lt, nat_le, ◌||◌, ◌&&◌, Bool, true, false, if◌then◌else◌, List, [], ◌++◌, length, map, take, drop, codes, decimal, Option, Some, None, slice_index}
 use Rattle.std.specs.List.{list_all, position}
 use Rattle.pdp_words.specs.Words.{word, long, addr3}
 use Rattle.escaped_text.specs.Escape.{escaped}

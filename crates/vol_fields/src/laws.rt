@@ -1,5 +1,5 @@
 //! Laws about the definitions of fields. These functions do nothing: their purpose is the contract, which is proved.
-ghost use Rattle.vol_fields.specs.Laws.{CoversImage, FollowsLayout, PartsImage};
+ghost use Rattle.vol_fields.specs.Laws.{CoversImage, FollowsLayout, PartsImage, TellsEachByte, TellsNothingIfEqual};
 ghost use Rattle.vol_fields.specs.Rows.{RowsHaveBytes};
 
 /// The parts of an image have all its bytes.
@@ -20,4 +20,14 @@ pub fn fields_follow_the_layout()
 /// The bytes of the rows of a dump, in order, are the bytes that are dumped.
 pub fn rows_have_the_bytes()
     ensures { RowsHaveBytes }
+{}
+
+/// The differences of two images have no line if and only if the images are equal byte for byte.
+pub fn differences_tell_nothing_if_equal()
+    ensures { TellsNothingIfEqual }
+{}
+
+/// Each byte that differs is in a field of a line.
+pub fn differences_tell_each_byte()
+    ensures { TellsEachByte }
 {}

@@ -2,11 +2,16 @@
 #![tactic(auto)]
 
 pub mod changes;
+mod diff_lines;
+mod differences;
 pub mod field;
+mod field_groups;
+mod groups;
 pub mod laws;
 mod lines;
 mod names;
 mod role;
+mod role_changes;
 mod role_table;
 mod rows;
 mod runs;
@@ -14,7 +19,10 @@ mod tables;
 mod values;
 
 pub use changes::changed_fields;
+pub use diff_lines::MappedImage;
+pub use differences::diff_text;
 pub use field::{Field, field_at};
+pub use groups::Group;
 pub use lines::{Radix, push_row};
 pub use names::{Name, ValueKind};
 pub use role::Role;

@@ -266,7 +266,12 @@ fn row_name(alloc: Global, row: &Row) -> Result<String, AllocError>
 }
 
 /// Returns the name of `count` fields that follow one another, the first with this index.
-fn fields_name(alloc: Global, name: Name, index: usize, count: usize) -> Result<String, AllocError>
+pub(crate) fn fields_name(
+    alloc: Global,
+    name: Name,
+    index: usize,
+    count: usize,
+) -> Result<String, AllocError>
     ensures { IfOk result (λ text. string_bytes text ≡ fields_name name index count) }
 {
     let label = name.label();

@@ -214,7 +214,7 @@ impl fmt::Display for Role {
 }
 
 /// Returns the bytes of a name that are shown: those before its first zero, but all if others than zeros follow.
-fn shown_name(bytes: &[u8]) -> &[u8]
+pub(crate) fn shown_name(bytes: &[u8]) -> &[u8]
     ensures { result.now ≡ shown_name bytes.now }
 {
     let Some(end) = first_zero(bytes) else {

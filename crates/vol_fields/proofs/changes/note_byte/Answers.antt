@@ -100,13 +100,13 @@ adds g t old new n covered found fits within differs past up =
 
 pub returns-then-n-covered : goal.returns-then-n-covered
 returns-then-n-covered c =
-    passes c.args.geometry.now c.args.roles.now c.args.old.now c.args.new.now c.args.n c.args.covered _ c.requires.before
+    passes c.args.geometry.now c.args.roles.now c.args.image.now c.args.other.now c.args.n c.args.covered _ c.requires.before
     (λ differs. c.requires.before.covers c.args.n (omega arith) c.if-n-covered.true)
 
 pub returns-then-byte : goal.returns-then-byte
 returns-then-byte c =
-    let same : get_or c.args.old.now c.args.n 0 ≡ get_or c.args.new.now c.args.n 0 = sym c.byte.ensures ∙ (c.if-byte.true ∙ c.byte-2.ensures) in
-    passes c.args.geometry.now c.args.roles.now c.args.old.now c.args.new.now c.args.n c.args.covered _ c.requires.before (λ differs. absurd (differs same))
+    let same : get_or c.args.image.now c.args.n 0 ≡ get_or c.args.other.now c.args.n 0 = sym c.byte.ensures ∙ (c.if-byte.true ∙ c.byte-2.ensures) in
+    passes c.args.geometry.now c.args.roles.now c.args.image.now c.args.other.now c.args.n c.args.covered _ c.requires.before (λ differs. absurd (differs same))
 
 pub overflow_add-result : goal.overflow_add-result
 overflow_add-result c =
@@ -118,14 +118,14 @@ pub returns : goal.returns
 returns c =
     let g = c.args.geometry.now in
     let t = c.args.roles.now in
-    let old = c.args.old.now in
+    let old = c.args.image.now in
     let n = c.args.n in
     let found = c.args.found.now.items in
     let f = field_at g t (length old) n in
-    let differs : Differs old c.args.new.now n =
+    let differs : Differs old c.args.other.now n =
     λ same. c.if-byte.false (c.byte.ensures ∙ (same ∙ sym c.byte-2.ensures)) in
     let is : c.field_at-field.result ≡ f = c.field_at-field.ensures.exact in
     let items : c.push.new.self.items ≡ found ++ c.field_at-field.result ∷ [] = c.in_ok-push.ensures.items in
-    subst (λ xs. ListsUpTo g t old c.args.new.now (n + 1) (c.field_at-field.result.spot.start + c.field_at-field.result.spot.bytes) xs) (sym items)
-    (subst (λ (x : Field). ListsUpTo g t old c.args.new.now (n + 1) (x.spot.start + x.spot.bytes) (found ++ x ∷ [])) (sym is)
-    (adds g t old c.args.new.now n c.args.covered found c.requires.fits c.requires.within differs c.if-n-covered.false c.requires.before))
+    subst (λ xs. ListsUpTo g t old c.args.other.now (n + 1) (c.field_at-field.result.spot.start + c.field_at-field.result.spot.bytes) xs) (sym items)
+    (subst (λ (x : Field). ListsUpTo g t old c.args.other.now (n + 1) (x.spot.start + x.spot.bytes) (found ++ x ∷ [])) (sym is)
+    (adds g t old c.args.other.now n c.args.covered found c.requires.fits c.requires.within differs c.if-n-covered.false c.requires.before))

@@ -1,4 +1,4 @@
-use Rattle.std.proofs.Common.{◌≡◌, ◌∙◌, ◌+◌, ◌-◌, suc, refl, sym, ap, arith, true, false}
+use Rattle.std.proofs.Common.{◌≡◌, ◌∙◌, ◌+◌, ◌-◌, suc, sym, ap, arith, true, false}
 use Rattle.vol_fields.specs.Rows.{array_end, is_zero_item}
 use Rattle.vol_fields.proofs.RowLaws.{array_ends, array_goes_on}
 use Rattle.vol_fields.proofs.rows.array_end.Goals as goal

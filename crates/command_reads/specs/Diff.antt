@@ -1,0 +1,61 @@
+-- The command that shows the fields in which two images differ.
+use Rattle.std.specs.Prelude.{◌≡◌, ◌↔◌, ◌⊎◌, ℕ, ◌==◌, Bool, if◌then◌else◌, List, [], ◌++◌, codes, decimal, length, Some, Result, Ok, Err}
+use Rattle.escaped_text.specs.Escape.{escaped}
+use Rattle.vol_layout.specs.Geometry.{geometry_read}
+use Rattle.vol_layout.specs.declared.edition.Edition.{Edition}
+use Rattle.vol_layout.specs.declared.geometry.Geometry.{Geometry}
+use Rattle.vol_layout.specs.declared.geometry.GeometryFault.{GeometryFault}
+use Rattle.vol_fields.specs.Differences.{IsDiffText}
+use Rattle.command_faults.specs.Faults.{fault_line, fault_status, no_memory}
+use Rattle.command_faults.specs.Streams.{Streams}
+use Rattle.command_faults.specs.declared.fault.Fault.{Fault}
+use Rattle.command_reads.specs.Dump.{all_roles}
+use Rattle.command_reads.specs.Faults.{broken_rule}
+use Rattle.command_reads.specs.Print.{IsTold, PrintsWith}
+use Rattle.command_reads.specs.declared.diff.NamedImage.{NamedImage}
+
+-- the text is the differences between two images with these geometries, by the roles that their blocks have in them (this project)
+abbrev pub IsMappedText : Geometry → List ℕ → Geometry → List ℕ → Bool → List ℕ → Type 0
+IsMappedText g old h new all text = IsDiffText g (all_roles g old) old h (all_roles h new) new all text
+
+-- the text is the differences between two images: by the laws of `vol_fields`, it is empty if and only if the images are equal byte for byte, and each
+-- byte that differs is in a field of a line (this project)
+abbrev pub IsDiff : Edition → List ℕ → List ℕ → Bool → List ℕ → Type 0
+IsDiff edition old new all text =
+    (g : Geometry) × (geometry_read edition old ≡ Ok g) × ((h : Geometry) × (geometry_read edition new ≡ Ok h) × IsMappedText g old h new all text)
+
+-- the start of the line of an image that breaks rule 1 or rule 2 (this project)
+unfoldable pub rule_start : GeometryFault → List ℕ
+rule_start why = codes "unixvol: unsound, rule " ++ (decimal (broken_rule why) ++ codes ": ")
+
+-- the line of an image that breaks rule 1 or rule 2, with the name of its file (this project)
+abbrev pub unmeasured_line : GeometryFault → List ℕ → List ℕ
+unmeasured_line why name = rule_start why ++ (escaped name ++ codes "\n")
+
+-- the fault of an image that breaks rule 1 or rule 2 (this project)
+abbrev pub IsUnmeasuredAt : GeometryFault → List ℕ → Fault → Type 0
+IsUnmeasuredAt why name fault = (fault_status fault ≡ 1) × (fault_line fault ≡ unmeasured_line why name)
+
+-- the image in a file of this name breaks rule 1 or rule 2 (this project)
+abbrev pub IsUnmeasuredImage : Edition → List ℕ → List ℕ → Fault → Type 0
+IsUnmeasuredImage edition image name fault = (why : GeometryFault) × (geometry_read edition image ≡ Err why) × IsUnmeasuredAt why name fault
+
+-- the reason why there are no differences: one of the images breaks rule 1 or rule 2, or memory ran out (this project)
+abbrev pub IsDiffFault : Edition → NamedImage → NamedImage → Fault → Type 0
+IsDiffFault edition old new fault =
+    IsUnmeasuredImage edition old.bytes.items old.name.now fault
+    ⊎ (IsUnmeasuredImage edition new.bytes.items new.name.now fault ⊎ (fault ≡ no_memory))
+
+-- the status after a text of differences: 0 if it is empty, otherwise 1 (diff)
+abbrev pub diff_status : List ℕ → ℕ
+diff_status text = if length text == 0 then 0 else 1
+
+-- the differences of two images are printed, or a fault is reported (this project)
+abbrev pub ShowsDiff : Edition → NamedImage → NamedImage → Bool → Streams → ℕ → Type 0
+ShowsDiff edition old new all streams status =
+    ((text : List ℕ) × IsDiff edition old.bytes.items new.bytes.items all text × PrintsWith (diff_status text) streams text status)
+    ⊎ ((fault : Fault) × IsDiffFault edition old new fault × IsTold streams fault status)
+
+-- the text of the differences is empty if and only if the images are equal byte for byte (this project's law)
+abbrev pub TellsNothingIfEqual : Type 0
+TellsNothingIfEqual = (edition : Edition) (old new : List ℕ) (all : Bool) (text : List ℕ) → IsDiff edition old new all text → (old ≡ new) ↔ (text ≡ [])

@@ -1,0 +1,149 @@
+//! `diff`: shows the fields in which two images differ.
+ghost use Rattle.std.specs.Prelude.{◌≡◌, ◌⊎◌, IfErr, IfOk, Ok};
+ghost use Rattle.std.specs.String.{string_bytes};
+ghost use Rattle.vol_layout.specs.Geometry.{Fits, geometry_read};
+ghost use Rattle.command_faults.specs.Faults.{no_memory};
+ghost use Rattle.command_reads.specs.Faults.{broken_rule};
+ghost use Rattle.command_faults.specs.Streams.{streams, ErrorStream, Hears};
+ghost use Rattle.command_reads.specs.Diff.{IsDiff, IsDiffFault, IsMappedText, IsUnmeasuredAt, IsUnmeasuredImage, ShowsDiff, diff_status, rule_start};
+
+use crate::print::print_with;
+use command_faults::status::DONE;
+use command_faults::{Ending, Fault};
+use escaped_text::push_escaped;
+use pdp_words::{Image, Sink};
+use std::alloc::{AllocError, Global};
+use vol_fields::{MappedImage, block_roles, diff_text};
+use vol_layout::{Edition, Geometry, GeometryFault};
+
+/// The status if two images differ.
+const DIFFERENT: u8 = 1;
+
+/// An image, and the name of its file.
+#[derive(Drop)]
+pub struct NamedImage<'a> {
+    /// The path of the file.
+    pub name: &'a str,
+    /// The bytes of the image.
+    pub bytes: Vec<u8>,
+}
+
+/// Shows the fields in which two images differ, one line each; with `all` also those of an array that are one line otherwise. The images must keep
+/// rules 1 and 2, and may be any bytes otherwise. The status is 0 if they are equal, 1 if they differ or one of them breaks one of these rules; 3 if
+/// `output` failed, 4 if memory ran out.
+///
+/// Takes the time and the memory of [`block_roles`] for each image, and memory for the text and the fields that differ.
+pub fn show_diff<O: Sink>(
+    alloc: Global,
+    edition: Edition,
+    old: NamedImage<'_>,
+    new: NamedImage<'_>,
+    all: bool,
+    output: &mut O,
+) -> Ending
+    ensures { (errors : ErrorStream) → Hears errors result.fault
+        → ShowsDiff edition old.entry new.entry all (streams O.contents O.failed output.old output.new errors) result.status }
+{
+    match named_text(alloc, edition, old, new, all) {
+        Ok(text) => print_with(&text, diff_status(&text), output),
+        Err(fault) => Ending::from(fault),
+    }
+}
+
+/// Returns the status of a text of differences: 0 if it is empty.
+fn diff_status(text: &[u8]) -> u8
+    ensures { result ≡ diff_status text.now }
+{
+    if text.is_empty() { DONE } else { DIFFERENT }
+}
+
+/// Returns the text of the differences between two images.
+fn named_text(
+    alloc: Global,
+    edition: Edition,
+    old: NamedImage<'_>,
+    new: NamedImage<'_>,
+    all: bool,
+) -> Result<Vec<u8>, Fault>
+    ensures text { IfOk result (λ text. IsDiff edition old.entry.bytes.items new.entry.bytes.items all text.items) }
+    ensures fault { IfErr result (IsDiffFault edition old.entry new.entry) }
+{
+    let before = Image::from_bytes(old.bytes);
+    let after = Image::from_bytes(new.bytes);
+    let first = measured(alloc, edition, &before, old.name)?;
+    let second = measured(alloc, edition, &after, new.name)?;
+    Ok(mapped_text(alloc, &before, &first, &after, &second, all)?)
+}
+
+/// Returns the geometry of the image in a file of this name.
+fn measured(alloc: Global, edition: Edition, image: &Image, name: &str) -> Result<Geometry, Fault>
+    ensures read { IfOk result (λ geometry. geometry_read edition image.now ≡ Ok geometry) }
+    ensures fits { IfOk result (λ geometry. Fits geometry image.now) }
+    ensures fault { IfErr result (λ fault. IsUnmeasuredImage edition image.now name.now fault ⊎ (fault ≡ no_memory)) }
+{
+    match Geometry::read(edition, image) {
+        Ok(geometry) => Ok(geometry),
+        Err(why) => Err(unmeasured_at(alloc, why, name)?),
+    }
+}
+
+/// Returns the text of the differences between two images whose geometries were read.
+fn mapped_text(
+    alloc: Global,
+    old: &Image,
+    old_geometry: &Geometry,
+    new: &Image,
+    new_geometry: &Geometry,
+    all: bool,
+) -> Result<Vec<u8>, AllocError>
+    requires old_fits { Fits old_geometry.now old.now }
+    requires new_fits { Fits new_geometry.now new.now }
+    ensures { IfOk result (λ text. IsMappedText old_geometry.now old.now new_geometry.now new.now all text.items) }
+{
+    let old_roles = block_roles(alloc, old, old_geometry)?;
+    let new_roles = block_roles(alloc, new, new_geometry)?;
+    let before = MappedImage {
+        image: old,
+        geometry: old_geometry,
+        roles: &old_roles,
+    };
+    let after = MappedImage {
+        image: new,
+        geometry: new_geometry,
+        roles: &new_roles,
+    };
+    diff_text(alloc, &before, &after, all)
+}
+
+/// Returns the fault of an image that breaks rule 1 or rule 2, whose line names the file.
+fn unmeasured_at(alloc: Global, why: GeometryFault, name: &str) -> Result<Fault, AllocError>
+    ensures { IfOk result (λ fault. IsUnmeasuredAt why name.now fault) }
+{
+    let start = rule_start(alloc, why)?;
+    let mut lines = Vec::from_slice(alloc, start.as_bytes())?;
+    push_escaped(&mut lines, name.as_bytes())?;
+    lines.push(b'\n')?;
+    Ok(Fault::Worded {
+        rule: Some(broken_rule(why)),
+        lines,
+    })
+}
+
+/// Returns the start of the line of an image that breaks rule 1 or rule 2.
+#[tactic(auto, unfolding(crate::specs::Diff::rule_start))]
+fn rule_start(alloc: Global, why: GeometryFault) -> Result<String, AllocError>
+    ensures { IfOk result (λ text. string_bytes text ≡ rule_start why) }
+{
+    let rule = broken_rule(why);
+    format!(in alloc; "unixvol: unsound, rule {rule}: ")
+}
+
+/// Returns the rule that a volume's sizes break.
+fn broken_rule(why: GeometryFault) -> u8
+    ensures { result ≡ broken_rule why }
+{
+    match why {
+        GeometryFault::Short => 1,
+        GeometryFault::Bounds => 2,
+    }
+}

@@ -3,18 +3,17 @@ ghost use Rattle.command_faults.specs.Outcomes.{IsAmong, Concludes};
 ghost use Rattle.command_faults.specs.Streams.{heard, streams};
 ghost use Rattle.command_changes.specs.Changes.{changed};
 
-use crate::calls::make;
 use crate::changes::Change;
-use crate::chmod::chmod_call;
-use crate::chown::chown_call;
+use crate::chmod::chmod;
+use crate::chown::chown;
 use crate::import::import_archive;
 use crate::kept::GivenFile;
-use crate::ln::link_call;
-use crate::mkdir::{mkdir_all, mkdir_call};
+use crate::ln::ln;
+use crate::mkdir::{mkdir, mkdir_all};
 use crate::mv::mv;
 use crate::put::put;
-use crate::rm::{rm_all, unlink_call};
-use crate::rmdir::rmdir_call;
+use crate::rm::{rm, rm_all};
+use crate::rmdir::rmdir;
 use crate::salvage::salvage;
 use crate::touch::touch;
 use command_faults::answer::{conclude, tell, unremarked};
@@ -69,37 +68,17 @@ pub fn perform(
         Change::Mv { from, to, now } => mv(alloc, edition, image, from, to, now),
         Change::Touch { path, now } => touch(alloc, edition, image, path, now),
         Change::Salvage => salvage(alloc, edition, image),
-        Change::Rm { path, now } => make(alloc, edition, image, unlink_call(alloc, path, now)),
-        Change::Rmdir { path, now } => make(alloc, edition, image, rmdir_call(alloc, path, now)),
-        Change::Mkdir { path, now } => make(
-            alloc,
-            edition,
-            image,
-            mkdir_call(alloc, path.as_bytes(), now),
-        ),
-        Change::Ln { from, to, now } => make(
-            alloc,
-            edition,
-            image,
-            link_call(alloc, from, to, now),
-        ),
-        Change::Chmod { path, perm, now } => make(
-            alloc,
-            edition,
-            image,
-            chmod_call(alloc, path, perm, now),
-        ),
+        Change::Rm { path, now } => rm(alloc, edition, image, path, now),
+        Change::Rmdir { path, now } => rmdir(alloc, edition, image, path, now),
+        Change::Mkdir { path, now } => mkdir(alloc, edition, image, path, now),
+        Change::Ln { from, to, now } => ln(alloc, edition, image, from, to, now),
+        Change::Chmod { path, perm, now } => chmod(alloc, edition, image, path, perm, now),
         Change::Chown {
             path,
             uid,
             gid,
             now,
-        } => make(
-            alloc,
-            edition,
-            image,
-            chown_call(alloc, path, Cred { uid, gid }, now),
-        ),
+        } => chown(alloc, edition, image, path, Cred { uid, gid }, now),
     };
     unremarked(alloc, made)
 }

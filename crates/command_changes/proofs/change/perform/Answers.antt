@@ -1,11 +1,9 @@
-use Rattle.std.proofs.Common.{◌≡◌, ℕ, List, IfOk, subst}
 use Rattle.command_faults.proofs.Concluded.{among}
 use Rattle.command_changes.proofs.CallsMade.{leaving}
 use Rattle.command_changes.proofs.Imported.{archive_among}
 use Rattle.command_changes.proofs.MadeDirectories.{directories_leave, directory_leaves}
 use Rattle.command_changes.proofs.MovedNames.{move_leaves}
 use Rattle.command_changes.proofs.PutBytes.{put_leaves}
-use Rattle.command_changes.specs.Mkdir.{mkdir_call}
 use Rattle.command_changes.proofs.change.perform.Goals as goal
 use Rattle.command_changes.proofs.change.perform.Goals.{in-Put, in-RmAll, in-MkdirAll, in-Mv, in-Touch, in-Salvage, in-Rm, in-Rmdir, in-Mkdir, in-Ln, in-Chmod, in-Chown}
 
@@ -24,14 +22,11 @@ returns c = elim c.match-change.branch [
       rw w.in-Mv.is (among _ _ _ _ _ w.made-is (leaving _ _ _ (λ bytes makes. move_leaves _ _ bytes _ _ _ makes) w.mv-made.ensures.made) w.mv-made.ensures.fault c.unremarked.ensures)
   | in-Touch w ↦ rw w.in-Touch.is (among _ _ _ _ _ w.made-is w.touch-made.ensures.made w.touch-made.ensures.fault c.unremarked.ensures)
   | in-Salvage w ↦ rw w.in-Salvage.is (among _ _ _ _ _ w.made-is w.salvage-made.ensures.salvaged w.salvage-made.ensures.fault c.unremarked.ensures)
-  | in-Rm w ↦ rw w.in-Rm.is (among _ _ _ _ _ w.made-is (w.make-made.ensures.made _ w.unlink_call.ensures) (w.make-made.ensures.fault _ w.unlink_call.ensures) c.unremarked.ensures)
-  | in-Rmdir w ↦ rw w.in-Rmdir.is (among _ _ _ _ _ w.made-is (w.make-made-in-Rmdir.ensures.made _ w.rmdir_call.ensures) (w.make-made-in-Rmdir.ensures.fault _ w.rmdir_call.ensures) c.unremarked.ensures)
+  | in-Rm w ↦ rw w.in-Rm.is (among _ _ _ _ _ w.made-is w.rm-made.ensures.made w.rm-made.ensures.fault c.unremarked.ensures)
+  | in-Rmdir w ↦ rw w.in-Rmdir.is (among _ _ _ _ _ w.made-is w.rmdir-made.ensures.made w.rmdir-made.ensures.fault c.unremarked.ensures)
   | in-Mkdir w ↦
-      let wanted = mkdir_call w.in-Mkdir.now w.in-Mkdir.path.now in
-      let asked = subst (λ (path : List ℕ). IfOk w.mkdir_call.result (λ call. call ≡ mkdir_call w.in-Mkdir.now path)) w.as_bytes.ensures.value w.mkdir_call.ensures in
-      rw w.in-Mkdir.is (among _ _ _ _ _ w.made-is (leaving _ _ _ (λ bytes makes. directory_leaves _ _ bytes _ _ makes) (w.make-made-in-Mkdir.ensures.made wanted asked))
-      (w.make-made-in-Mkdir.ensures.fault wanted asked) c.unremarked.ensures)
-  | in-Ln w ↦ rw w.in-Ln.is (among _ _ _ _ _ w.made-is (w.make-made-in-Ln.ensures.made _ w.link_call.ensures) (w.make-made-in-Ln.ensures.fault _ w.link_call.ensures) c.unremarked.ensures)
-  | in-Chmod w ↦ rw w.in-Chmod.is (among _ _ _ _ _ w.made-is (w.make-made-in-Chmod.ensures.made _ w.chmod_call.ensures) (w.make-made-in-Chmod.ensures.fault _ w.chmod_call.ensures) c.unremarked.ensures)
-  | in-Chown w ↦ rw w.in-Chown.is (among _ _ _ _ _ w.made-is (w.make-made-in-Chown.ensures.made _ w.chown_call.ensures) (w.make-made-in-Chown.ensures.fault _ w.chown_call.ensures) c.unremarked.ensures)
+      rw w.in-Mkdir.is (among _ _ _ _ _ w.made-is (leaving _ _ _ (λ bytes makes. directory_leaves _ _ bytes _ _ makes) w.mkdir-made.ensures.made) w.mkdir-made.ensures.fault c.unremarked.ensures)
+  | in-Ln w ↦ rw w.in-Ln.is (among _ _ _ _ _ w.made-is w.ln-made.ensures.made w.ln-made.ensures.fault c.unremarked.ensures)
+  | in-Chmod w ↦ rw w.in-Chmod.is (among _ _ _ _ _ w.made-is w.chmod-made.ensures.made w.chmod-made.ensures.fault c.unremarked.ensures)
+  | in-Chown w ↦ rw w.in-Chown.is (among _ _ _ _ _ w.made-is w.chown-made.ensures.made w.chown-made.ensures.fault c.unremarked.ensures)
 ]

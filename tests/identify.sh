@@ -32,8 +32,16 @@ for row in 'six 6' 'seven 7'; do
     looks cut.img 'looks like nothing that unixvol knows'
     for before in 1 3 200; do
         { head -c $((512 * before)) /dev/zero | tr '\0' y && cat "$name.img"; } > pack.img
-        looks pack.img "looks like a larger pack: at block $before begins $volume"
+        {
+            echo 'pack.img: looks like a larger pack'
+            echo "  at 0: $before blocks of other bytes"
+            echo "  at $before: $volume, sound: unixvol ls $edition pack.img --at $before"
+        } > lines
+        prints lines identify pack.img
     done
+    # A pipe isn't searched further, and a volume isn't found if a byte of it lacks.
+    cat pack.img | "$program" identify /dev/stdin > output 2> error
+    has 'a pack through a pipe' "0 /dev/stdin: looks like a larger pack: at block $before begins $volume" "$? $(cat output error)"
     head -c -1 pack.img > short.img
     looks short.img 'looks like nothing that unixvol knows'
     { head -c 100 /dev/zero | tr '\0' x && cat "$name.img"; } > moved.img
@@ -74,6 +82,16 @@ for format in ustar gnu pax v7; do
 done
 put archive 0 78
 looks archive 'looks like nothing that unixvol knows'
+# A volume is one, whatever its boot block has.
+for row in '1f8b' '504b0304' '425a68'; do
+    cp seven.img boot.img
+    put boot.img 0 "$row"
+    looks boot.img 'looks like a volume of edition 7, with 8 blocks, sound'
+done
+tar --format=ustar -cf archive text
+head -c 512 archive > boot.img
+tail -c +513 six.img >> boot.img
+looks boot.img 'looks like a volume of edition 6, with 8 blocks, sound'
 gzip -c six.img > packed
 looks packed 'looks packed by gzip'
 for row in 'bzip2 425a68' 'xz fd377a585a00' 'zstd 28b52ffd' 'zip 504b0304'; do
@@ -97,7 +115,7 @@ printf '%s\n' 'unixvol: cannot read missing' 'unixvol: cannot read .' > line
 runs identify missing six.img . text
 wants 'two that cannot be read' 3 lines line
 
-# No more of a file is read than its guess needs, and each line comes before the next file is read.
+# A guess takes no more memory than its file needs, and each line comes before the next file is read.
 by=', by its first 268435456 bytes'
 looks /dev/zero "looks empty: it has no bytes but zeros$by"
 body sparse 3000000000
@@ -107,7 +125,14 @@ put unknown 0 79
 looks unknown "looks like nothing that unixvol knows$by"
 { cat text && head -c 1018 /dev/zero && cat six.img; } > pack.img
 truncate -s 3000000000 pack.img
-looks pack.img "looks like a larger pack: at block 2 begins a volume of edition 6, with 8 blocks$by"
+{
+    echo 'pack.img: looks like a larger pack'
+    echo '  at 0: 2 blocks of other bytes'
+    echo '  at 2: a volume of edition 6, with 8 blocks, sound: unixvol ls 6 pack.img --at 2'
+    echo "  at 10: $((3000000000 / 512 - 10)) blocks of zeros"
+} > line
+(in_memory 100000 runs identify pack.img)
+wants 'a pack of 3 GB in 100 MB of memory' 0 line none
 cp six.img longer.img
 truncate -s 3000000000 longer.img
 printf '%s\n' 'six.img: looks like a volume of edition 6, with 8 blocks, sound' "sparse: looks empty: it has no bytes but zeros$by" \

@@ -47,6 +47,36 @@ looks_same() {
     wants "$command $* --at $at through a pipe" "$status" wanted line
 }
 
+# `identify` names each volume, what is between them, and the command to go on with; the first bytes of a pack don't hide its first volume.
+{
+    echo 'pack: looks like a larger pack'
+    echo '  at 0: a volume of edition 7, with 3000 blocks, sound: unixvol ls 7 pack'
+    echo "  at 3000: $((seventh - 3000)) blocks of zeros"
+    echo "  at $seventh: a volume of edition 7, with 8000 blocks, sound: unixvol ls 7 pack --at $seventh"
+    echo "  at $((seventh + 8000)): $((sixth - seventh - 8000)) blocks of zeros"
+    echo "  at $sixth: a volume of edition 6, with 1500 blocks, sound: unixvol ls 6 pack --at $sixth"
+    echo "  at $((sixth + 1500)): $((blocks - sixth - 1500)) blocks of other bytes"
+} > lines
+prints lines identify pack
+grep -o 'unixvol .*' lines | while read -r _ words; do
+    read -r -a given <<< "$words"
+    "$program" "${given[@]}" > output 2> error || echo "$words"
+done > output
+has 'the commands that identify names' '' "$(cat output)"
+sed 's/^pack/broken/; s/ls \([67]\) pack/ls \1 broken/' lines > line
+cp pack broken
+printf '\037\213' | dd of=broken conv=notrunc status=none
+prints line identify broken
+# What is inside a volume isn't looked at.
+cp second holder
+"$program" put 7 holder /image third 1003
+placed holder $seventh broken
+prints line identify broken
+printf '\005' | dd of=broken bs=1 seek=$((512 * sixth + 1026)) conv=notrunc status=none
+sed -i 's/, sound: unixvol ls 6/, which breaks rule 12: unixvol check 6/' line
+prints line identify broken
+rm broken holder
+
 cut_out pack $seventh 8000 cut
 saves 'the volume that was put into the pack' cut second
 for words in 'cat /d/body' 'cat 3' 'ls' 'ls /d --long' 'ls --slots' 'ls -R --json' 'get /d/body' 'find' 'find -g b*' 'export' 'sums' 'sums --json' 'inode /d/body' 'super' \

@@ -7,25 +7,36 @@ Example:
   unixvol identify pack.img other.img
 
 Each image has a line: its path, and what it looks like. That is a guess by a few bytes; nothing is changed. All
-other commands must be told the edition. The first of these that fits is printed:
+other commands must be told the edition. A file in which a volume begins after block 0 is a pack, and has lines:
 
+  PATH: looks like a larger pack
+    at K: a volume of edition N, with B blocks, sound: unixvol ls N PATH --at K
+    at K: a volume of edition N, with B blocks, which breaks rule R: unixvol check N PATH --at K
+    at K: C blocks of zeros
+    at K: C blocks of other bytes
+
+K is the first block of each part, and the command goes on with it. What is inside a volume isn't looked at. Of
+other files the first of these that fits is printed:
+
+  looks like a volume of edition N, with B blocks, sound
   looks empty: it has no bytes but zeros
   looks packed by NAME                               gzip, bzip2, xz, zstd or zip, by the first bytes
   looks like an archive of tar                       the first block is a header of POSIX, GNU tar or V7's tar
-  looks like a volume of edition N, with B blocks, sound
   looks like .., which breaks rule R                 the first that `unixvol check` says is broken
   looks like .., with each pair of bytes exchanged   `dd conv=swab` exchanges them again
   looks like a volume of ext2, ext3 or ext4
   looks like .., cut off after C                     only the first C blocks are there
-  looks like a larger pack: at block K begins ..     `dd skip=K count=B` copies this volume
+  looks like a larger pack: at block K begins ..     only of a pipe or a device, which isn't searched further
   looks like nothing that unixvol knows
 
 A volume has sizes that fit (rules 1 and 2), and a free list that can begin so or a root that is a directory. One
-that is swapped, cut off or further on has all three. If both editions fit, the sixth is named.
+that is swapped, cut off or further on has all three. If both editions fit, the sixth is named. What has all three
+at its beginning is a volume, whatever its first block has.
 
-At most 268435456 bytes of an image are read; or, if a volume may begin it, that volume and one block more. If the
-bytes after them could change the guess, its line ends with `, by its first 268435456 bytes`. Each line is printed
-before the next image is read.
+A regular file is searched for volumes to its end; then each volume is read, one at a time. The guess is by at most
+268435456 bytes; or, if a volume may begin them, by that volume and one block more. If the bytes after them could
+change the guess, its line ends with `, by its first 268435456 bytes`. All lines of an image are printed before
+the next one is read.
 
 Status, the greatest if there are several:
   0  all images were read

@@ -193,7 +193,7 @@ get 7 disk --output= /d/f | invalid value '' for '<FOLDER>': it is empty
 put 7 disk /d/f | no value for '<FILE>': a file is missing
 put 7 disk /d/f a notamoment | invalid value 'notamoment' for '<NOW>': not a decimal number from 0
 put 7 disk /d/f a 8 b | invalid value 'b' for '<MORE>': several files need -t DIR
-mkfs 7 disk rk06 | invalid value 'rk06' for '<FSIZE>': not a decimal number from 0 to 4294967295, nor rk05
+mkfs 7 disk ra81 | invalid value 'ra81' for '<FSIZE>': not a decimal number from 0 to 4294967295, nor rk05
 mkfs 7 disk rk05 x | invalid value 'x' for '<IBLOCKS>'
 mkfs 7 disk rk05 5 65536 | invalid value '65536' for '<UID>'
 put 7 disk -t /d | <FILE>
@@ -312,6 +312,13 @@ done << 'END'
 7 rk05 4872 196
 7 rl02 20480 821
 7 rp03 81200 3250
+6 rk06 27126 387
+7 rk07 53790 2153
+7 RM03 131680 5269
+7 rp04 171798 6873
+7 Rp06 340670 8189
+6 rx01 500 11
+7 RX02 1001 42
 7 20 20 3
 END
 dated 'mkfs without words' clock

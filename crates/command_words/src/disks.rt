@@ -16,20 +16,32 @@ pub(crate) fn blocks_of(text: &str) -> Option<u32>
     }
 }
 
-/// Returns the number of 512-byte blocks of the disk with this name.
+/// Returns the number of 512-byte blocks of the disk with this name, in letters of either case.
 fn disk_blocks(name: &str) -> Option<u32>
     ensures { result ≡ disk_blocks name.now }
 {
-    if name == "rk05" {
+    if name.eq_ignore_ascii_case("rk05") {
         Some(4_872)
-    } else if name == "rl01" {
+    } else if name.eq_ignore_ascii_case("rk06") {
+        Some(27_126)
+    } else if name.eq_ignore_ascii_case("rk07") {
+        Some(53_790)
+    } else if name.eq_ignore_ascii_case("rl01") {
         Some(10_240)
-    } else if name == "rl02" {
+    } else if name.eq_ignore_ascii_case("rl02") {
         Some(20_480)
-    } else if name == "rp03" {
+    } else if name.eq_ignore_ascii_case("rm03") {
+        Some(131_680)
+    } else if name.eq_ignore_ascii_case("rp03") {
         Some(81_200)
-    } else if name == "rp06" {
+    } else if name.eq_ignore_ascii_case("rp04") {
+        Some(171_798)
+    } else if name.eq_ignore_ascii_case("rp06") {
         Some(340_670)
+    } else if name.eq_ignore_ascii_case("rx01") {
+        Some(500)
+    } else if name.eq_ignore_ascii_case("rx02") {
+        Some(1_001)
     } else {
         None
     }

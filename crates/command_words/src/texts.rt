@@ -106,9 +106,10 @@ user and group numbers go up to 255. In the seventh edition the i-list has 1 to 
 volume has at most 16777216 blocks, and user and group numbers go up to 32767. The first two blocks and the root's
 block are needed too, so FSIZE is at least IBLOCKS + 3.
 
-The name of a disk stands for all of its blocks: 4,872 for rk05, 10,240 for rl01, 20,480 for rl02, 81,200 for rp03
-and 340,670 for rp06. The last two are too large for the sixth edition. Its root disk, an RK05, held a volume of
-4,000 blocks, and the rest was swap space.
+The name of a disk, in letters of either case, stands for all of its blocks: 4,872 for rk05, 27,126 for rk06, 53,790
+for rk07, 10,240 for rl01, 20,480 for rl02, 131,680 for rm03, 81,200 for rp03, 171,798 for rp04, 340,670 for rp06, 500
+for rx01 and 1,001 for rx02. An rm03, rp03, rp04 or rp06 is too large for the sixth edition. Its root disk, an RK05,
+held a volume of 4,000 blocks, and the rest was swap space.
 
 If IBLOCKS is left out, it is FSIZE / (43 + FSIZE / 1000) in the sixth edition, as its mkfs computed it, and
 FSIZE / 25, at most 8187, in the seventh. Quotients are rounded down, and IBLOCKS is at least 1.
@@ -130,13 +131,13 @@ pub const BLOCKS: &str = "The size of the volume, in blocks of 512 bytes";
 pub const LIST_BLOCKS: &str = "The size of the i-list, in blocks";
 
 pub const DISK_BLOCKS: &str =
-    "The size of the volume, in blocks of 512 bytes, or a disk: rk05, rl01, rl02, rp03 or rp06";
+    "The size of the volume, in blocks of 512 bytes, or the name of a disk, such as rk05";
 
 pub const MADE_LIST_BLOCKS: &str =
     "The size of the i-list, in blocks; by default, what mkfs of the edition chose";
 
 pub const BLOCKS_OR_DISK: &str =
-    "not a decimal number from 0 to 4294967295, nor rk05, rl01, rl02, rp03 or rp06";
+    "not a decimal number from 0 to 4294967295, nor rk05, rk06, rk07, rl01, rl02, rm03, rp03, rp04, rp06, rx01 or rx02";
 
 pub const UID: &str = "The root directory's user; by default, 0";
 

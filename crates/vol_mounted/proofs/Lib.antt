@@ -14,3 +14,4 @@ pub mod Stores
 pub mod TurnLaws
 pub mod Upwards
 pub mod WrittenBytes
+pub mod WrittenFiles

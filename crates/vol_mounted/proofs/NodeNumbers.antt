@@ -56,7 +56,7 @@ same_stays old new before after volume nodes = record {
 }
 
 -- the calls of a plan are those of the operation
-planned_calls : (server : MountedServer) (now : ℕ) (header : Header) (operation : Operation) (all : List Call) → planned server now header operation ≡ Ok all
+pub planned_calls : (server : MountedServer) (now : ℕ) (header : Header) (operation : Operation) (all : List Call) → planned server now header operation ≡ Ok all
     → calls_of (sight_at server now) header operation ≡ Ok all
 planned_calls server now header operation all =
     by (calls_of (sight_at server now) header operation) (nat_lt (spare_in server) (lost_bytes (sight_at server now) header operation))

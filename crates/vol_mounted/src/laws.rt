@@ -1,7 +1,12 @@
 //! Laws of a mounted volume. The functions do nothing; their proved contracts are the laws.
-ghost use Rattle.vol_mounted.specs.Laws.{NumbersStayApart};
+ghost use Rattle.vol_mounted.specs.Laws.{NumbersStayApart, WritesAreRead};
 
 /// A node number is never used for two nodes that live at different times, unless its i-number was allocated 2^32 - 2 times.
 pub fn numbers_stay_apart()
     ensures { NumbersStayApart }
+{}
+
+/// After WRITE, READ gives the bytes that were written, and everywhere else what it gave before; no other node changes.
+pub fn writes_are_read()
+    ensures { WritesAreRead }
 {}

@@ -98,7 +98,7 @@ values_given clock given (invocations.Change volume (changes.Touch path now)) is
 values_given clock given (invocations.Salvage volume None) is = (edition_value volume.edition _ is.0.0, (tt, (at_value volume.at _ is.0.2, (tt, (tt, tt)))))
 values_given clock given (invocations.Salvage volume (Some copy)) is = (edition_value volume.edition _ is.0.0, (tt, (at_value volume.at _ is.0.2, (tt, (tt, tt)))))
 values_given clock given (invocations.Change volume changes.Salvage) is = (edition_value volume.edition _ is.0.0, (tt, (at_value volume.at _ is.0.2, (tt, (tt, tt)))))
-values_given clock given (invocations.Look volume (looks.Export path options)) is = (edition_value volume.edition _ is.0.0, (tt, (at_value volume.at _ is.0.2, (tt, (tt, (tt, tt))))))
+values_given clock given (invocations.Look volume (looks.Export path options)) is = (edition_value volume.edition _ is.0.0, (tt, (at_value volume.at _ is.0.2, (tt, (tt, (tt, (tt, (tt, tt))))))))
 values_given clock given (invocations.Look volume (looks.Sums path form lost)) is = (edition_value volume.edition _ is.0.0, (tt, (at_value volume.at _ is.0.2, (tt, (tt, (tt, tt))))))
 values_given clock given (invocations.Look volume (looks.Inode node form)) is = (edition_value volume.edition _ is.0.0, (tt, (at_value volume.at _ is.0.2, (node_value node _ is.1.0, (tt, tt)))))
 values_given clock given (invocations.Look volume (looks.Super form)) is = (edition_value volume.edition _ is.0.0, (tt, (at_value volume.at _ is.0.2, (tt, tt))))

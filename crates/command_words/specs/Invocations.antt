@@ -336,7 +336,8 @@ IsRadixGiven given radixes.Octal = is_set (given (codes "octal")) ≡ true
 -- the words describe this part of an image (this project)
 abbrev pub IsLookGiven : Words → Look → Type 0
 IsLookGiven given (looks.Export path options) = (path.now ≡ the_word given (codes "PATH")) × (options.lost ≡ is_set (given (codes "lost")))
-    × (options.graded ≡ is_set (given (codes "status")))
+    × (options.graded ≡ is_set (given (codes "status"))) × (options.losses.cut ≡ is_set (given (codes "cut")))
+    × (options.losses.damaged ≡ is_set (given (codes "damaged")))
 IsLookGiven given (looks.Sums path form lost) = (path.now ≡ the_word given (codes "PATH")) × IsFormGiven given form
     × (lost ≡ is_set (given (codes "lost")))
 IsLookGiven given (looks.Inode node form) = IsNodeGiven (the_word given (codes "INO")) node × IsFormGiven given form

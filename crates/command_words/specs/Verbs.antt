@@ -129,7 +129,8 @@ arguments_of verbs.Ls = on_volume (maybe_path ∷ lettered (codes "long") 108 �
     ∷ lettered (codes "directory") 100 ∷ option (codes "json") ∷ option (codes "slots") ∷ [])
 arguments_of verbs.Get = on_volume (word (codes "PATH") ∷ more_words ∷ valued (codes "output") 111 values.Folder ∷ lettered (codes "preserve") 112 ∷ [])
 arguments_of verbs.Find = on_volume (maybe_path ∷ valued (codes "name") 103 values.Pattern ∷ option (codes "lost") ∷ [])
-arguments_of verbs.Export = on_volume (maybe_path ∷ option (codes "lost") ∷ option (codes "status") ∷ [])
+arguments_of verbs.Export =
+    on_volume (maybe_path ∷ option (codes "lost") ∷ option (codes "cut") ∷ option (codes "damaged") ∷ option (codes "status") ∷ [])
 arguments_of verbs.Sums = on_volume (maybe_path ∷ option (codes "lost") ∷ option (codes "json") ∷ [])
 arguments_of verbs.Inode = on_volume (node ∷ option (codes "json") ∷ [])
 arguments_of verbs.Super = on_volume (option (codes "json") ∷ [])

@@ -406,6 +406,20 @@ const EXPORT_GRADED: Parameter = Parameter {
     help: texts::export::GRADED,
 };
 
+const CUT: Parameter = Parameter {
+    name: "cut",
+    kind: WordKind::Flag,
+    need: Need::Flag(None),
+    help: texts::export::CUT,
+};
+
+const DAMAGED: Parameter = Parameter {
+    name: "damaged",
+    kind: WordKind::Flag,
+    need: Need::Flag(None),
+    help: texts::export::DAMAGED,
+};
+
 const CHECK_GRADED: Parameter = Parameter {
     name: "status",
     kind: WordKind::Flag,
@@ -688,7 +702,16 @@ pub static IMPORT_WORDS: [Parameter; 7] = [
 ];
 
 /// The words that `export` takes.
-pub static EXPORT_WORDS: [Parameter; 6] = [EDITION, IMAGE, AT, BELOW, LOST, EXPORT_GRADED];
+pub static EXPORT_WORDS: [Parameter; 8] = [
+    EDITION,
+    IMAGE,
+    AT,
+    BELOW,
+    LOST,
+    CUT,
+    DAMAGED,
+    EXPORT_GRADED,
+];
 
 /// The words that `sums` takes.
 pub static SUMS_WORDS: [Parameter; 6] = [EDITION, IMAGE, AT, SUMMED, LOST, JSON];

@@ -17,7 +17,7 @@ use crate::several::{PutFiles, file_in, files_in, no_more, not_empty, nothing_ke
 use crate::texts;
 use crate::verbs::Verb;
 use command_changes::{Change, Keep, Migration};
-use command_reads::{ExportOptions, Look, OutputForm, Picture};
+use command_reads::{ExportOptions, Look, LossOptions, OutputForm, Picture};
 use std::alloc::Global;
 use vol_check::Checker;
 use vol_import::ImportOptions;
@@ -196,6 +196,10 @@ fn read_export<'a, G: Given<'a>>(given: &G) -> Result<Invocation<'a>, WordFault<
     let options = ExportOptions {
         lost: flag_in(given, "lost"),
         graded: flag_in(given, "status"),
+        losses: LossOptions {
+            cut: flag_in(given, "cut"),
+            damaged: flag_in(given, "damaged"),
+        },
     };
     Ok(Invocation::Look {
         volume,

@@ -7,6 +7,7 @@ pub const MORE: &str = "\
 Examples:
   unixvol export 7 disk.img /usr > usr.tar
   unixvol export --lost --status 7 damaged.img > all.tar
+  unixvol export --cut 7 cut-off.img > whole-files.tar
 
 A POSIX ustar archive is written to standard output: files, directories and special files, with their permissions,
 owners and times of modification. The second and further names of a file are links to the first. Members are
@@ -29,6 +30,18 @@ still out of reach, as in a ring of directories that name only one another, the 
 same way, and so on. So if PATH is the root, every i-node of a known kind is exported. If the root is no directory,
 these are all that is exported: names are known only below them. A root that is a file has its number too.
 
+With --cut, the image may be shorter than its volume, as after a transfer that broke off; its first 1024 bytes must be
+there. A block that isn't wholly there is lost. What is exported is right, whatever the lost blocks held: a file of
+which something is lost is left out, or with --damaged written with zeros in place of the lost bytes. If blocks are
+lost, the lines on standard error say what is lost, and no more:
+  unixvol: 3994 of 4872 blocks are lost
+  unixvol: i-nodes 17 to 24 are lost
+  unixvol: usr: names may be missing: 512 of 1024 bytes are lost: 512-1023
+  unixvol: bin/ls: i-node 17 is lost
+  unixvol: f4: 10400 of 100000 bytes are lost: 89600-99999
+A path through a directory with lost bytes may not be found, and with --lost files whose names are lost are below
+lost+found. A file that is left out may be whole in another copy of the image; nothing says that it isn't.
+
 Status:
   0  everything was exported, and the volume is sound
   1  everything that entries lead to was exported, except what standard error says; or nothing was exported:
@@ -37,14 +50,22 @@ Status:
      `unixvol: 2 NoEntry`: there is no such file or directory
      `unixvol: 20 NotDirectory`: PATH isn't a directory, or leads through something that isn't one. Of a root that
      isn't one, --lost exports what is left
+     with --cut: blocks are lost, but nothing is damaged or left out
   2  the command line is wrong
   3  `unixvol: cannot read IMAGE`, or `unixvol: cannot write -`: standard output failed, or is a terminal
   4  `unixvol: 12 NoMemory`
   5  with --status: something was left out, as standard error says; 1 then means that the volume isn't sound, but
      nothing was left out, or that PATH leads to no directory, and nothing was exported
-  6  with --status: rule 1 or 2 doesn't hold, so the image has no volume of this edition, and nothing was exported";
+     with --cut: something is damaged or left out, as standard error says
+  6  with --status: rule 1 or 2 doesn't hold, so the image has no volume of this edition, and nothing was exported
+     `unixvol: the image has 2 of 2000000 blocks`: more than 1048576 blocks are missing for --cut";
 
 pub const BELOW: &str = "The directory's path in the volume; by default, the root";
 
 pub const GRADED: &str =
     "Exit with status 5 if something isn't exported, and 6 if the image has no volume of this edition";
+
+pub const CUT: &str = "Read an image that was cut off, and export the files that are whole";
+
+pub const DAMAGED: &str =
+    "With --cut, export damaged files too, with zeros in place of the bytes that are lost";

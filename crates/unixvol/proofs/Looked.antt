@@ -1,6 +1,6 @@
 -- The end of a command that shows part of an image.
-use Rattle.std.proofs.Common.{◌≡◌, ℕ, ◌≤◌, ◌==◌, Bool, true, false, if◌then◌else◌, List, [], ◌∷◌, length, Option, Result, Ok, Err, inl, inr, sym, ap, subst, ◌∙◌, arith}
-use Rattle.std.proofs.lemmas.Bool.{ne_eqb}
+use Rattle.std.proofs.Common.{◌≡◌, ℕ, ◌≤◌, ◌==◌, ◌||◌, Bool, true, false, if◌then◌else◌, List, [], ◌∷◌, length, Option, Result, Ok, Err, inl, inr, refl, sym, ap, subst, ◌∙◌, arith}
+use Rattle.std.proofs.lemmas.Bool.{ne_eqb, true≢false}
 use Rattle.vol_archive.specs.declared.export_tree.ExportStart.{ExportStart}
 use Rattle.vol_archive.specs.declared.export_tree.StartFault.{StartFault}
 use Rattle.vol_archive.specs.declared.export_tree.StartFault.TheVariants as starts
@@ -13,7 +13,8 @@ use Rattle.std.specs.Result.{is_ok}
 use Rattle.vol_layout.specs.Geometry.{geometry_read}
 use Rattle.vol_layout.specs.declared.edition.Edition.{Edition}
 use Rattle.command_reads.specs.Check.{Checks, verdict_status}
-use Rattle.command_reads.specs.Export.{begun, ExportsBelow, ExportsFrom, ExportsTo, told_status, unstarted_status, whole, broken, short, unbegun}
+use Rattle.command_reads.specs.Export.{begun, Exports, ExportsBelow, ExportsFrom, ExportsTo, told_status, unstarted_status, whole, broken, short, unbegun}
+use Rattle.command_reads.specs.Losses.{IsReadAs, is_graded}
 use Rattle.command_reads.specs.declared.looks.ExportOptions.{ExportOptions}
 use Rattle.command_reads.specs.Inode.{ShowsFound, ShowsNumber}
 use Rattle.command_reads.specs.Node.{node_fault, number_of}
@@ -71,12 +72,30 @@ most_few : (graded : Bool) → 4 ≤ (if graded then 6 else 4)
 most_few true = omega arith
 most_few false = omega arith
 
--- the status of an export with remarks is at least 1, and at most 6 if it is graded, else 4
-told_few : (graded short : Bool) → (1 ≤ told_status graded short) × (told_status graded short ≤ (if graded then 6 else 4))
+-- the highest status of an export, graded or not, of an image that may be cut off or not
+abbrev most_of : Bool → Bool → ℕ
+most_of graded cut = if graded || cut then 6 else 4
+
+most_four : (graded cut : Bool) → 4 ≤ most_of graded cut
+most_four true cut = omega arith
+most_four false true = omega arith
+most_four false false = omega arith
+
+-- the status of an export with remarks is at least 1
+told_few : (graded short : Bool) → (1 ≤ told_status graded short) × (told_status graded short ≤ 6)
 told_few true true = (omega arith, omega arith)
 told_few true false = (omega arith, omega arith)
 told_few false true = (omega arith, omega arith)
 told_few false false = (omega arith, omega arith)
+
+-- it is at most 6 if it is graded or the image may be cut off, else 4
+told_within : (graded cut : Bool) (lost : List Bool) (left : Bool) → (cut ≡ false → lost ≡ [])
+    → (1 ≤ told_status (is_graded graded lost) left) × (told_status (is_graded graded lost) left ≤ most_of graded cut)
+told_within true cut lost left none = told_few (is_graded true lost) left
+told_within false true lost left none = told_few (is_graded false lost) left
+told_within false false lost left none =
+    subst (λ (marks : List Bool). (1 ≤ told_status (is_graded false marks) left) × (told_status (is_graded false marks) left ≤ 4)) (sym (none refl))
+    (omega arith, omega arith)
 
 -- an export that was written whole, and whose status is 0 if it has no remarks and `told` otherwise, satisfies `IsEndWithin`
 ends_lines : (most told : ℕ) (streams : Streams) (status : ℕ) (lines : List ℕ) → 1 ≤ told → told ≤ most → streams.failed ≡ streams.had_failed → streams.said lines
@@ -87,42 +106,68 @@ ends_lines most told streams status (line ∷ lines) least within working said i
     let one : status ≡ told = is ∙ ap (λ (b : Bool). if b then 0 else told) some in
     ends_badly most streams status (omega (arith, one, least)) (omega (arith, one, within))
 
--- the highest status of an export
-abbrev most_of : ExportOptions → ℕ
-most_of options = if options.graded then 6 else 4
+ends_below : (edition : Edition) (image : List ℕ) (lost : List Bool) (start : ExportStart) (options : ExportOptions) (streams : Streams) (status : ℕ)
+    → (options.losses.cut ≡ false → lost ≡ []) → ExportsBelow edition image lost start options streams status
+    → IsEndWithin (most_of options.graded options.losses.cut) streams status
+ends_below edition image lost start options streams status none (whole founds walk is) =
+    let few = told_within options.graded options.losses.cut lost is.short none in
+    ends_lines (most_of options.graded options.losses.cut) (told_status (is_graded options.graded lost) is.short) streams status is.lines few.0 few.1 is.working is.said is.status
+ends_below edition image lost start options streams status none (broken founds walk is) =
+    ends_broken (most_of options.graded options.losses.cut) streams _ status (most_four options.graded options.losses.cut) is
+ends_below edition image lost start options streams status none (short founds walk is) =
+    let few = most_four options.graded options.losses.cut in
+    ends_badly (most_of options.graded options.losses.cut) streams status (omega (arith, is.status)) (omega (arith, is.status, few))
+ends_below edition image lost start options streams status none (unbegun told) =
+    ends_told (most_of options.graded options.losses.cut) streams no_memory status (most_four options.graded options.losses.cut) told
 
-ends_below : (edition : Edition) (image : List ℕ) (start : ExportStart) (options : ExportOptions) (streams : Streams) (status : ℕ)
-    → ExportsBelow edition image start options streams status → IsEndWithin (most_of options) streams status
-ends_below edition image start options streams status (whole founds walk is) =
-    let few = told_few options.graded is.short in
-    ends_lines (most_of options) (told_status options.graded is.short) streams status is.lines few.0 few.1 is.working is.said is.status
-ends_below edition image start options streams status (broken founds walk is) = ends_broken (most_of options) streams _ status (most_few options.graded) is
-ends_below edition image start options streams status (short founds walk is) =
-    let few = most_few options.graded in
-    ends_badly (most_of options) streams status (omega (arith, is.status)) (omega (arith, is.status, few))
-ends_below edition image start options streams status (unbegun told) = ends_told (most_of options) streams no_memory status (most_few options.graded) told
-
-ends_to : (edition : Edition) (image : List ℕ) (start : ExportStart) (options : ExportOptions) (streams : Streams) (status : ℕ) (screen : Screen)
-    → ExportsTo edition image start options streams status screen → IsEndWithin (most_of options) streams status
-ends_to edition image start options streams status screens.Stream exports = ends_below edition image start options streams status exports
-ends_to edition image start options streams status (screens.Terminal columns colours) told =
-    ends_told (most_of options) streams _ status (most_few options.graded) told
+ends_to : (edition : Edition) (image : List ℕ) (lost : List Bool) (start : ExportStart) (options : ExportOptions) (streams : Streams) (status : ℕ) (screen : Screen)
+    → (options.losses.cut ≡ false → lost ≡ []) → ExportsTo edition image lost start options streams status screen
+    → IsEndWithin (most_of options.graded options.losses.cut) streams status
+ends_to edition image lost start options streams status screens.Stream none exports = ends_below edition image lost start options streams status none exports
+ends_to edition image lost start options streams status (screens.Terminal columns colours) none told =
+    ends_told (most_of options.graded options.losses.cut) streams _ status (most_four options.graded options.losses.cut) told
 
 -- the status of an export that can't start is at least 1, and at most 6 if it is graded, else 4
-unstarted_few : (graded : Bool) (fault : StartFault) → (1 ≤ unstarted_status graded fault) × (unstarted_status graded fault ≤ (if graded then 6 else 4))
-unstarted_few true (starts.Unsound fault) = (omega arith, omega arith)
-unstarted_few false (starts.Unsound fault) = (omega arith, omega arith)
-unstarted_few graded (starts.Refused refusal) =
+unstarted_few : (graded cut : Bool) (fault : StartFault) → (1 ≤ unstarted_status graded fault) × (unstarted_status graded fault ≤ most_of graded cut)
+unstarted_few true cut (starts.Unsound fault) = (omega arith, omega arith)
+unstarted_few false true (starts.Unsound fault) = (omega arith, omega arith)
+unstarted_few false false (starts.Unsound fault) = (omega arith, omega arith)
+unstarted_few graded cut (starts.Refused refusal) =
     let few = fault_few (faults.Refused refusal) in
-    let most = most_few graded in
+    let most = most_four graded cut in
     (few.0, omega (arith, few.1, most))
 
-ends_from : (edition : Edition) (image : List ℕ) (options : ExportOptions) (screen : Screen) (streams : Streams) (status : ℕ) (found : Result ExportStart StartFault)
-    → ExportsFrom edition image options screen streams status found → IsEndWithin (most_of options) streams status
-ends_from edition image options screen streams status (Ok start) exports = ends_to edition image start options streams status screen exports
-ends_from edition image options screen streams status (Err fault) told =
-    let few = unstarted_few options.graded fault in
-    ends_badly (most_of options) streams status (subst (λ n. 1 ≤ n) (sym told.status) few.0) (subst (λ n. n ≤ most_of options) (sym told.status) few.1)
+ends_from : (edition : Edition) (image : List ℕ) (lost : List Bool) (options : ExportOptions) (screen : Screen) (streams : Streams) (status : ℕ)
+    (found : Result ExportStart StartFault) → (options.losses.cut ≡ false → lost ≡ []) → ExportsFrom edition image lost options screen streams status found
+    → IsEndWithin (most_of options.graded options.losses.cut) streams status
+ends_from edition image lost options screen streams status (Ok start) none exports =
+    ends_to edition image lost start options streams status screen none exports
+ends_from edition image lost options screen streams status (Err fault) none told =
+    let few = unstarted_few options.graded options.losses.cut fault in
+    ends_badly (most_of options.graded options.losses.cut) streams status (subst (λ n. 1 ≤ n) (sym told.status) few.0)
+    (subst (λ n. n ≤ most_of options.graded options.losses.cut) (sym told.status) few.1)
+
+-- no block is lost of an image that may not be cut off
+none_lost : (cut : Bool) (edition : Edition) (bytes image : List ℕ) (lost : List Bool) → IsReadAs cut edition bytes image lost → cut ≡ false → lost ≡ []
+none_lost true edition bytes image lost read e = absurd (true≢false e)
+none_lost false edition bytes image lost read e = read.1
+
+-- an image that isn't completed is reported with status 6 at most
+incomplete_few : (graded cut : Bool) → cut ≡ true → 6 ≤ most_of graded cut
+incomplete_few true cut is = omega arith
+incomplete_few false true is = omega arith
+incomplete_few false false is = absurd (true≢false (sym is))
+
+ends_exports : (edition : Edition) (bytes path : List ℕ) (options : ExportOptions) (screen : Screen) (streams : Streams) (status : ℕ)
+    → Exports edition bytes path options screen streams status → IsEndWithin (most_of options.graded options.losses.cut) streams status
+ends_exports edition bytes path options screen streams status (inl (image, lost, read, exports)) =
+    ends_from edition image lost options screen streams status (begun options.lost edition image path)
+    (none_lost options.losses.cut edition bytes image lost read) exports
+ends_exports edition bytes path options screen streams status (inr (cut, inl (there, blocks, fault, is, line, told))) =
+    let most = incomplete_few options.graded options.losses.cut cut in
+    ends_badly (most_of options.graded options.losses.cut) streams status (omega (arith, told.status)) (omega (arith, told.status, most))
+ends_exports edition bytes path options screen streams status (inr (cut, inr told)) =
+    ends_told (most_of options.graded options.losses.cut) streams no_memory status (most_four options.graded options.losses.cut) told
 
 verdict_few : (graded measured sound : Bool) → verdict_status graded measured sound ≤ (if graded then 6 else 4)
 verdict_few true measured true = omega arith
@@ -169,7 +214,7 @@ ends_finds edition image path pattern lost screen streams status (inr (fault, is
 
 ends_looks : (edition : Edition) (image : List ℕ) (screen : Screen) (streams : Streams) (status : ℕ) (look : Look)
     → Looks edition image screen streams status look → IsEndWithin (highest_status look) streams status
-ends_looks edition image screen streams status (looks.Export path options) shows = ends_from edition image options screen streams status (begun options.lost edition image path.now) shows
+ends_looks edition image screen streams status (looks.Export path options) shows = ends_exports edition image path.now options screen streams status shows
 ends_looks edition image screen streams status (looks.Sums path form lost) shows = ends_sums edition image path.now form lost streams status shows
 ends_looks edition image screen streams status (looks.Inode node form) shows = ends_found edition image form streams status (number_of edition image node) shows
 ends_looks edition image screen streams status (looks.Super form) shows = ends_one _ _ streams status shows
@@ -185,7 +230,7 @@ ends_looks edition image screen streams status (looks.Slots path) shows = ends_o
 
 -- the highest status of a command is at least 4
 highest_few : (look : Look) → 4 ≤ highest_status look
-highest_few (looks.Export path options) = most_few options.graded
+highest_few (looks.Export path options) = most_four options.graded options.losses.cut
 highest_few (looks.Sums path form lost) = omega arith
 highest_few (looks.Inode node form) = omega arith
 highest_few (looks.Super form) = omega arith

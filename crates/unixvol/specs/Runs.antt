@@ -1,5 +1,5 @@
 -- The result of a run of the program, from the bytes that its files give.
-use Rattle.std.specs.Prelude.{All, length, nat_le, nat_lt, ◌≡◌, ◌≢◌, ◌⊎◌, ◌↔◌, ◌≤◌, ◌&&◌, ◌+◌, ◌*◌, ◌++◌, ◌∷◌, ℕ, false, true, List, [], Option, None, Some, IsSome, IfSome, Result, Ok, Err, IsErrAnd, Bool, if◌then◌else◌}
+use Rattle.std.specs.Prelude.{All, length, nat_le, nat_lt, ◌≡◌, ◌≢◌, ◌⊎◌, ◌↔◌, ◌≤◌, ◌&&◌, ◌||◌, ◌+◌, ◌*◌, ◌++◌, ◌∷◌, ℕ, false, true, List, [], Option, None, Some, IsSome, IfSome, Result, Ok, Err, IsErrAnd, Bool, if◌then◌else◌}
 use Rattle.std.specs.Io.KnownBytes.{Consumes, Keeps}
 use Rattle.std.specs.Result.{is_ok}
 use Rattle.clap.specs.Words.{kind_of}
@@ -452,9 +452,9 @@ pub record IsEndWithin (most : ℕ) (streams : Streams) (status : ℕ) : Type 0 
 abbrev pub IsEnd : Streams → ℕ → Type 0
 IsEnd streams status = IsEndWithin 4 streams status
 
--- the highest status of a command that shows part of an image: 6 if it is graded, 5 of `find`, else 4 (this project)
+-- the highest status of a command that shows part of an image: 6 if it is graded or the image may be cut off, 5 of `find`, else 4 (this project)
 abbrev pub highest_status : Look → ℕ
-highest_status (looks.Export path options) = if options.graded then 6 else 4
+highest_status (looks.Export path options) = if options.graded || options.losses.cut then 6 else 4
 highest_status (looks.Check graded form) = if graded then 6 else 4
 highest_status (looks.Sums path form lost) = 4
 highest_status (looks.Inode node form) = 4

@@ -11,6 +11,7 @@ use escaped_text::push_escaped;
 use std::alloc::{AllocError, Global};
 use vol_dir::Refusal;
 use vol_findings::{Rule, edition_number};
+use vol_layout::Edition;
 
 /// The meaning of NoMemory.
 pub const NO_MEMORY: &str = "there was too little memory for this";
@@ -25,6 +26,9 @@ const STORED_SPARSE: &str =
 
 /// The text for an export that wrote nothing.
 const NOTHING_EXPORTED: &str = "; nothing is exported";
+
+/// The text for an export that wrote nothing of a volume that was cut off.
+const NOT_CUT: &str = "; nothing is exported: add --cut to read what is there";
 
 /// The twelve rules of soundness, in the order of their numbers.
 static RULES: [Rule; 12] = [
@@ -133,11 +137,27 @@ fn rule_meaning(
         _ => String::from_str(alloc, "; `unixvol check` says what breaks it")?,
     };
     let end = match (rule, subject.verb) {
+        (Rule::Whole, Verb::Export) if is_cut_off(subject.edition, sizes) => NOT_CUT,
         (Rule::Whole | Rule::Bounded, Verb::Export) => NOTHING_EXPORTED,
         _ => "",
     };
     let text = format!(in alloc; "{image}: it breaks rule {number}, that {sentence}{more}{end}")?;
     Ok(Some(text))
+}
+
+/// True if an image with these sizes, which breaks rule 1, can be a volume of an edition that was cut off.
+fn is_cut_off(edition: Edition, sizes: Option<Sizes>) -> bool {
+    let Some(sizes) = sizes else {
+        return false;
+    };
+    let Some(said) = sizes.said else {
+        return false;
+    };
+    let is_other = match sizes.guess {
+        Some(guess) => sizes.other.is_some() || is_no_volume(guess),
+        None => sizes.other.is_some(),
+    };
+    !is_other && said <= edition.constants().block_limit
 }
 
 /// Describes the sizes in an image that breaks rule 1 or rule 2, and the edition that the image may belong to; or what its file holds, if that begins

@@ -36,7 +36,7 @@ _unixvol() {
         ls) kinds='edition file path' options='--at -l --long -R --recursive -d --directory --json --slots --explain -h --help' valued='--at=any' others='' ;;
         get) kinds='edition file path any...' options='--at -o --output -p --preserve --explain -h --help' valued='--at=any -o=file --output=file' others='edition file path...' ;;
         find) kinds='edition file path' options='--at -g --name --lost --explain -h --help' valued='--at=any -g=any --name=any' others='' ;;
-        export) kinds='edition file path' options='--at --lost --status --explain -h --help' valued='--at=any' others='' ;;
+        export) kinds='edition file path' options='--at --lost --cut --damaged --status --explain -h --help' valued='--at=any' others='' ;;
         sums) kinds='edition file path' options='--at --lost --json --explain -h --help' valued='--at=any' others='' ;;
         inode) kinds='edition file any' options='--at --json --explain -h --help' valued='--at=any' others='' ;;
         super) kinds='edition file' options='--at --json --explain -h --help' valued='--at=any' others='' ;;

@@ -90,7 +90,7 @@ UNIXVOL_EXPLAIN=0 refuses 1 $'unixvol: 2 NoEntry\nunixvol: /none: no file or dir
 # The sizes of a truncated image, and the other edition if its rules 1 and 2 hold. A pipe isn't read again.
 head -c 100000 disk.v7 > cut.v7
 explains 1 'unixvol: unsound, rule 1' 'unixvol: cut.v7: it breaks rule 1, that the image has all blocks of the volume: it has 195 blocks, its super-block says 400' super 7 cut.v7
-explains 1 'unixvol: unsound, rule 1' 'unixvol: cut.v7: it breaks rule 1, that the image has all blocks of the volume: it has 195 blocks, its super-block says 400; nothing is exported' export 7 cut.v7
+explains 1 'unixvol: unsound, rule 1' 'unixvol: cut.v7: it breaks rule 1, that the image has all blocks of the volume: it has 195 blocks, its super-block says 400; nothing is exported: add --cut to read what is there' export 7 cut.v7
 explains 1 'unixvol: unsound, rule 1' "unixvol: disk.v6: it breaks rule 1, that the image has all blocks of the volume: it has 400 blocks, its super-block says $((400 * 65536 + $(od -An -tu2 -j 516 -N 2 disk.v6))); rules 1 and 2 hold for edition 6" ls 7 disk.v6
 explains 1 'unixvol: unsound, rule 2' 'unixvol: disk.v7: it breaks rule 2, that the sizes are within their limits; rules 1 and 2 hold for edition 7' rm 6 disk.v7 /d/f
 cut='unixvol: /dev/stdin: it breaks rule 1, that the image has all blocks of the volume'

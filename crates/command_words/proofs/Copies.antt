@@ -65,6 +65,7 @@ puts clock given (invocations.Mkfs i volume) put is = absurd (true≢false (sym 
 puts clock given (invocations.Migrate old at new migration) put is = absurd (true≢false (sym put))
 puts clock given (invocations.Salvage volume copy) put is = absurd (true≢false (sym put))
 puts clock given (invocations.Serve volume serving) put is = absurd (true≢false (sym put))
+puts clock given (invocations.Diff volume other all) put is = absurd (true≢false (sym put))
 puts clock given (invocations.Identify images) put is = absurd (true≢false (sym put))
 
 -- every invocation of `get` reads one file or several
@@ -108,6 +109,7 @@ gets clock given (invocations.Mkfs i volume) got is = absurd (true≢false (sym 
 gets clock given (invocations.Migrate old at new migration) got is = absurd (true≢false (sym got))
 gets clock given (invocations.Salvage volume copy) got is = absurd (true≢false (sym got))
 gets clock given (invocations.Serve volume serving) got is = absurd (true≢false (sym got))
+gets clock given (invocations.Diff volume other all) got is = absurd (true≢false (sym got))
 gets clock given (invocations.Identify images) got is = absurd (true≢false (sym got))
 
 -- if the words put neither one file nor several, `put` has no invocation

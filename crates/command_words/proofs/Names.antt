@@ -19,6 +19,7 @@ named text =
     (cond (bytes_eq text (codes "free")) verbs.Free
     (cond (bytes_eq text (codes "block")) verbs.Block
     (cond (bytes_eq text (codes "dump")) verbs.Dump
+    (cond (bytes_eq text (codes "diff")) verbs.Diff
     (cond (bytes_eq text (codes "df")) verbs.Df
     (cond (bytes_eq text (codes "map")) verbs.Map
     (cond (bytes_eq text (codes "check")) verbs.Check
@@ -39,7 +40,7 @@ named text =
     (cond (bytes_eq text (codes "salvage")) verbs.Salvage
     (cond (bytes_eq text (codes "play")) verbs.Play
     (cond (bytes_eq text (codes "migrate")) verbs.Migrate
-    (cond (bytes_eq text (codes "serve")) verbs.Serve verbs.Identify)))))))))))))))))))))))))))))))
+    (cond (bytes_eq text (codes "serve")) verbs.Serve verbs.Identify))))))))))))))))))))))))))))))))
 
 -- the command with a command's name is this command
 named_by_its_name : (verb : Verb) → named (verb_name verb) ≡ verb
@@ -54,6 +55,7 @@ named_by_its_name verbs.Super = refl
 named_by_its_name verbs.Free = refl
 named_by_its_name verbs.Block = refl
 named_by_its_name verbs.Dump = refl
+named_by_its_name verbs.Diff = refl
 named_by_its_name verbs.Df = refl
 named_by_its_name verbs.Map = refl
 named_by_its_name verbs.Check = refl

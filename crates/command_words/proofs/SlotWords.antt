@@ -59,6 +59,7 @@ lists clock given (invocations.Mkfs i volume) ls is slots json = absurd (true≢
 lists clock given (invocations.Migrate old at new migration) ls is slots json = absurd (true≢false (sym ls))
 lists clock given (invocations.Salvage volume copy) ls is slots json = absurd (true≢false (sym ls))
 lists clock given (invocations.Serve volume serving) ls is slots json = absurd (true≢false (sym ls))
+lists clock given (invocations.Diff volume other all) ls is slots json = absurd (true≢false (sym ls))
 lists clock given (invocations.Identify images) ls is slots json = absurd (true≢false (sym ls))
 
 -- if `--slots` and `--json` are given, `ls` has no invocation

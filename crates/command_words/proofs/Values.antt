@@ -128,6 +128,8 @@ values_given clock given (invocations.Work volume (works.Play scripts journal)) 
 values_given clock given (invocations.Serve volume servings.ReadOnly) is = (edition_value volume.edition _ is.0.0, (tt, (at_value volume.at _ is.0.2, (tt, (tt, (is.1.1, tt))))))
 values_given clock given (invocations.Serve volume (servings.Changes is_mine rescue)) is =
     (edition_value volume.edition _ is.0.0, (tt, (at_value volume.at _ is.0.2, (tt, (tt, (is.1.2.1, tt))))))
+values_given clock given (invocations.Diff volume other all) is =
+    (edition_value volume.edition _ is.0.0, (tt, (at_value volume.at _ is.0.2, (tt, (is.3, (tt, tt))))))
 values_given clock given (invocations.Identify images) is = (tt, tt)
 
 -- if all words are valid, none of them is wrong

@@ -151,6 +151,7 @@ IsValue clock kinds.Moment words = (now : ℕ) × IsMomentGiven clock words now
 IsValue clock kinds.Scripts words = (1 ≤ length words) × (length words ≤ 64)
 IsValue clock kinds.LongOr words = IsNumberIfAny 4294967295 words
 IsValue clock kinds.Flag words = Unit {0}
+IsValue clock kinds.SetFlag words = is_set words ≡ true
 
 -- the words given for each of these arguments are valid for it (this project)
 abbrev pub AreValues : Option ℕ → Words → List Argument → Type 0
@@ -227,6 +228,7 @@ verb_of (invocations.Look volume look) = look_verb look
 verb_of (invocations.Copy volume copying) = copying_verb copying
 verb_of (invocations.Work volume work) = work_verb work
 verb_of (invocations.Serve volume serving) = verbs.Serve
+verb_of (invocations.Diff volume other all) = verbs.Diff
 verb_of (invocations.Identify images) = verbs.Identify
 
 -- the words say that a volume begins at this block of a file: 0 if they say nothing of it (this project)
@@ -442,6 +444,8 @@ IsGiven clock given (invocations.Look volume look) = IsVolumeGiven given volume 
 IsGiven clock given (invocations.Copy volume copying) = IsVolumeGiven given volume × IsCopyGiven clock given copying
 IsGiven clock given (invocations.Work volume work) = IsVolumeGiven given volume × IsWorkGiven given work
 IsGiven clock given (invocations.Serve volume serving) = IsVolumeGiven given volume × IsServingGiven given serving
+IsGiven clock given (invocations.Diff volume other all) = IsVolumeGiven given volume × (other.now ≡ the_word given (codes "OTHER"))
+    × (all ≡ is_set (given (codes "all"))) × (is_set (given (codes "fields")) ≡ true)
 IsGiven clock given (invocations.Identify images) = map (λ image. image.now) images.items ≡ given (codes "IMAGE")
 
 -- the command, with the words for its arguments, is read as this invocation (this project)

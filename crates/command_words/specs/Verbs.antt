@@ -99,6 +99,7 @@ verb_name verbs.Super = codes "super"
 verb_name verbs.Free = codes "free"
 verb_name verbs.Block = codes "block"
 verb_name verbs.Dump = codes "dump"
+verb_name verbs.Diff = codes "diff"
 verb_name verbs.Df = codes "df"
 verb_name verbs.Map = codes "map"
 verb_name verbs.Check = codes "check"
@@ -137,6 +138,7 @@ arguments_of verbs.Super = on_volume (option (codes "json") ∷ [])
 arguments_of verbs.Free = on_volume (option (codes "json") ∷ [])
 arguments_of verbs.Block = on_volume (long_number (codes "BLOCK") ∷ [])
 arguments_of verbs.Dump = on_volume ((codes "BLOCK", kinds.Place, needs.Once) ∷ lettered (codes "inode") 105 ∷ option (codes "octal") ∷ [])
+arguments_of verbs.Diff = on_volume (word (codes "OTHER") ∷ (codes "fields", kinds.SetFlag, needs.Flag None) ∷ option (codes "all") ∷ [])
 arguments_of verbs.Df = on_volume (option (codes "json") ∷ [])
 arguments_of verbs.Map = on_volume (option (codes "svg") ∷ [])
 arguments_of verbs.Check = on_volume (option (codes "status") ∷ option (codes "json") ∷ [])
@@ -170,7 +172,7 @@ arguments_of verbs.Identify = (codes "IMAGE", kinds.Text, needs.Several) ∷ []
 abbrev pub all_verbs : List Verb
 all_verbs =
     verbs.Cat ∷ verbs.Ls ∷ verbs.Get ∷ verbs.Find ∷ verbs.Export ∷ verbs.Sums ∷ verbs.Inode ∷ verbs.Super ∷ verbs.Free ∷ verbs.Block
-    ∷ verbs.Dump ∷ verbs.Df ∷ verbs.Map ∷ verbs.Check ∷ verbs.Icheck ∷ verbs.Dcheck ∷ verbs.Ncheck ∷ verbs.Mkfs ∷ verbs.Put ∷ verbs.Import ∷ verbs.Rm
+    ∷ verbs.Dump ∷ verbs.Diff ∷ verbs.Df ∷ verbs.Map ∷ verbs.Check ∷ verbs.Icheck ∷ verbs.Dcheck ∷ verbs.Ncheck ∷ verbs.Mkfs ∷ verbs.Put ∷ verbs.Import ∷ verbs.Rm
     ∷ verbs.Rmdir ∷ verbs.Mkdir ∷ verbs.Ln ∷ verbs.Mv ∷ verbs.Chmod ∷ verbs.Chown ∷ verbs.Touch ∷ verbs.Salvage ∷ verbs.Play ∷ verbs.Migrate
     ∷ verbs.Serve ∷ verbs.Identify ∷ []
 

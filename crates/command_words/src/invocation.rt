@@ -136,6 +136,13 @@ pub enum Invocation<'a> {
         volume: VolumeFile<'a>,
         serving: Serving<'a>,
     },
+    /// Show the fields in which the volumes in two files differ; the one in `other` begins at the same block of its file. With `all` each field is a
+    /// line.
+    Diff {
+        volume: VolumeFile<'a>,
+        other: &'a str,
+        all: bool,
+    },
     /// Guess what the images in these files are.
     Identify {
         images: Vec<&'a str>,

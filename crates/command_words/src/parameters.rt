@@ -36,6 +36,8 @@ pub enum WordKind {
     LongOr,
     /// None: the argument is an option without a value.
     Flag,
+    /// None: the argument is an option without a value, which can't be left out.
+    SetFlag,
 }
 
 /// The number of words that an argument takes.
@@ -180,6 +182,34 @@ const OCTAL: Parameter = Parameter {
     kind: WordKind::Flag,
     need: Need::Flag(None),
     help: texts::dump::OCTAL,
+};
+
+const OTHER: Parameter = Parameter {
+    name: "OTHER",
+    kind: WordKind::Text,
+    need: Need::Once,
+    help: texts::diff::OTHER,
+};
+
+const BOTH_AT: Parameter = Parameter {
+    name: "at",
+    kind: WordKind::LongOr,
+    need: Need::Value(None, ValueName::Block),
+    help: texts::diff::AT,
+};
+
+const FIELDS: Parameter = Parameter {
+    name: "fields",
+    kind: WordKind::SetFlag,
+    need: Need::Flag(None),
+    help: texts::diff::FIELDS,
+};
+
+const ALL_FIELDS: Parameter = Parameter {
+    name: "all",
+    kind: WordKind::Flag,
+    need: Need::Flag(None),
+    help: texts::diff::ALL,
 };
 
 const BLOCKS: Parameter = Parameter {
@@ -724,6 +754,9 @@ pub static BLOCK_WORDS: [Parameter; 4] = [EDITION, IMAGE, AT, BLOCK];
 
 /// The words that `dump` takes.
 pub static DUMP_WORDS: [Parameter; 6] = [EDITION, IMAGE, AT, DUMPED, DUMPED_INODE, OCTAL];
+
+/// The words that `diff` takes.
+pub static DIFF_WORDS: [Parameter; 6] = [EDITION, IMAGE, BOTH_AT, OTHER, FIELDS, ALL_FIELDS];
 
 /// The words that `super`, `free` and `df` take.
 pub static SUPER_WORDS: [Parameter; 4] = [EDITION, IMAGE, AT, JSON];

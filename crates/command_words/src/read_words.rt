@@ -8,9 +8,9 @@ ghost use Rattle.command_words.specs.declared.verbs.Verb.TheVariants as verbs;
 use crate::disks::list_default;
 use crate::fault::{Said, WordFault, WrongWord};
 use crate::given::{
-    Given, blocks_in, edition_in, flag_in, long_in, long_or, moment_in, node_in, owner_in, path_in,
-    permissions_in, radix_in, rescue_in, scripts_in, target_in, text_in, threads_in, word_in,
-    word_or,
+    Given, blocks_in, edition_in, flag_in, long_in, long_or, missing, moment_in, node_in, owner_in,
+    path_in, permissions_in, radix_in, rescue_in, scripts_in, target_in, text_in, threads_in,
+    word_in, word_or,
 };
 use crate::invocation::{Copying, Invocation, MadeFile, Serving, VolumeFile, Work};
 use crate::several::{PutFiles, file_in, files_in, no_more, not_empty, nothing_kept, paths_in};
@@ -48,6 +48,7 @@ pub fn read<'a, G: Given<'a>>(
         Verb::Free => read_free(given),
         Verb::Block => read_block(given),
         Verb::Dump => read_dump(given),
+        Verb::Diff => read_diff(given),
         Verb::Df => read_df(given),
         Verb::Map => read_map(given),
         Verb::Check => read_check(given),
@@ -300,6 +301,30 @@ fn read_dump<'a, G: Given<'a>>(given: &G) -> Result<Invocation<'a>, WordFault<'a
         volume,
         look: Look::Dump { target, radix },
     })
+}
+
+/// Reads the words of `diff`.
+fn read_diff<'a, G: Given<'a>>(given: &G) -> Result<Invocation<'a>, WordFault<'a>>
+    ensures read { IfOk result (AsksFor None verbs.Diff (G.words given.now)) }
+    ensures refused { IfErr result (TellsOf (IsOneWrong None (G.words given.now) (arguments_of verbs.Diff))) }
+{
+    let volume = volume_in(given)?;
+    fields_wanted(given)?;
+    let other = text_in(given, "OTHER");
+    let all = flag_in(given, "all");
+    Ok(Invocation::Diff { volume, other, all })
+}
+
+/// Succeeds if the words request a comparison by fields.
+fn fields_wanted<'a, G: Given<'a>>(given: &G) -> Result<(), WordFault<'a>>
+    ensures set { IfOk result (λ _. is_set (G.words given.now (codes "fields")) ≡ true) }
+    ensures refused { IfErr result (TellsOf (is_set (G.words given.now (codes "fields")) ≡ true → ⊥)) }
+{
+    if flag_in(given, "fields") {
+        Ok(())
+    } else {
+        Err(missing("fields", texts::diff::WANTS_FIELDS))
+    }
 }
 
 /// Reads the words of `map`.

@@ -2,6 +2,7 @@
 
 pub mod block;
 pub mod df;
+pub mod diff;
 pub mod dump;
 pub mod export;
 pub mod find;

@@ -3,11 +3,11 @@ ghost use Rattle.std.specs.Prelude.{◌≡◌, ◌∷◌, [], None, IfSome, map}
 ghost use Rattle.command_words.specs.Verbs.{IsNoCommand, argument_of, arguments_of, verb_name};
 
 use crate::parameters::{
-    BLOCK_WORDS, CAT_WORDS, CHECK_WORDS, CHECKER_WORDS, CHMOD_WORDS, CHOWN_WORDS, DUMP_WORDS,
-    EXPORT_WORDS, FIND_WORDS, GET_WORDS, IDENTIFY_WORDS, IMPORT_WORDS, INODE_WORDS, LS_WORDS,
-    MAP_WORDS, MIGRATE_WORDS, MKDIR_WORDS, MKFS_WORDS, NAMES_WORDS, PLAY_WORDS, PUT_WORDS,
-    Parameter, RM_WORDS, RMDIR_WORDS, SALVAGE_WORDS, SERVE_WORDS, SUMS_WORDS, SUPER_WORDS,
-    TOUCH_WORDS,
+    BLOCK_WORDS, CAT_WORDS, CHECK_WORDS, CHECKER_WORDS, CHMOD_WORDS, CHOWN_WORDS, DIFF_WORDS,
+    DUMP_WORDS, EXPORT_WORDS, FIND_WORDS, GET_WORDS, IDENTIFY_WORDS, IMPORT_WORDS, INODE_WORDS,
+    LS_WORDS, MAP_WORDS, MIGRATE_WORDS, MKDIR_WORDS, MKFS_WORDS, NAMES_WORDS, PLAY_WORDS,
+    PUT_WORDS, Parameter, RM_WORDS, RMDIR_WORDS, SALVAGE_WORDS, SERVE_WORDS, SUMS_WORDS,
+    SUPER_WORDS, TOUCH_WORDS,
 };
 use crate::texts;
 
@@ -25,6 +25,7 @@ pub enum Verb {
     Free,
     Block,
     Dump,
+    Diff,
     Df,
     Map,
     Check,
@@ -50,7 +51,7 @@ pub enum Verb {
 }
 
 /// All commands, in the order in which the help lists them.
-pub static VERBS: [Verb; 33] = [
+pub static VERBS: [Verb; 34] = [
     Verb::Cat,
     Verb::Ls,
     Verb::Get,
@@ -62,6 +63,7 @@ pub static VERBS: [Verb; 33] = [
     Verb::Free,
     Verb::Block,
     Verb::Dump,
+    Verb::Diff,
     Verb::Df,
     Verb::Map,
     Verb::Check,
@@ -103,6 +105,7 @@ impl Verb {
             Verb::Free => "free",
             Verb::Block => "block",
             Verb::Dump => "dump",
+            Verb::Diff => "diff",
             Verb::Df => "df",
             Verb::Map => "map",
             Verb::Check => "check",
@@ -151,6 +154,7 @@ impl Verb {
             Verb::Super | Verb::Free | Verb::Df => &SUPER_WORDS,
             Verb::Block => &BLOCK_WORDS,
             Verb::Dump => &DUMP_WORDS,
+            Verb::Diff => &DIFF_WORDS,
             Verb::Map => &MAP_WORDS,
             Verb::Check => &CHECK_WORDS,
             Verb::Salvage => &SALVAGE_WORDS,
@@ -204,6 +208,7 @@ impl Verb {
             Verb::Free => texts::free::ABOUT,
             Verb::Block => texts::block::ABOUT,
             Verb::Dump => texts::dump::ABOUT,
+            Verb::Diff => texts::diff::ABOUT,
             Verb::Df => texts::df::ABOUT,
             Verb::Map => texts::MAP_ABOUT,
             Verb::Check => texts::CHECK_ABOUT,
@@ -243,6 +248,7 @@ impl Verb {
             Verb::Free => texts::free::MORE,
             Verb::Block => texts::block::MORE,
             Verb::Dump => texts::dump::MORE,
+            Verb::Diff => texts::diff::MORE,
             Verb::Df => texts::df::MORE,
             Verb::Map => texts::MAP_MORE,
             Verb::Check => texts::CHECK_MORE,

@@ -41,6 +41,10 @@ pub returns-in-Dump-clause-refused : goal.returns-in-Dump-clause-refused
 returns-in-Dump-clause-refused g c =
     rw c.in-Dump.is (refuses_value c.args.clock verbs.Dump (g.G.Given.words c.args.given.now) c.read_dump.result c.read_dump.ensures.refused)
 
+pub returns-in-Diff-clause-refused : goal.returns-in-Diff-clause-refused
+returns-in-Diff-clause-refused g c =
+    rw c.in-Diff.is (refuses_value c.args.clock verbs.Diff (g.G.Given.words c.args.given.now) c.read_diff.result c.read_diff.ensures.refused)
+
 pub returns-in-Df-clause-refused : goal.returns-in-Df-clause-refused
 returns-in-Df-clause-refused g c =
     rw c.in-Df.is (refuses_value c.args.clock verbs.Df (g.G.Given.words c.args.given.now) c.read_df.result c.read_df.ensures.refused)

@@ -155,6 +155,7 @@ asks_listing clock given edition image path (invocations.Migrate old at new migr
 asks_listing clock given edition image path (invocations.Salvage volume copy) test e_is i_is p_is none is = absurd (true≢false (sym test))
 asks_listing clock given edition image path (invocations.Get volume p) test e_is i_is p_is none is = absurd (true≢false (sym test))
 asks_listing clock given edition image path (invocations.Serve volume serving) test e_is i_is p_is none is = absurd (true≢false (sym test))
+asks_listing clock given edition image path (invocations.Diff volume other all) test e_is i_is p_is none is = absurd (true≢false (sym test))
 asks_listing clock given edition image path (invocations.Identify images) test e_is i_is p_is none is = absurd (true≢false (sym test))
 asks_listing clock given edition image path (invocations.Change volume (changes.Put p file keep now)) test e_is i_is p_is none is = absurd (true≢false (sym test))
 asks_listing clock given edition image path (invocations.Change volume (changes.Import p options now)) test e_is i_is p_is none is = absurd (true≢false (sym test))
@@ -234,6 +235,7 @@ listing_asks clock (Some met) edition image path (invocations.Migrate old at new
 listing_asks clock (Some met) edition image path (invocations.Salvage volume copy) is listed = absurd listed
 listing_asks clock (Some met) edition image path (invocations.Get volume p) is listed = absurd listed
 listing_asks clock (Some met) edition image path (invocations.Serve volume serving) is listed = absurd listed
+listing_asks clock (Some met) edition image path (invocations.Diff volume other all) is listed = absurd listed
 listing_asks clock (Some met) edition image path (invocations.Identify images) is listed = absurd listed
 listing_asks clock (Some met) edition image path (invocations.Look v (looks.Export p options)) is listed = absurd listed
 listing_asks clock (Some met) edition image path (invocations.Look v (looks.Sums p form lost)) is listed = absurd listed

@@ -1,6 +1,6 @@
 #!/usr/bin/env bash
-# Runs `dump` of the built program: the lines of the fields of blocks and i-nodes of both editions; that the bytes of the lines are those of the image;
-# refusals and wrong words.
+# Runs `dump` and `diff --fields` of the built program: the lines of the fields of blocks and i-nodes of both editions; that the bytes of the lines are
+# those of the image; the fields that a command changed, and each byte of an image changed alone; refusals and wrong words.
 # Usage: tests/fields.sh PROGRAM. It prints each row that fails, and ends with 'N passed, N failed'.
 . "$(dirname "$0")/rows.sh"
 : > none
@@ -95,6 +95,95 @@ answers 1 'unixvol: unsound, rule 2' dump 7 bounds.img 0
 misread "error: invalid value 'a'" dump 7 d.img a
 misread "error: invalid value '4294967296'" dump 7 d.img 4294967296
 misread 'error: the following required arguments were not provided' dump 7 d.img -i
+
+# Two images: what a file's removal changed.
+cp d.img e.img
+"$program" rm 7 e.img /a 3000
+cat > wanted << 'LINES'
+block 6: data of i-node 24, logical 0 -> free
+super-block nfree 34 -> 35
+super-block ninode 21 -> 22
+super-block time 2000 -> 3000
+i-node 2 mtime 2000 -> 3000
+i-node 2 ctime 2000 -> 3000
+i-node 24 mode 0100644 -> 0
+i-node 24 nlink 1 -> 0
+i-node 24 size 5 -> 0
+i-node 24 addr[0] 6 -> 0
+i-node 24 atime 2000 -> 0
+i-node 24 mtime 2000 -> 0
+i-node 24 ctime 2000 -> 0
+directory 2 slot 2 i-number 24 -> 0
+LINES
+tells() { runs "${@:2}"; wants "${*:2}" 1 "$1" none; }
+tells wanted diff 7 d.img e.img --fields
+tells wanted diff --fields --all 7 d.img e.img
+prints none diff 7 d.img d.img --fields
+prints none diff 6 s.img s.img --fields
+
+# A larger volume, whose last bytes are compared with nothing; bytes after a volume, which aren't compared; and fields that only the new image has.
+"$program" mkfs 7 long.img 50 3 0 0 1000
+runs diff 7 d.img long.img --fields
+has "a larger volume" 'image: 20480 -> 25600 bytes' "$(head -n 1 output)"
+has "a block that only it has" 'blocks 40 to 49: no data block -> free' "$(grep '^blocks 40' output)"
+runs diff 7 long.img d.img --fields
+has "a smaller volume" 'image: 25600 -> 20480 bytes' "$(head -n 1 output)"
+cp d.img tail.img
+printf more >> tail.img
+prints none diff 7 d.img tail.img --fields
+cp s.img t.img
+"$program" mkdir 6 t.img /d/e 3000
+runs diff 6 s.img t.img --fields
+has "a block that is a directory now" 1 "$(grep -c '^block [0-9]*: free -> directory [0-9]*, logical 0$' output)"
+has "a slot that was free before" 1 "$(grep -c '^directory [0-9]* slot 0 i-number (was free) -> [0-9]*$' output)"
+has "a slot after the old end" 1 "$(grep -c '^directory [0-9]* slot 3 i-number (was slack) -> [0-9]*$' output)"
+has "a name" 1 "$(grep -c '^directory [0-9]* slot 3 name (was slack) -> "e"$' output)"
+
+# Fields of an array, and blocks that changed alike: a line for all, or a line each.
+"$program" mkfs 7 f.img 200 3 0 0 1000
+head -c 20000 /dev/zero | tr '\0' x > large
+cp f.img g.img
+"$program" put 7 g.img /a large 2000
+cp g.img h.img
+"$program" rm 7 h.img /a 3000
+"$program" diff 7 g.img h.img --fields > lines
+"$program" diff 7 g.img h.img --fields --all > all
+has "blocks that changed alike" 1 "$(grep -c '^blocks [0-9]* to [0-9]*: data of i-node [0-9]*, logical 0 -> free$' lines)"
+has "each block" 40 "$(grep -c '^block [0-9]*: data of i-node [0-9]*, logical [0-9]* -> ' all)"
+has "addresses" 1 "$(grep -c '^i-node [0-9]* addr\[0\.\.10\]: 11 differ$' lines)"
+has "each address" 11 "$(grep -c '^i-node [0-9]* addr\[[0-9]*\] [0-9]* -> 0$' all)"
+
+# Each byte of an image, changed alone, is in the one field that has a line.
+flipped() {
+    python3 - "$program" "$1" "$2" << 'PYTHON'
+import re, subprocess, sys
+program, edition, name = sys.argv[1:]
+old = open(name, "rb").read()
+for at in range(3, len(old), 509):
+    new = bytearray(old)
+    new[at] ^= 0xFF
+    open("flip.img", "wb").write(new)
+    run = subprocess.run([program, "diff", edition, name, "flip.img", "--fields", "--all"], capture_output=True, text=True)
+    if run.stderr.startswith("unixvol: unsound, rule"):
+        continue
+    lines = [line for line in run.stdout.splitlines() if not re.match(r"block \d+: .* -> ", line)]
+    if run.returncode != 1 or len(lines) != 1:
+        sys.exit("byte %d: status %d, %s" % (at, run.returncode, lines))
+    place = re.search(r": 1 byte differs, (\d+)$", lines[0])
+    if place and int(place[1]) != at % 512 and not (1024 <= at < 2560):
+        sys.exit("byte %d: %s" % (at, lines[0]))
+PYTHON
+    has "each byte of $2, changed alone" 0 $?
+}
+flipped 7 d.img
+flipped 6 s.img
+
+# Images that break rule 1 or 2: the line names the file. Wrong words.
+answers 1 'unixvol: unsound, rule 1: short.img' diff 7 short.img d.img --fields
+answers 1 'unixvol: unsound, rule 2: bounds.img' diff 7 d.img bounds.img --fields
+answers 3 'unixvol: cannot read absent.img' diff 7 d.img absent.img --fields
+misread "error: no value for '<fields>'" diff 7 d.img e.img
+misread 'error: the following required arguments were not provided' diff 7 d.img --fields
 
 echo "$passed passed, $failed failed"
 [ "$failed" = 0 ]

@@ -1,6 +1,7 @@
 pub mod Asked
 pub mod Begun
 pub mod Checked
+pub mod Compared
 pub mod Concluded
 pub mod Copied
 pub mod Done

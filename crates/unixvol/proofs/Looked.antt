@@ -36,7 +36,7 @@ use Rattle.host_files.specs.declared.image_file.Stamp.{Stamp}
 ends_badly : (most : ℕ) (streams : Streams) (status : ℕ) → 1 ≤ status → status ≤ most → IsEndWithin most streams status
 ends_badly most streams status least within = record { within = within; whole = λ e. absurd (omega (arith, least, e)) }
 
-ends_told : (most : ℕ) (streams : Streams) (fault : Fault) (status : ℕ) → 4 ≤ most → IsTold streams fault status → IsEndWithin most streams status
+pub ends_told : (most : ℕ) (streams : Streams) (fault : Fault) (status : ℕ) → 4 ≤ most → IsTold streams fault status → IsEndWithin most streams status
 ends_told most streams fault status few told =
     let one : 1 ≤ status = subst (λ n. 1 ≤ n) (sym told.status) (fault_few fault).0 in
     let four : status ≤ 4 = subst (λ n. n ≤ 4) (sym told.status) (fault_few fault).1 in
@@ -45,7 +45,7 @@ ends_told most streams fault status few told =
 ends_broken : (most : ℕ) (streams : Streams) (bytes : List ℕ) (status : ℕ) → 4 ≤ most → IsBrokenOff streams bytes status → IsEndWithin most streams status
 ends_broken most streams bytes status few is = ends_badly most streams status (omega (arith, is.status)) (omega (arith, is.status, few))
 
-ends_prints : (most wanted : ℕ) (streams : Streams) (text : List ℕ) (status : ℕ) → 4 ≤ most → wanted ≤ most → PrintsWith wanted streams text status
+pub ends_prints : (most wanted : ℕ) (streams : Streams) (text : List ℕ) (status : ℕ) → 4 ≤ most → wanted ≤ most → PrintsWith wanted streams text status
     → IsEndWithin most streams status
 ends_prints most wanted streams text status few within (inl printed) =
     record { within = subst (λ n. n ≤ most) (sym printed.status) within; whole = λ e. (printed.working, printed.said) }
@@ -244,7 +244,7 @@ highest_few (looks.Check graded form) = most_few graded
 highest_few (looks.List path listing) = omega arith
 highest_few (looks.Slots path) = omega arith
 
-ends_unread : {F : Type 0} (remaining : F → Option (List ℕ)) (most : ℕ) (streams : Streams) (status : ℕ) → 4 ≤ most → IsUnread remaining status
+pub ends_unread : {F : Type 0} (remaining : F → Option (List ℕ)) (most : ℕ) (streams : Streams) (status : ℕ) → 4 ≤ most → IsUnread remaining status
     → IsEndWithin most streams status
 ends_unread remaining most streams status few (inl is) = ends_badly most streams status (omega (arith, is)) (omega (arith, is, few))
 ends_unread remaining most streams status few (inr memory) = ends_badly most streams status (omega (arith, memory.0)) (omega (arith, memory.0, few))

@@ -1,3 +1,4 @@
+pub mod Compare
 pub mod Copies
 pub mod Identify
 pub mod Reports

@@ -361,10 +361,11 @@ RunsChange streams files input is_terminal edition change lines status =
     ((wants_terminal is_terminal change ≡ true) × (lines ≡ []) × LeavesTerminal streams status)
     ⊎ ((wants_terminal is_terminal change ≡ false) × ChangesImage streams files input edition change lines status)
 
--- the invocation is a plain command: it doesn't show part of an image, guess what images are, change a volume, copy several files or use several threads (this project)
+-- the invocation is a plain command: it doesn't show part of an image, compare two images, guess what images are, change a volume, copy several files or use several threads (this project)
 abbrev pub IsPlainCommand : Invocation → Type 0
 IsPlainCommand (invocations.Look volume look) = ⊥
 IsPlainCommand (invocations.Identify images) = ⊥
+IsPlainCommand (invocations.Diff volume other all) = ⊥
 IsPlainCommand (invocations.Change volume change) = ⊥
 IsPlainCommand (invocations.Copy volume copying) = ⊥
 IsPlainCommand (invocations.Work volume work) = ⊥
@@ -378,6 +379,7 @@ volume_at (invocations.Get volume path) = volume.at
 volume_at (invocations.Mkfs image volume) = 0
 volume_at (invocations.Migrate old at new migration) = at
 volume_at (invocations.Identify images) = 0
+volume_at (invocations.Diff volume other all) = volume.at
 volume_at (invocations.Salvage volume copy) = volume.at
 volume_at (invocations.Look volume look) = volume.at
 volume_at (invocations.Change volume change) = volume.at
@@ -397,6 +399,7 @@ Runs streams files status (invocations.Get volume path) = RunsGetOne streams fil
 Runs streams files status (invocations.Mkfs image volume) = RunsMkfs streams files.taken volume status
 Runs streams files status (invocations.Migrate old at new migration) = RunsMigrate streams files migration status
 Runs streams files status (invocations.Identify images) = ⊥
+Runs streams files status (invocations.Diff volume other all) = ⊥
 Runs streams files status (invocations.Salvage volume copy) = RunsSalvage streams files volume.edition copy status
 Runs streams files status (invocations.Look volume look) = ⊥
 Runs streams files status (invocations.Change volume change) = ⊥

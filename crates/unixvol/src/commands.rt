@@ -101,6 +101,7 @@ fn carry_out<R: ImageFiles + Clock + Eprint + AllocGlobal, O: Sink>(
         } => run_migrate(host, old, at, new, migration),
         Invocation::Salvage { volume, copy } => run_salvage(host, output, volume, copy),
         Invocation::Identify { .. }
+        | Invocation::Diff { .. }
         | Invocation::Look { .. }
         | Invocation::Change { .. }
         | Invocation::Copy { .. }

@@ -3,6 +3,7 @@
 
 mod changes;
 mod commands;
+mod compare;
 mod copy;
 mod explain;
 mod guesses;
@@ -31,7 +32,7 @@ use std::process::ExitCode;
 use std::rt::Clock;
 use std::time::{SystemTime, UNIX_EPOCH};
 
-/// Reads the words of the command line, and continues in one of seven functions. Each has only the rights that it needs: only commands with several
+/// Reads the words of the command line, and continues in one of eight functions. Each has only the rights that it needs: only commands with several
 /// threads may wait, only those that show part of an image may print something and fail, only a change and a server read standard input, and only
 /// those that copy files to the host save several files.
 fn main(rt: HostRuntime) -> ExitCode {
@@ -63,6 +64,9 @@ fn main(rt: HostRuntime) -> ExitCode {
         }
         Ok(Invocation::Serve { volume, serving }) => {
             serve::run_to_end(&host, rt.stdin(), output, errors, volume, serving)
+        }
+        Ok(Invocation::Diff { volume, other, all }) => {
+            compare::run_to_end(&host, output, errors, volume, other, all)
         }
         Ok(Invocation::Identify { images }) => {
             identify::run_to_end(&host, output, errors, &images)

@@ -28,7 +28,7 @@ _unixvol() {
     while [[ ${before[0]:-} == -* ]]; do before=("${before[@]:1}"); done
     command=${before[0]:-}
     if [ -z "$command" ]; then
-        mapfile -t COMPREPLY < <(compgen -W 'cat ls get find export sums inode super free block dump df map check icheck dcheck ncheck mkfs put import rm rmdir mkdir ln mv chmod chown touch salvage play migrate serve identify help --explain -h --help -V --version' -- "$current")
+        mapfile -t COMPREPLY < <(compgen -W 'cat ls get find export sums inode super free block dump diff df map check icheck dcheck ncheck mkfs put import rm rmdir mkdir ln mv chmod chown touch salvage play migrate serve identify help --explain -h --help -V --version' -- "$current")
         return
     fi
     case $command in
@@ -43,6 +43,7 @@ _unixvol() {
         free) kinds='edition file' options='--at --json --explain -h --help' valued='--at=any' others='' ;;
         block) kinds='edition file any' options='--at --explain -h --help' valued='--at=any' others='' ;;
         dump) kinds='edition file any' options='--at -i --inode --octal --explain -h --help' valued='--at=any' others='' ;;
+        diff) kinds='edition file any' options='--at --fields --all --explain -h --help' valued='--at=any' others='' ;;
         df) kinds='edition file' options='--at --json --explain -h --help' valued='--at=any' others='' ;;
         map) kinds='edition file' options='--at --svg --explain -h --help' valued='--at=any' others='' ;;
         check) kinds='edition file' options='--at --status --json --explain -h --help' valued='--at=any' others='' ;;

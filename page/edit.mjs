@@ -1,6 +1,6 @@
 // What changes a volume: files put in, directories made, names removed, and the archives that go in and out.
 import { Stopped, asks, chooseFiles, counted, save, say } from './dom.mjs';
-import { addFile, at, choose, open, removeFile, run, state } from './shelf.mjs';
+import { addFile, at, choose, open, removeFile, run, state, wholeImage } from './shelf.mjs';
 import { reveal } from './tree.mjs';
 
 const ASKED = 1 << 28; // bytes of an archive after which the page asks
@@ -122,26 +122,44 @@ export async function salvage() {
   if (given) await changes(['salvage', ...at()], 'The free list was rebuilt.');
 }
 
-/** What is inside a file that is no volume itself: a volume in a pack, one with bytes exchanged, or one that is packed by gzip. */
-export function inside(image) {
-  const pack = /^looks like a larger pack: at block (\d+) begins .*edition (\d), with (\d+) blocks/.exec(image.said);
-  if (pack) {
-    const [block, edition, blocks] = pack.slice(1).map(Number);
-    const cut = () => image.source.slice(512 * block, 512 * (block + blocks));
-    return { label: `Open the volume of edition ${edition} at block ${block}`, open: () => opens(`${image.name}.${block}`, cut(), String(edition)) };
+const VOLUME = /^  at (\d+): a volume of edition (\d), with (\d+) blocks/;
+
+/** What is inside a file that is no volume itself: the volumes of a pack, one with bytes exchanged, or one that is packed by gzip. */
+export function insides(image) {
+  const volumes = image.parts.map((it) => VOLUME.exec(it)).filter(Boolean).map((it) => it.slice(1).map(Number));
+  if (volumes.length) {
+    return volumes.map(([block, edition, blocks]) => ({
+      label: `Open the volume of edition ${edition} at block ${block}`,
+      open: () => opensPart(image, { block, blocks }, String(edition)),
+    }));
   }
   if (image.said.includes('each pair of bytes exchanged')) {
-    return { label: 'Exchange each pair of bytes, and open that', open: async () => opens(`swapped_${image.name}`, await swapped(image.source)) };
+    return [{ label: 'Exchange each pair of bytes, and open that', open: async () => opens(`swapped_${image.name}`, await swapped(image.source)) }];
   }
   if (image.said.includes('packed by gzip')) {
-    return { label: 'Unpack it, and open that', open: async () => opens(image.name.replace(/\.gz$/, ''), await unpacked(image.source)) };
+    return [{ label: 'Unpack it, and open that', open: async () => opens(image.name.replace(/\.gz$/, ''), await unpacked(image.source)) }];
   }
-  return null;
+  return [];
+}
+
+/** Opens a volume of a pack as an image of its own, which knows its place in the pack. */
+async function opensPart(pack, place, edition) {
+  const cut = pack.source.slice(512 * place.block, 512 * (place.block + place.blocks));
+  const image = await opens(`${pack.name}.${place.block}`, cut, edition);
+  if (image) image.within = { pack, ...place };
+}
+
+/** The bytes of the pack that a volume was opened from, with the volume as it is now in its place. */
+export async function wholePack(image) {
+  const { pack, block, blocks } = image.within;
+  const [around, volume] = [await wholeImage(pack), await wholeImage(image)];
+  return new Blob([around.slice(0, 512 * block), volume, around.slice(512 * (block + blocks))]);
 }
 
 async function opens(name, blob, edition) {
   const image = await open(name, blob, edition);
   if (image) await choose(image);
+  return image;
 }
 
 const unpacked = (blob) => new Response(blob.stream().pipeThrough(new DecompressionStream('gzip'))).blob();

@@ -95,7 +95,7 @@ async function drop(name) {
   else await tell('images');
 }
 
-const newImage = (name, source) => ({ name, source, size: source.size, edition: '7', said: '', done: [], undone: [], version: 0 });
+const newImage = (name, source) => ({ name, source, size: source.size, edition: '7', said: '', parts: [], done: [], undone: [], version: 0 });
 
 /** Returns a name that a command line takes as one word, and that no other file has. */
 function freshName(name) {
@@ -148,7 +148,7 @@ export const readCheck = (text) => text.split('\n').map((it) => LINE.exec(it)).f
 /** Finds out what an image is, and checks it. */
 async function inspect(image, edition) {
   const said = (await runs(['identify', image.name])).text.trim();
-  image.said = said.slice(said.indexOf(': ') + 2).split('\n')[0];
+  [image.said, ...image.parts] = said.slice(said.indexOf(': ') + 2).split('\n');
   const guessed = /^looks like a volume of edition (\d)/.exec(image.said)?.[1];
   image.isVolume = Boolean(guessed);
   if (edition ?? guessed) image.edition = edition ?? guessed;

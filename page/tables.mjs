@@ -1,6 +1,6 @@
 // The tabs that are about all images, what changed one, and the command line.
 import { $, Stopped, button, counted, doing, el, link, save, say, table } from './dom.mjs';
-import { importArchive, inside } from './edit.mjs';
+import { importArchive, insides, wholePack } from './edit.mjs';
 import { log } from './engine.mjs';
 import { choose, go, removeFile, state, tell, undo, wholeImage } from './shelf.mjs';
 import { runLine } from './shell.mjs';
@@ -26,9 +26,9 @@ export const csv = (images) => [HEADS, ...images.map(column)].map((row) => row.m
 
 /** What can be done with an image, beside looking at it. */
 function offers(image) {
-  const made = [];
-  const within = inside(image);
-  if (within) made.push(button(within.label, within.open));
+  const made = insides(image).map((it) => button(it.label, it.open));
+  const pack = image.within?.pack;
+  if (pack && state.images.includes(pack)) made.push(button(`Download ${pack.name} with it`, async () => save(pack.name, await wholePack(image))));
   const into = state.images.find((it) => it !== image && it.isSound);
   if (image.said.includes('archive of tar') && into) made.push(button(`Import its files into ${into.name}`, () => importsInto(into, image)));
   return [...made, button('Close', () => removeFile(image.name), { 'aria-label': `close ${image.name}` })];

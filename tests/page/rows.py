@@ -373,7 +373,7 @@ def check_damaged(page, _):
 
 
 def check_several(page, native):
-    """Two images, the table of all, and a volume within a pack."""
+    """Two images, the table of all, and a volume within a pack, which is changed and downloaded with it."""
     with open(LINUX_MADE, "rb") as volume:
         pack = native.write("pack.img", b"\0" * 51200 + b"boot" * 128 + b"\0" * 512 + volume.read() + b"\1" * 5120)
     page.open(f"{LESSONS}/sound.v6", f"{LESSONS}/rule_09.v7", pack)
@@ -381,7 +381,7 @@ def check_several(page, native):
     rows = page.js("return [...document.querySelectorAll('#images tbody tr')].map((it) => [...it.cells].slice(0, 5).map((one) => one.textContent))")[-3:]
     has("a sound image in the table", ["6", "sound", "24", "7"], rows[0][1:])
     has("a broken one", ["7", "breaks rule 9: each entry has a name of its own and an i-node: a free i-node: directory 2, slot 5", "16", "7"], rows[1][1:])
-    has("a pack", native.out("identify", "pack.img").strip().split(": ", 1)[1], rows[2][2].split(";")[0])
+    has("a pack", native.out("identify", "pack.img").split("\n")[0].split(": ", 1)[1], rows[2][2].split(";")[0])
     page.click("#csv")
     lines = page.download("images.csv").decode().split("\r\n")
     has("the table's head", "Image,Edition,State,Blocks,Free,Bytes", lines[0])
@@ -392,6 +392,11 @@ def check_several(page, native):
         page.button(offered[0])
         page.wait("document.getElementById('state').textContent.startsWith('240 blocks')")
         has("the volume within it", True, "✓ sound" in page.text("#state"))
+        page.types("mkdir 7 pack.img.102 /new 1000")
+        native.out("mkdir", "7", "pack.img", "/new", "1000", "--at", "102")
+        page.tab("images")
+        page.button("Download pack.img with it")
+        has("the pack with its volume changed", native.bytes("pack.img"), page.download("pack.img"))
     page.tab("images")
     before = page.texts("#images tbody .link")
     page.click(f"[aria-label='close {before[0]}']")

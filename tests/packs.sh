@@ -61,8 +61,8 @@ prints lines identify pack
 grep -o 'unixvol .*' lines | while read -r _ words; do
     read -r -a given <<< "$words"
     "$program" "${given[@]}" > output 2> error || echo "$words"
-done > output
-has 'the commands that identify names' '' "$(cat output)"
+done > failing
+has 'the commands that identify names' '' "$(cat failing)"
 sed 's/^pack/broken/; s/ls \([67]\) pack/ls \1 broken/' lines > line
 cp pack broken
 printf '\037\213' | dd of=broken conv=notrunc status=none

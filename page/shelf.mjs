@@ -209,5 +209,25 @@ export async function refill() {
   for (const { name, blob } of state.files) await ask('add', { name, blob });
 }
 
+/** Runs a command over the image as it was after its first `count` changes, and after one more; the two are files beside the others meanwhile. */
+export async function runBetween(image, count, words) {
+  const names = [await versionOf(image, count), await versionOf(image, count + 1)];
+  try {
+    return await runs(words(...names));
+  } finally {
+    for (const name of names) if (name !== image.name) await ask('remove', { name });
+  }
+}
+
+/** Returns the name of a file with the image as it was after its first `count` changes: the image itself, if there were no more. */
+async function versionOf({ name, source, done, size }, count) {
+  if (count === done.length) return name;
+  const fresh = freshName(`${name}.${count}`);
+  const made = done.slice(0, count);
+  const ranges = made.flatMap((it) => it.ranges);
+  await ask('add', { name: fresh, blob: source, ranges, size: done[count]?.before ?? size });
+  return fresh;
+}
+
 /** Returns the image's bytes, as they are now, as a Blob. */
 export const wholeImage = async (image) => (await ask('whole', { name: image.name })).blob;

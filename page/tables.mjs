@@ -1,10 +1,10 @@
 // The tabs that are about all images, what changed one, and the command line.
-import { $, Stopped, button, counted, doing, el, link, save, say, table } from './dom.mjs';
+import { $, Stopped, button, counted, doing, el, fill, link, save, say, table } from './dom.mjs';
 import { importArchive, insides, wholePack } from './edit.mjs';
 import { log } from './engine.mjs';
-import { choose, go, removeFile, state, tell, undo, wholeImage } from './shelf.mjs';
+import { choose, go, removeFile, runBetween, state, tell, undo, wholeImage } from './shelf.mjs';
 import { runLine } from './shell.mjs';
-import { lines } from './views.mjs';
+import { chooser, lines, printed } from './views.mjs';
 
 /** What an image is, in a few words. */
 export function verdict(image) {
@@ -79,16 +79,27 @@ function blocksOf(change) {
   return el('span', {}, named, change.ranges.length > RANGES ? '…' : '');
 }
 
-/** The changes made to the image, which blocks each touched, and undoing them. */
+/** The changes made to the image, which blocks and which fields each touched, and undoing them. */
 export async function showChanges(panel) {
   const { image } = state;
-  const rows = image.done.map((it, k) => [String(k + 1), el('code', {}, it.line), blocksOf(it)]);
-  panel.append(el('h2', {}, 'Changes'), rows.length ? table(`Changes to ${image.name}`, ['', 'By', 'Blocks'], rows, { id: 'changes' })
-    : el('p', {}, 'Nothing was changed.'), el('p', { className: 'row' },
+  const step = el('section', { 'aria-live': 'polite' });
+  const rows = image.done.map((it, k) => [String(k + 1), el('code', {}, it.line), blocksOf(it),
+    button('Fields', () => showStep(image, k + 1, step), { 'aria-label': `fields of change ${k + 1}` })]);
+  panel.append(el('h2', {}, 'Changes'), rows.length ? table(`Changes to ${image.name}`, ['', 'By', 'Blocks', 'What it changed'], rows, { id: 'changes' })
+    : el('p', {}, 'Nothing was changed.'), step, el('p', { className: 'row' },
     button('Undo the last', () => undo(image), { disabled: !image.done.length, id: 'undo' }),
       button('Make it again', () => undo(image, true), { disabled: !image.undone.length, id: 'redo' }),
     button('Download the image', () => saveImage(image))), el('p', { className: 'dim' },
       'The image on your disk stays as it is, until you save the changed one in its place.'));
+}
+
+/** Shows what one change did, field by field, with the values before and after it; and steps to the one before it and the next. */
+async function showStep(image, number, place) {
+  const ended = await runBetween(image, number - 1, (before, after) => ['diff', image.edition, before, after, '--fields']);
+  const at = chooser('Change', number, 1, image.done.length, (it) => showStep(image, it, place));
+  const same = ended.status === 0 ? el('p', {}, 'No byte is another.') : null;
+  place.replaceChildren(el('h3', {}, 'Before and after'), at, el('pre', { className: 'code' }, `$ ${image.done[number - 1].line}`),
+    fill(el('div', { id: 'fields' }), printed(ended), same));
 }
 
 export async function saveImage(image) {

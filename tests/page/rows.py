@@ -239,12 +239,15 @@ def check_changes(page, native):
         "mkdir 7 work.v7 /new 1000", "ln 7 work.v7 /etc/motd /new/motd 1001", "chmod 7 work.v7 /new 0700 1002", "rm -r 7 work.v7 /usr/games 1003",
         "mv 7 work.v7 /etc/passwd /new/p 1004",
     ]
-    for line in lines:
+    for k, line in enumerate(lines):
+        shutil.copy(native.path("work.v7"), native.path(f"before.{k}"))
         has(f"the page's {line}", native.out(*line.split()), page.types(line))
     changed = native.bytes("work.v7")
+    shutil.copy(native.path("work.v7"), native.path(f"before.{len(lines)}"))
     has("the image after five changes", changed, page.image("work.v7"))
     page.tab("changes")
     has("the changes that are listed", [f"unixvol {it}" for it in lines], page.texts("#changes code"))
+    check_steps(page, native, len(lines))
     for _ in lines:
         page.click("#undo")
         page.shows("changes")
@@ -255,6 +258,16 @@ def check_changes(page, native):
         page.shows("changes")
     has("the image with all made again", changed, page.image("work.v7"))
     check_buttons(page, native, letter)
+
+
+def check_steps(page, native, count):
+    """What each change did, field by field: the last by its button, then back to the first, step by step."""
+    page.click("#changes tr:last-child [aria-label^=fields]")
+    page.rests()
+    for k in reversed(range(count)):
+        has(f"what change {k + 1} did", native.out("diff", 7, f"before.{k}", f"before.{k + 1}", "--fields"), page.text("#fields pre"))
+        page.click("[aria-label='the one before']")
+        page.rests()
 
 
 def check_buttons(page, native, letter):

@@ -178,7 +178,8 @@ pub fn save_marked<R: ImageFiles + AllocGlobal>(
 }
 
 /// Saves a content in a new file at `path`, which only its owner may use. If there is anything at `path`, even a symbolic link, it stays, and the error
-/// is `AlreadyExists`. If the file can't be written or synchronised, it is removed, and the error is the system's.
+/// is `AlreadyExists`. If the file can't be written or synchronised, it is removed, and the error is the system's. If memory runs out for the path, the
+/// error is `OutOfMemory`, and no file is made.
 pub fn save_apart<R: ImageFiles + AllocGlobal>(
     rt: &R,
     path: &str,

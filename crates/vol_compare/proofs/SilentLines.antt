@@ -1,0 +1,257 @@
+-- When two trees have no lines: lemmas on the lines of members.
+use Rattle.std.proofs.Common.{◌≡◌, ◌∙◌, sym, ap, refl, ℕ, suc, ◌==◌, if◌then◌else◌, Bool, true, false, List, [], ◌∷◌, ◌++◌, codes, length, inl, inr, Option, None, Some, arith}
+use Rattle.std.specs.Option.{option_map}
+use Rattle.std.specs.Str.{bytes_eq}
+use Rattle.std.proofs.lemmas.Bool.{cases_eq, eq-eqb, ne_eqb, true≢false}
+use Rattle.std.proofs.lemmas.Option.{none-some}
+use Rattle.std.proofs.lemmas.Slice.Eq.{bytes_eq-Decides}
+use Rattle.vol_archive.specs.declared.met_entries.Reason.{Reason}
+use Rattle.vol_archive.specs.declared.met_entries.Reason.TheVariants as reasons
+use Rattle.vol_compare.specs.Bodies.{first_difference}
+use Rattle.vol_compare.specs.Lines.{bytes_change, change, changed_line, fact_changes, is_one_kind, is_one_reason, kind_change, kind_text, left_text, content_text, mode_change, nodes_line, number_change, owner_changes, pair_line, time_change, time_changes, turned_line}
+use Rattle.vol_compare.specs.Members.{Content, Own, Further, LeftOut}
+use Rattle.vol_compare.specs.declared.members.Facts.{Facts}
+use Rattle.vol_compare.specs.declared.members.NodeKind.{NodeKind}
+use Rattle.vol_compare.specs.declared.members.NodeKind.TheVariants as nodes
+use Rattle.vol_compare.proofs.BodyDifferences.{none_same}
+
+-- a text with a byte isn't empty
+pub some_text : (c : ℕ) (text : List ℕ) → (c ∷ text) ≡ [] → ⊥
+some_text c text e = let bad : suc (length text) ≡ 0 = ap length e in omega (arith, bad)
+
+-- if two texts together are empty, the first is
+pub first_empty : (xs ys : List ℕ) → xs ++ ys ≡ [] → xs ≡ []
+first_empty [] ys e = refl
+first_empty (x ∷ xs) ys e = absurd (some_text x (xs ++ ys) e)
+
+-- and so is the second
+pub rest_empty : (xs ys : List ℕ) → xs ++ ys ≡ [] → ys ≡ []
+rest_empty [] ys e = e
+rest_empty (x ∷ xs) ys e = absurd (some_text x (xs ++ ys) e)
+
+-- two empty texts together are empty
+pub both_empty : (xs ys : List ℕ) → xs ≡ [] → ys ≡ [] → xs ++ ys ≡ []
+both_empty xs ys first rest = ap (λ zs. zs ++ ys) first ∙ rest
+
+-- a change of a value is not empty
+some_change : (name old new : List ℕ) → change name old new ≡ [] → ⊥
+unfolding change
+some_change name old new e = some_text 44 _ e
+
+-- nothing is told of a value that is the same
+pub value_same : (a : ℕ) (text : List ℕ) → (if a == a then [] else text) ≡ []
+value_same a text = ap (λ t. if t then [] else text) (eq-eqb a a refl)
+
+-- a value of which nothing is told is the same
+value_equal : (a b : ℕ) (name old new : List ℕ) → (if a == b then [] else change name old new) ≡ [] → a ≡ b
+value_equal a b name old new e =
+    elim (cases_eq a b) [
+      | inl same ↦ same
+      | inr other ↦ absurd (some_change name old new (sym (ap (λ t. if t then [] else change name old new) (ne_eqb a b other)) ∙ e))
+    ]
+
+-- a line of a path that leads to something else isn't empty
+some_turn : (letter : ℕ) (path old new : List ℕ) → turned_line letter path old new ≡ [] → ⊥
+unfolding turned_line
+some_turn letter path old new e = some_text letter _ e
+
+-- a line of changes is empty only without any
+no_changes : (path changes : List ℕ) → changed_line path changes ≡ [] → changes ≡ []
+no_changes path [] e = refl
+no_changes path (c ∷ changes) e = absurd (some_text 77 _ e)
+
+-- nothing is told of one kind
+kind_same : (kind : NodeKind) → kind_change kind kind ≡ []
+kind_same (nodes.File m) = value_same m _
+kind_same nodes.Directory = refl
+kind_same (nodes.Block m) = value_same m _
+kind_same (nodes.Character m) = value_same m _
+
+-- a kind is one kind with itself
+one_kind : (kind : NodeKind) → is_one_kind kind kind ≡ true
+one_kind (nodes.File m) = refl
+one_kind nodes.Directory = refl
+one_kind (nodes.Block m) = refl
+one_kind (nodes.Character m) = refl
+
+-- a reason is one reason with itself
+one_reason : (reason : Reason) → is_one_reason reason reason ≡ true
+one_reason reasons.NoNode = refl
+one_reason reasons.OddNode = refl
+one_reason reasons.Again = refl
+one_reason reasons.LongPath = refl
+one_reason reasons.BadName = refl
+
+-- two reasons that are one are equal
+reasons_equal : (r s : Reason) → is_one_reason r s ≡ true → r ≡ s
+reasons_equal reasons.NoNode reasons.NoNode is = refl
+reasons_equal reasons.NoNode reasons.OddNode is = absurd (true≢false (sym is))
+reasons_equal reasons.NoNode reasons.Again is = absurd (true≢false (sym is))
+reasons_equal reasons.NoNode reasons.LongPath is = absurd (true≢false (sym is))
+reasons_equal reasons.NoNode reasons.BadName is = absurd (true≢false (sym is))
+reasons_equal reasons.OddNode reasons.NoNode is = absurd (true≢false (sym is))
+reasons_equal reasons.OddNode reasons.OddNode is = refl
+reasons_equal reasons.OddNode reasons.Again is = absurd (true≢false (sym is))
+reasons_equal reasons.OddNode reasons.LongPath is = absurd (true≢false (sym is))
+reasons_equal reasons.OddNode reasons.BadName is = absurd (true≢false (sym is))
+reasons_equal reasons.Again reasons.NoNode is = absurd (true≢false (sym is))
+reasons_equal reasons.Again reasons.OddNode is = absurd (true≢false (sym is))
+reasons_equal reasons.Again reasons.Again is = refl
+reasons_equal reasons.Again reasons.LongPath is = absurd (true≢false (sym is))
+reasons_equal reasons.Again reasons.BadName is = absurd (true≢false (sym is))
+reasons_equal reasons.LongPath reasons.NoNode is = absurd (true≢false (sym is))
+reasons_equal reasons.LongPath reasons.OddNode is = absurd (true≢false (sym is))
+reasons_equal reasons.LongPath reasons.Again is = absurd (true≢false (sym is))
+reasons_equal reasons.LongPath reasons.LongPath is = refl
+reasons_equal reasons.LongPath reasons.BadName is = absurd (true≢false (sym is))
+reasons_equal reasons.BadName reasons.NoNode is = absurd (true≢false (sym is))
+reasons_equal reasons.BadName reasons.OddNode is = absurd (true≢false (sym is))
+reasons_equal reasons.BadName reasons.Again is = absurd (true≢false (sym is))
+reasons_equal reasons.BadName reasons.LongPath is = absurd (true≢false (sym is))
+reasons_equal reasons.BadName reasons.BadName is = refl
+
+-- two kinds that are one, and of which nothing is told, are equal
+kinds_equal : (a b : NodeKind) → is_one_kind a b ≡ true → kind_change a b ≡ [] → a ≡ b
+kinds_equal (nodes.File m) (nodes.File n) one none = ap nodes.File (value_equal m n _ _ _ none)
+kinds_equal (nodes.File m) nodes.Directory one none = absurd (true≢false (sym one))
+kinds_equal (nodes.File m) (nodes.Block n) one none = absurd (true≢false (sym one))
+kinds_equal (nodes.File m) (nodes.Character n) one none = absurd (true≢false (sym one))
+kinds_equal nodes.Directory (nodes.File n) one none = absurd (true≢false (sym one))
+kinds_equal nodes.Directory nodes.Directory one none = refl
+kinds_equal nodes.Directory (nodes.Block n) one none = absurd (true≢false (sym one))
+kinds_equal nodes.Directory (nodes.Character n) one none = absurd (true≢false (sym one))
+kinds_equal (nodes.Block m) (nodes.File n) one none = absurd (true≢false (sym one))
+kinds_equal (nodes.Block m) nodes.Directory one none = absurd (true≢false (sym one))
+kinds_equal (nodes.Block m) (nodes.Block n) one none = ap nodes.Block (value_equal m n _ _ _ none)
+kinds_equal (nodes.Block m) (nodes.Character n) one none = absurd (true≢false (sym one))
+kinds_equal (nodes.Character m) (nodes.File n) one none = absurd (true≢false (sym one))
+kinds_equal (nodes.Character m) nodes.Directory one none = absurd (true≢false (sym one))
+kinds_equal (nodes.Character m) (nodes.Block n) one none = absurd (true≢false (sym one))
+kinds_equal (nodes.Character m) (nodes.Character n) one none = ap nodes.Character (value_equal m n _ _ _ none)
+
+-- nothing is told of facts that are the same
+facts_same : (f : Facts) → fact_changes f f ≡ []
+unfolding fact_changes
+facts_same f =
+    both_empty (owner_changes f f) (kind_change f.kind f.kind ++ time_changes f f)
+    (both_empty _ _ (value_same f.permissions _) (both_empty _ _ (value_same f.links _) (both_empty _ _ (value_same f.uid _) (value_same f.gid _))))
+    (both_empty (kind_change f.kind f.kind) (time_changes f f) (kind_same f.kind)
+    (both_empty _ _ (value_same f.modified _) (both_empty _ _ (value_same f.accessed _) (value_same f.changed _))))
+
+-- facts with these parts
+abbrev parts : NodeKind → ℕ → ℕ → ℕ → ℕ → ℕ → ℕ → ℕ → Facts
+parts kind permissions links uid gid modified accessed changed = record {
+  kind = kind;
+  permissions = permissions;
+  links = links;
+  uid = uid;
+  gid = gid;
+  modified = modified;
+  accessed = accessed;
+  changed = changed;
+}
+
+-- facts with the same parts are equal
+facts_equal : (f h : Facts) → f.kind ≡ h.kind → f.permissions ≡ h.permissions → f.links ≡ h.links → f.uid ≡ h.uid → f.gid ≡ h.gid → f.modified ≡ h.modified → f.accessed ≡ h.accessed → f.changed ≡ h.changed → f ≡ h
+facts_equal f h kind permissions links uid gid modified accessed changed =
+    ap (λ x. parts x f.permissions f.links f.uid f.gid f.modified f.accessed f.changed) kind
+    ∙ (ap (λ x. parts h.kind x f.links f.uid f.gid f.modified f.accessed f.changed) permissions
+    ∙ (ap (λ x. parts h.kind h.permissions x f.uid f.gid f.modified f.accessed f.changed) links
+    ∙ (ap (λ x. parts h.kind h.permissions h.links x f.gid f.modified f.accessed f.changed) uid
+    ∙ (ap (λ x. parts h.kind h.permissions h.links h.uid x f.modified f.accessed f.changed) gid
+    ∙ (ap (λ x. parts h.kind h.permissions h.links h.uid h.gid x f.accessed f.changed) modified
+    ∙ (ap (λ x. parts h.kind h.permissions h.links h.uid h.gid h.modified x f.changed) accessed
+    ∙ (ap (λ x. parts h.kind h.permissions h.links h.uid h.gid h.modified h.accessed x) changed)))))))
+
+-- facts of one kind of which nothing is told are equal
+told_facts : (f h : Facts) → is_one_kind f.kind h.kind ≡ true → fact_changes f h ≡ [] → f ≡ h
+unfolding fact_changes
+told_facts f h one none =
+    let owner : owner_changes f h ≡ [] = first_empty _ _ none in
+    let later : kind_change f.kind h.kind ++ time_changes f h ≡ [] = rest_empty (owner_changes f h) _ none in
+    let kind : kind_change f.kind h.kind ≡ [] = first_empty _ _ later in
+    let times : time_changes f h ≡ [] = rest_empty (kind_change f.kind h.kind) _ later in
+    let after_mode = rest_empty (mode_change f.permissions h.permissions) _ owner in
+    let after_links = rest_empty (number_change (codes "links") f.links h.links) _ after_mode in
+    let after_modified = rest_empty (time_change (codes "mtime") f.modified h.modified) _ times in
+    facts_equal f h
+    (kinds_equal f.kind h.kind one kind)
+    (value_equal f.permissions h.permissions _ _ _ (first_empty (mode_change f.permissions h.permissions) _ owner))
+    (value_equal f.links h.links _ _ _ (first_empty (number_change (codes "links") f.links h.links) _ after_mode))
+    (value_equal f.uid h.uid _ _ _ (first_empty (number_change (codes "uid") f.uid h.uid) _ after_links))
+    (value_equal f.gid h.gid _ _ _ (rest_empty (number_change (codes "uid") f.uid h.uid) _ after_links))
+    (value_equal f.modified h.modified _ _ _ (first_empty (time_change (codes "mtime") f.modified h.modified) _ times))
+    (value_equal f.accessed h.accessed _ _ _ (first_empty (time_change (codes "atime") f.accessed h.accessed) _ after_modified))
+    (value_equal f.changed h.changed _ _ _ (rest_empty (time_change (codes "atime") f.accessed h.accessed) _ after_modified))
+
+-- if there is none one place on, there is none
+none_on : (o : Option ℕ) → option_map suc o ≡ None → o ≡ None
+none_on None e = refl
+none_on (Some n) e = absurd (none-some (suc n) (sym e))
+
+-- lists without a first difference are equal
+none_equal : (xs ys : List ℕ) → first_difference xs ys ≡ None → xs ≡ ys
+unfolding first_difference
+none_equal [] [] e = refl
+none_equal [] (y ∷ ys) e = absurd (none-some 0 (sym e))
+none_equal (x ∷ xs) [] e = absurd (none-some 0 (sym e))
+none_equal (x ∷ xs) (y ∷ ys) e =
+    elim (cases_eq x y) [
+      | inl same ↦
+          let more : option_map suc (first_difference xs ys) ≡ None =
+          sym (ap (λ t. if t then option_map suc (first_difference xs ys) else Some 0) (eq-eqb x y same)) ∙ e in
+          ap (λ z. z ∷ xs) same ∙ ap (λ zs. y ∷ zs) (none_equal xs ys (none_on _ more))
+      | inr other ↦ absurd (none-some 0 (sym e ∙ ap (λ t. if t then option_map suc (first_difference xs ys) else Some 0) (ne_eqb x y other)))
+    ]
+
+-- nothing is told of bytes only if there is no first difference
+bytes_none : (at : Option ℕ) → bytes_change at ≡ [] → at ≡ None
+bytes_none None e = refl
+bytes_none (Some n) e = absurd (some_text 44 _ e)
+
+-- nothing is told of a node that is the same
+nodes_same : (path : List ℕ) (f : Facts) (xs : List ℕ) → nodes_line path f xs f xs ≡ []
+nodes_same path f xs =
+    ap (λ t. if t then changed_line path (fact_changes f f ++ bytes_change (first_difference xs xs)) else turned_line 84 path (kind_text f.kind) (kind_text f.kind)) (one_kind f.kind)
+    ∙ ap (changed_line path) (both_empty (fact_changes f f) (bytes_change (first_difference xs xs)) (facts_same f) (ap bytes_change (none_same xs)))
+
+-- nodes of which nothing is told are the same
+nodes_told : (path : List ℕ) (f : Facts) (xs : List ℕ) (h : Facts) (ys : List ℕ) (t : Bool) (turned : List ℕ) → (turned ≡ [] → ⊥) → is_one_kind f.kind h.kind ≡ t
+    → (if t then changed_line path (fact_changes f h ++ bytes_change (first_difference xs ys)) else turned) ≡ [] → Own f xs ≡ Own h ys
+nodes_told path f xs h ys false turned some one e = absurd (some e)
+nodes_told path f xs h ys true turned some one e =
+    let none = no_changes path (fact_changes f h ++ bytes_change (first_difference xs ys)) e in
+    let facts : f ≡ h = told_facts f h one (first_empty (fact_changes f h) _ none) in
+    let bytes : xs ≡ ys = none_equal xs ys (bytes_none _ (rest_empty (fact_changes f h) _ none)) in
+    ap (λ x. Own x xs) facts ∙ ap (Own h) bytes
+
+-- a text equals itself
+same_bytes : (a : List ℕ) → bytes_eq a a ≡ true
+same_bytes a = (bytes_eq-Decides a a).1 refl
+
+-- texts that a test finds equal are
+equal_bytes : (a b : List ℕ) → bytes_eq a b ≡ true → a ≡ b
+equal_bytes a b = (bytes_eq-Decides a b).0
+
+-- nothing is told of a path that leads to the same
+pub pair_same : (path : List ℕ) (content : Content) → pair_line path content content ≡ []
+pair_same path (Own f xs) = nodes_same path f xs
+pair_same path (Further a) = ap (λ t. if t then [] else turned_line 77 path (content_text (Further a)) (content_text (Further a))) (same_bytes a)
+pair_same path (LeftOut r) = ap (λ t. if t then [] else turned_line 84 path (left_text r) (left_text r)) (one_reason r)
+
+-- a choice between nothing and a text that isn't empty
+chosen : (t : Bool) (text : List ℕ) → (text ≡ [] → ⊥) → (if t then [] else text) ≡ [] → t ≡ true
+chosen true text some e = refl
+chosen false text some e = absurd (some e)
+
+-- a path of which nothing is told leads to the same
+pub pair_equal : (path : List ℕ) (old new : Content) → pair_line path old new ≡ [] → old ≡ new
+pair_equal path (Own f xs) (Own h ys) e = nodes_told path f xs h ys (is_one_kind f.kind h.kind) _ (some_turn 84 path _ _) refl e
+pair_equal path (Further a) (Further b) e = ap Further (equal_bytes a b (chosen (bytes_eq a b) _ (some_turn 77 path _ _) e))
+pair_equal path (LeftOut r) (LeftOut s) e = ap LeftOut (reasons_equal r s (chosen (is_one_reason r s) _ (some_turn 84 path _ _) e))
+pair_equal path (Own f xs) (Further b) e = absurd (some_turn _ path _ _ e)
+pair_equal path (Own f xs) (LeftOut s) e = absurd (some_turn _ path _ _ e)
+pair_equal path (Further a) (Own h ys) e = absurd (some_turn _ path _ _ e)
+pair_equal path (Further a) (LeftOut s) e = absurd (some_turn _ path _ _ e)
+pair_equal path (LeftOut r) (Own h ys) e = absurd (some_turn _ path _ _ e)
+pair_equal path (LeftOut r) (Further b) e = absurd (some_turn _ path _ _ e)

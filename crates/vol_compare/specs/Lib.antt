@@ -1,0 +1,5 @@
+pub mod Bodies
+pub mod Laws
+pub mod Lines
+pub mod Members
+pub mod Merge

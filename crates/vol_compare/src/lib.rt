@@ -1,0 +1,12 @@
+//! The members of two trees, and what differs between them.
+#![tactic(auto)]
+
+mod bodies;
+mod changes;
+pub mod laws;
+mod lines;
+mod members;
+mod merge;
+
+pub use members::{MetTree, met_tree};
+pub use merge::put_differences;

@@ -1,0 +1,322 @@
+//! The lines of what differs between two trees.
+ghost use Rattle.std.specs.Prelude.{◌≡◌, ◌≤◌, ◌++◌, ◌∷◌, [], true, IfOk, OnOk};
+ghost use Rattle.vol_layout.specs.Geometry.{Fits};
+ghost use Rattle.vol_compare.specs.Bodies.{first_difference};
+ghost use Rattle.vol_compare.specs.Lines.{added_line, changed_line, content_text, fact_changes, bytes_change, gone_line, is_one_kind, is_one_reason, kind_text, left_text, nodes_line, own_letter, own_text, pair_line, path_text, turned_line};
+ghost use Rattle.vol_compare.specs.Members.{Further, LeftOut, bytes_of, content_at, content_of};
+ghost use Rattle.vol_compare.specs.declared.members.Facts.{Facts};
+
+use crate::bodies::{StoredFile, first_difference};
+use crate::changes::{push_bytes_change, push_fact_changes};
+use crate::members::{Facts, MetTree, NodeKind, Target, target_of};
+use escaped_text::push_escaped;
+use std::alloc::{AllocError, Global};
+use vol_archive::{MetEntry, Reason};
+
+/// Returns the line of a path that only the old tree has.
+pub(crate) fn gone_line(alloc: Global, path: &[u8]) -> Result<Vec<u8>, AllocError>
+    ensures { IfOk result (λ line. line.items ≡ gone_line path.now) }
+{
+    lone_line(alloc, b'D', path)
+}
+
+/// Returns the line of a path that only the new tree has.
+pub(crate) fn added_line(alloc: Global, path: &[u8]) -> Result<Vec<u8>, AllocError>
+    ensures { IfOk result (λ line. line.items ≡ added_line path.now) }
+{
+    lone_line(alloc, b'A', path)
+}
+
+/// Returns the line of a path that only one tree has.
+fn lone_line(alloc: Global, letter: u8, path: &[u8]) -> Result<Vec<u8>, AllocError>
+    ensures { IfOk result (λ line. line.items ≡ letter ∷ path_text path.now ++ 10 ∷ []) }
+{
+    let mut line = Vec::new(alloc);
+    line.push(letter)?;
+    push_path(&mut line, path)?;
+    line.push(b'\n')?;
+    Ok(line)
+}
+
+/// Appends a path of a tree, from the root.
+fn push_path(text: &mut Vec<u8>, path: &[u8]) -> Result<(), AllocError>
+    ensures { OnOk result (text.new.items ≡ text.old.items ++ path_text path.now) }
+{
+    text.extend_from_slice(b" /")?;
+    push_escaped(text, path)
+}
+
+/// Returns the line of a path that leads to different things in two trees; no bytes if it leads to the same. The paths of the entries are equal.
+///
+/// Costs [`first_difference`] of two files.
+pub(crate) fn pair_line(
+    alloc: Global,
+    old: &MetTree<'_>,
+    old_found: &MetEntry,
+    new: &MetTree<'_>,
+    new_found: &MetEntry,
+    times: bool,
+) -> Result<Vec<u8>, AllocError>
+    requires old_fits { Fits old.now.geometry.now old.now.image.now }
+    requires new_fits { Fits new.now.geometry.now new.now.image.now }
+    ensures { IfOk result (λ line. line.items ≡ pair_line old_found.now.path
+        (content_at times old.now.geometry.now old.now.image.now old.now.founds.items old_found.now)
+        (content_at times new.now.geometry.now new.now.image.now new.now.founds.items new_found.now)) }
+{
+    let before = target_of(old, old_found, times);
+    let after = target_of(new, new_found, times);
+    let was = StoredFile {
+        image: old.image,
+        geometry: old.geometry,
+        inode: old_found.inode,
+    };
+    let is = StoredFile {
+        image: new.image,
+        geometry: new.geometry,
+        inode: new_found.inode,
+    };
+    targets_line(alloc, old_found.path.as_slice(), before, was, after, is)
+}
+
+/// Returns the line of a path that leads to different things in two trees; no bytes if it leads to the same.
+fn targets_line(
+    alloc: Global,
+    path: &[u8],
+    old: Target<'_>,
+    old_file: StoredFile<'_>,
+    new: Target<'_>,
+    new_file: StoredFile<'_>,
+) -> Result<Vec<u8>, AllocError>
+    requires old_fits { Fits old_file.geometry.now old_file.image.now }
+    requires old_number { (facts : Facts) → old ≡ Target.Node facts → (1 ≤ old_file.inode) × (old_file.inode ≤ old_file.geometry.now.last_inode) }
+    requires new_fits { Fits new_file.geometry.now new_file.image.now }
+    requires new_number { (facts : Facts) → new ≡ Target.Node facts → (1 ≤ new_file.inode) × (new_file.inode ≤ new_file.geometry.now.last_inode) }
+    ensures { IfOk result (λ line. line.items ≡ pair_line path.now
+        (content_of old_file.entry.geometry.now old_file.entry.image.now old_file.entry.inode old.entry)
+        (content_of new_file.entry.geometry.now new_file.entry.image.now new_file.entry.inode new.entry)) }
+{
+    match (old, new) {
+        (Target::Node(f), Target::Node(h)) => nodes_line(alloc, path, f, old_file, h, new_file),
+        (Target::Link(a), Target::Link(b)) => links_line(alloc, path, a, b),
+        (Target::Left(r), Target::Left(s)) => reasons_line(alloc, path, r, s),
+        (Target::Node(f), Target::Link(b)) => {
+            let to = link_text(alloc, b)?;
+            turned_line(alloc, own_letter(f.kind), path, own_text(f.kind), &to)
+        }
+        (Target::Link(a), Target::Node(h)) => {
+            let to = link_text(alloc, a)?;
+            turned_line(alloc, own_letter(h.kind), path, &to, own_text(h.kind))
+        }
+        (Target::Node(f), Target::Left(s)) => {
+            turned_line(alloc, b'T', path, kind_text(f.kind), left_text(s))
+        }
+        (Target::Left(r), Target::Node(h)) => {
+            turned_line(alloc, b'T', path, left_text(r), kind_text(h.kind))
+        }
+        (Target::Link(a), Target::Left(s)) => {
+            let to = link_text(alloc, a)?;
+            turned_line(alloc, b'T', path, &to, left_text(s))
+        }
+        (Target::Left(r), Target::Link(b)) => {
+            let to = link_text(alloc, b)?;
+            turned_line(alloc, b'T', path, left_text(r), &to)
+        }
+    }
+}
+
+/// Returns the line of a path that is another name of two files, given their paths; no bytes if these are equal.
+fn links_line(alloc: Global, path: &[u8], old: &[u8], new: &[u8]) -> Result<Vec<u8>, AllocError>
+    ensures { IfOk result (λ line. line.items ≡ pair_line path.now (Further old.now) (Further new.now)) }
+{
+    if old == new {
+        return Ok(Vec::new(alloc));
+    }
+    let before = link_text(alloc, old)?;
+    let after = link_text(alloc, new)?;
+    turned_line(alloc, b'M', path, &before, &after)
+}
+
+/// Returns the line of a path that is left out for two reasons; no bytes if these are the same.
+fn reasons_line(alloc: Global, path: &[u8], old: Reason, new: Reason) -> Result<Vec<u8>, AllocError>
+    ensures { IfOk result (λ line. line.items ≡ pair_line path.now (LeftOut old) (LeftOut new)) }
+{
+    if is_one_reason(old, new) {
+        return Ok(Vec::new(alloc));
+    }
+    turned_line(alloc, b'T', path, left_text(old), left_text(new))
+}
+
+/// True if two entries are left out for one reason.
+fn is_one_reason(old: Reason, new: Reason) -> bool
+    ensures { result ≡ is_one_reason old new }
+{
+    match (old, new) {
+        (Reason::NoNode, Reason::NoNode)
+        | (Reason::OddNode, Reason::OddNode)
+        | (Reason::Again, Reason::Again)
+        | (Reason::LongPath, Reason::LongPath)
+        | (Reason::BadName, Reason::BadName) => true,
+        _ => false,
+    }
+}
+
+/// Returns the line of two nodes at a path, if they differ.
+fn nodes_line(
+    alloc: Global,
+    path: &[u8],
+    old: Facts,
+    old_file: StoredFile<'_>,
+    new: Facts,
+    new_file: StoredFile<'_>,
+) -> Result<Vec<u8>, AllocError>
+    requires old_fits { Fits old_file.geometry.now old_file.image.now }
+    requires old_first { 1 ≤ old_file.inode }
+    requires old_last { old_file.inode ≤ old_file.geometry.now.last_inode }
+    requires new_fits { Fits new_file.geometry.now new_file.image.now }
+    requires new_first { 1 ≤ new_file.inode }
+    requires new_last { new_file.inode ≤ new_file.geometry.now.last_inode }
+    ensures { IfOk result (λ line. line.items ≡ nodes_line path.now old
+        (bytes_of old_file.entry.geometry.now old_file.entry.image.now old_file.entry.inode old.kind) new
+        (bytes_of new_file.entry.geometry.now new_file.entry.image.now new_file.entry.inode new.kind)) }
+{
+    if !is_one_kind(old.kind, new.kind) {
+        return turned_line(alloc, b'T', path, kind_text(old.kind), kind_text(new.kind));
+    }
+    let mut changes = Vec::new(alloc);
+    push_fact_changes(alloc, &mut changes, old, new)?;
+    push_bytes(alloc, &mut changes, old.kind, old_file, new.kind, new_file)?;
+    changed_line(alloc, path, &changes)
+}
+
+/// Appends the first place at which the bytes of two nodes of one kind differ, if they are regular files and it does.
+#[tactic(auto, using(crate::proofs::NodeBytes::file_bytes, crate::proofs::NodeBytes::no_bytes))]
+fn push_bytes(
+    alloc: Global,
+    text: &mut Vec<u8>,
+    old: NodeKind,
+    old_file: StoredFile<'_>,
+    new: NodeKind,
+    new_file: StoredFile<'_>,
+) -> Result<(), AllocError>
+    requires old_fits { Fits old_file.geometry.now old_file.image.now }
+    requires old_first { 1 ≤ old_file.inode }
+    requires old_last { old_file.inode ≤ old_file.geometry.now.last_inode }
+    requires new_fits { Fits new_file.geometry.now new_file.image.now }
+    requires new_first { 1 ≤ new_file.inode }
+    requires new_last { new_file.inode ≤ new_file.geometry.now.last_inode }
+    requires one { is_one_kind old new ≡ true }
+    ensures { OnOk result (text.new.items ≡ text.old.items ++ bytes_change (first_difference
+        (bytes_of old_file.entry.geometry.now old_file.entry.image.now old_file.entry.inode old)
+        (bytes_of new_file.entry.geometry.now new_file.entry.image.now new_file.entry.inode new))) }
+{
+    if old.is_file() {
+        push_bytes_change(alloc, text, first_difference(old_file, new_file))
+    } else {
+        Ok(())
+    }
+}
+
+/// Returns the line of a path whose node changed in this way: the changes without the comma before the first; no bytes if there are none.
+fn changed_line(alloc: Global, path: &[u8], changes: &[u8]) -> Result<Vec<u8>, AllocError>
+    ensures { IfOk result (λ line. line.items ≡ changed_line path.now changes.now) }
+{
+    let mut line = Vec::new(alloc);
+    if let Some((_, changes)) = changes.split_first() {
+        line.push(b'M')?;
+        push_path(&mut line, path)?;
+        line.extend_from_slice(changes)?;
+        line.push(b'\n')?;
+    }
+    Ok(line)
+}
+
+/// True if two nodes are of one kind.
+fn is_one_kind(old: NodeKind, new: NodeKind) -> bool
+    ensures { result ≡ is_one_kind old new }
+{
+    match (old, new) {
+        (NodeKind::File(_), NodeKind::File(_))
+        | (NodeKind::Directory, NodeKind::Directory)
+        | (NodeKind::Block(_), NodeKind::Block(_))
+        | (NodeKind::Character(_), NodeKind::Character(_)) => true,
+        _ => false,
+    }
+}
+
+/// Returns the words for a kind of node.
+fn kind_text(kind: NodeKind) -> &'static [u8]
+    ensures { result.now ≡ kind_text kind }
+{
+    match kind {
+        NodeKind::File(_) => b"file",
+        NodeKind::Directory => b"directory",
+        NodeKind::Block(_) => b"block special file",
+        NodeKind::Character(_) => b"character special file",
+    }
+}
+
+/// Returns the words for an entry that leads to nothing, for this reason.
+fn left_text(reason: Reason) -> &'static [u8]
+    ensures { result.now ≡ left_text reason }
+{
+    match reason {
+        Reason::NoNode => b"entry without an i-node",
+        Reason::OddNode => b"i-node of no known kind",
+        Reason::Again => b"directory met before",
+        Reason::LongPath => b"path above 4096 bytes",
+        Reason::BadName => b"name that is empty or has a slash",
+    }
+}
+
+/// Returns the words for a node that had or has another name of the file of another path.
+fn own_text(kind: NodeKind) -> &'static [u8]
+    ensures { result.now ≡ own_text kind }
+{
+    match kind {
+        NodeKind::File(_) => b"own file",
+        NodeKind::Directory => b"directory",
+        NodeKind::Block(_) => b"own block special file",
+        NodeKind::Character(_) => b"own character special file",
+    }
+}
+
+/// Returns the letter of a path that was or is another name of a node of this kind.
+fn own_letter(kind: NodeKind) -> u8
+    ensures { result ≡ own_letter kind }
+{
+    match kind {
+        NodeKind::Directory => b'T',
+        _ => b'M',
+    }
+}
+
+/// Returns the line of a path that leads to something else, with the words for both.
+#[tactic(auto, unfolding(crate::specs::Lines::turned_line))]
+fn turned_line(
+    alloc: Global,
+    letter: u8,
+    path: &[u8],
+    old: &[u8],
+    new: &[u8],
+) -> Result<Vec<u8>, AllocError>
+    ensures { IfOk result (λ line. line.items ≡ turned_line letter path.now old.now new.now) }
+{
+    let mut line = Vec::new(alloc);
+    line.push(letter)?;
+    push_path(&mut line, path)?;
+    line.push(b' ')?;
+    line.extend_from_slice(old)?;
+    line.extend_from_slice(b" -> ")?;
+    line.extend_from_slice(new)?;
+    line.push(b'\n')?;
+    Ok(line)
+}
+
+/// Returns the words for a further name of the file at a path.
+fn link_text(alloc: Global, path: &[u8]) -> Result<Vec<u8>, AllocError>
+    ensures { IfOk result (λ text. text.items ≡ content_text (Further path.now)) }
+{
+    let mut text = Vec::from_slice(alloc, b"link to /")?;
+    push_escaped(&mut text, path)?;
+    Ok(text)
+}

@@ -150,13 +150,13 @@ asks_listing : (clock : Option ℕ) (given : Words) (edition : Edition) (image p
     → the_word given (codes "EDITION") ≡ word_of edition → the_word given (codes "IMAGE") ≡ image → the_word given (codes "PATH") ≡ path → HasNoOptions given
     → IsGiven clock given invocation → IsListing edition image path invocation
 asks_listing clock given edition image path (invocations.Cat volume node) test e_is i_is p_is none is = absurd (true≢false (sym test))
-asks_listing clock given edition image path (invocations.Mkfs i volume) test e_is i_is p_is none is = absurd (true≢false (sym test))
+asks_listing clock given edition image path (invocations.Mkfs place volume) test e_is i_is p_is none is = absurd (true≢false (sym test))
 asks_listing clock given edition image path (invocations.Migrate old at new migration) test e_is i_is p_is none is = absurd (true≢false (sym test))
 asks_listing clock given edition image path (invocations.Salvage volume copy) test e_is i_is p_is none is = absurd (true≢false (sym test))
 asks_listing clock given edition image path (invocations.Get volume p) test e_is i_is p_is none is = absurd (true≢false (sym test))
 asks_listing clock given edition image path (invocations.Serve volume serving) test e_is i_is p_is none is = absurd (true≢false (sym test))
 asks_listing clock given edition image path (invocations.Diff volume other all) test e_is i_is p_is none is = absurd (true≢false (sym test))
-asks_listing clock given edition image path (invocations.Identify images) test e_is i_is p_is none is = absurd (true≢false (sym test))
+asks_listing clock given edition image path (invocations.Identify images form) test e_is i_is p_is none is = absurd (true≢false (sym test))
 asks_listing clock given edition image path (invocations.Change volume (changes.Put p file keep now)) test e_is i_is p_is none is = absurd (true≢false (sym test))
 asks_listing clock given edition image path (invocations.Change volume (changes.Import p options now)) test e_is i_is p_is none is = absurd (true≢false (sym test))
 asks_listing clock given edition image path (invocations.Change volume (changes.Rm p now)) test e_is i_is p_is none is = absurd (true≢false (sym test))
@@ -230,13 +230,13 @@ listing_asks : (clock : Option ℕ) (met : Option (List ℕ × List Row)) (editi
     → seen met ≡ words_of edition image path → IsListing edition image path invocation → MetAsks clock met invocation
 listing_asks clock None edition image path invocation is listed = absurd (cc)
 listing_asks clock (Some met) edition image path (invocations.Cat volume node) is listed = absurd listed
-listing_asks clock (Some met) edition image path (invocations.Mkfs i volume) is listed = absurd listed
+listing_asks clock (Some met) edition image path (invocations.Mkfs place volume) is listed = absurd listed
 listing_asks clock (Some met) edition image path (invocations.Migrate old at new migration) is listed = absurd listed
 listing_asks clock (Some met) edition image path (invocations.Salvage volume copy) is listed = absurd listed
 listing_asks clock (Some met) edition image path (invocations.Get volume p) is listed = absurd listed
 listing_asks clock (Some met) edition image path (invocations.Serve volume serving) is listed = absurd listed
 listing_asks clock (Some met) edition image path (invocations.Diff volume other all) is listed = absurd listed
-listing_asks clock (Some met) edition image path (invocations.Identify images) is listed = absurd listed
+listing_asks clock (Some met) edition image path (invocations.Identify images form) is listed = absurd listed
 listing_asks clock (Some met) edition image path (invocations.Look v (looks.Export p options)) is listed = absurd listed
 listing_asks clock (Some met) edition image path (invocations.Look v (looks.Sums p form lost)) is listed = absurd listed
 listing_asks clock (Some met) edition image path (invocations.Look v (looks.Inode number form)) is listed = absurd listed

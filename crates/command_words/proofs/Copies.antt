@@ -61,12 +61,12 @@ puts clock given (invocations.Look volume (looks.Check graded form)) put is = ab
 puts clock given (invocations.Look volume (looks.List path listing)) put is = absurd (true≢false (sym put))
 puts clock given (invocations.Look volume (looks.Slots path)) put is = absurd (true≢false (sym put))
 puts clock given (invocations.Cat volume node) put is = absurd (true≢false (sym put))
-puts clock given (invocations.Mkfs i volume) put is = absurd (true≢false (sym put))
+puts clock given (invocations.Mkfs place volume) put is = absurd (true≢false (sym put))
 puts clock given (invocations.Migrate old at new migration) put is = absurd (true≢false (sym put))
 puts clock given (invocations.Salvage volume copy) put is = absurd (true≢false (sym put))
 puts clock given (invocations.Serve volume serving) put is = absurd (true≢false (sym put))
 puts clock given (invocations.Diff volume other all) put is = absurd (true≢false (sym put))
-puts clock given (invocations.Identify images) put is = absurd (true≢false (sym put))
+puts clock given (invocations.Identify images form) put is = absurd (true≢false (sym put))
 
 -- every invocation of `get` reads one file or several
 gets : (clock : Option ℕ) (given : Words) (invocation : Invocation) → is_get (verb_of invocation) ≡ true → IsGiven clock given invocation → IsGot given
@@ -105,12 +105,12 @@ gets clock given (invocations.Look volume (looks.Check graded form)) got is = ab
 gets clock given (invocations.Look volume (looks.List path listing)) got is = absurd (true≢false (sym got))
 gets clock given (invocations.Look volume (looks.Slots path)) got is = absurd (true≢false (sym got))
 gets clock given (invocations.Cat volume node) got is = absurd (true≢false (sym got))
-gets clock given (invocations.Mkfs i volume) got is = absurd (true≢false (sym got))
+gets clock given (invocations.Mkfs place volume) got is = absurd (true≢false (sym got))
 gets clock given (invocations.Migrate old at new migration) got is = absurd (true≢false (sym got))
 gets clock given (invocations.Salvage volume copy) got is = absurd (true≢false (sym got))
 gets clock given (invocations.Serve volume serving) got is = absurd (true≢false (sym got))
 gets clock given (invocations.Diff volume other all) got is = absurd (true≢false (sym got))
-gets clock given (invocations.Identify images) got is = absurd (true≢false (sym got))
+gets clock given (invocations.Identify images form) got is = absurd (true≢false (sym got))
 
 -- if the words put neither one file nor several, `put` has no invocation
 no_put : (clock : Option ℕ) (given : Words) → (IsPut clock given → ⊥) → AsksForNothing clock verbs.Put given

@@ -1,4 +1,5 @@
 pub mod Copies
+pub mod MkfsWords
 pub mod Faults
 pub mod FileWords
 pub mod Moments

@@ -55,12 +55,12 @@ lists clock given (invocations.Look volume (looks.Find path name lost)) ls is sl
 lists clock given (invocations.Look volume (looks.Map picture)) ls is slots json = absurd (true≢false (sym ls))
 lists clock given (invocations.Look volume (looks.Check graded form)) ls is slots json = absurd (true≢false (sym ls))
 lists clock given (invocations.Cat volume node) ls is slots json = absurd (true≢false (sym ls))
-lists clock given (invocations.Mkfs i volume) ls is slots json = absurd (true≢false (sym ls))
+lists clock given (invocations.Mkfs place volume) ls is slots json = absurd (true≢false (sym ls))
 lists clock given (invocations.Migrate old at new migration) ls is slots json = absurd (true≢false (sym ls))
 lists clock given (invocations.Salvage volume copy) ls is slots json = absurd (true≢false (sym ls))
 lists clock given (invocations.Serve volume serving) ls is slots json = absurd (true≢false (sym ls))
 lists clock given (invocations.Diff volume other all) ls is slots json = absurd (true≢false (sym ls))
-lists clock given (invocations.Identify images) ls is slots json = absurd (true≢false (sym ls))
+lists clock given (invocations.Identify images form) ls is slots json = absurd (true≢false (sym ls))
 
 -- if `--slots` and `--json` are given, `ls` has no invocation
 pub slots_as_json : (clock : Option ℕ) (given : Words) → is_set (given (codes "slots")) ≡ true → is_set (given (codes "json")) ≡ true

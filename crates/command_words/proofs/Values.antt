@@ -12,7 +12,8 @@ use Rattle.command_reads.specs.declared.looks.NodeName.{NodeName}
 use Rattle.command_reads.specs.declared.looks.NodeName.TheVariants as nodes
 use Rattle.vol_check.specs.declared.checker.Checker.TheVariants as checkers
 use Rattle.command_changes.specs.declared.changes.Change.TheVariants as changes
-use Rattle.command_words.specs.Invocations.{AreValues, AsksForNothing, IsEditionNamed, IsGiven, IsNodeGiven, IsNodeWord, IsNumberIfAny, IsNumberOr, IsOneWrong, IsPlaceWord, IsTargetGiven, IsVolumeWrong, NameAsksFor, TellsOf, Words, verb_of}
+use Rattle.command_words.specs.Invocations.{AreValues, AsksForNothing, IsEditionNamed, IsGiven, IsNodeGiven, IsNewPlaceGiven, IsNodeWord, IsNumberIfAny, IsNumberOr, IsOneWrong, IsPlaceWord, IsTargetGiven, IsVolumeWrong, NameAsksFor, TellsOf, Words, verb_of}
+use Rattle.command_words.specs.Decimal.{IsNumberGiven, IsNumberUpTo}
 use Rattle.command_words.specs.Owners.{IsOwnerGiven, IsOwnerIfAny}
 use Rattle.command_words.specs.Verbs.{Argument, IsNoCommand, arguments_of, on_volume, verb_name}
 use Rattle.command_words.specs.declared.fault.WordFault.{WordFault}
@@ -20,6 +21,8 @@ use Rattle.command_words.specs.declared.fault.WordFault.TheVariants as faults
 use Rattle.command_words.specs.declared.invocation.Copying.TheVariants as copies
 use Rattle.command_words.specs.declared.invocation.Invocation.{Invocation}
 use Rattle.command_words.specs.declared.invocation.Invocation.TheVariants as invocations
+use Rattle.command_words.specs.declared.invocation.NewPlace.{NewPlace}
+use Rattle.command_words.specs.declared.invocation.NewPlace.TheVariants as places
 use Rattle.command_words.specs.declared.invocation.Serving.TheVariants as servings
 use Rattle.command_words.specs.declared.invocation.Work.TheVariants as works
 use Rattle.command_words.specs.declared.verbs.Verb.{Verb}
@@ -48,6 +51,21 @@ number_value greatest other number (word ∷ more) is = is.0
 at_value : (at : ℕ) (words : List (List ℕ)) → IsNumberOr 4294967295 0 words at → IsNumberIfAny 4294967295 words
 at_value at words is = number_value 4294967295 0 at words is
 
+-- if there is no word, or the first one is a number, the words are valid for a number that may be left out
+left_out_value : (greatest : ℕ) (words : List (List ℕ)) → slice_get words 0 ≡ None → IsNumberIfAny greatest words
+left_out_value greatest [] none = tt
+left_out_value greatest (word ∷ more) none = absurd (cc)
+
+first_value : (greatest number : ℕ) (words : List (List ℕ)) (word : List ℕ) → slice_get words 0 ≡ Some word → IsNumberGiven greatest word number
+    → IsNumberIfAny greatest words
+first_value greatest number [] word is number_is = tt
+first_value greatest number (first ∷ more) word is number_is = let same : first ≡ word = cc in subst (IsNumberUpTo greatest) (sym same) number_is.0
+
+-- if words say where a new volume is made, they are valid for `--at`
+new_place_value : (given : Words) (place : NewPlace) → IsNewPlaceGiven given place → IsNumberIfAny 4294967295 (given (codes "at"))
+new_place_value given (places.File file) is = left_out_value 4294967295 _ is.1
+new_place_value given (places.Part image at) is = first_value 4294967295 at _ is.1.0 is.1.1 is.1.2
+
 -- if a user and a group are read from words, they are valid for a user and a group that may be left out
 owner_value : (words : List (List ℕ)) (owner : Option Cred) → IsOwnerGiven words owner → IsOwnerIfAny words
 owner_value [] owner is = tt
@@ -69,7 +87,7 @@ place_value (targets.Path path) word inode is = inl is.1
 pub values_given : (clock : Option ℕ) (given : Words) (invocation : Invocation) → IsGiven clock given invocation
     → AreValues clock given (arguments_of (verb_of invocation))
 values_given clock given (invocations.Cat volume node) is = (edition_value volume.edition _ is.0.0, (tt, (at_value volume.at _ is.0.2, (node_value node _ is.1, tt))))
-values_given clock given (invocations.Mkfs image volume) is = (
+values_given clock given (invocations.Mkfs place volume) is = (
   edition_value volume.edition _ is.1.0,
   (
     tt,
@@ -77,7 +95,10 @@ values_given clock given (invocations.Mkfs image volume) is = (
       (volume.blocks, is.1.1),
       (
         number_value 65535 _ _ (given (codes "IBLOCKS")) is.1.2,
-        (number_value 65535 _ _ (given (codes "UID")) is.1.3, (number_value 65535 _ _ (given (codes "GID")) is.1.4, ((volume.now, is.1.5), (tt, tt)))),
+        (
+          number_value 65535 _ _ (given (codes "UID")) is.1.3,
+          (number_value 65535 _ _ (given (codes "GID")) is.1.4, ((volume.now, is.1.5), (tt, (new_place_value given place is.0, tt)))),
+        ),
       ),
     ),
   ),
@@ -130,7 +151,7 @@ values_given clock given (invocations.Serve volume (servings.Changes is_mine res
     (edition_value volume.edition _ is.0.0, (tt, (at_value volume.at _ is.0.2, (tt, (tt, (is.1.2.1, tt))))))
 values_given clock given (invocations.Diff volume other all) is =
     (edition_value volume.edition _ is.0.0, (tt, (at_value volume.at _ is.0.2, (tt, (is.3, (tt, tt))))))
-values_given clock given (invocations.Identify images) is = (tt, tt)
+values_given clock given (invocations.Identify images form) is = (tt, (tt, tt))
 
 -- if all words are valid, none of them is wrong
 none_wrong : (clock : Option ℕ) (given : Words) (row : List Argument) → AreValues clock given row → IsOneWrong clock given row → ⊥

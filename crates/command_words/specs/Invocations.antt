@@ -20,6 +20,8 @@ use Rattle.command_words.specs.declared.invocation.Copying.TheVariants as copies
 use Rattle.command_words.specs.declared.invocation.Invocation.{Invocation}
 use Rattle.command_words.specs.declared.invocation.Invocation.TheVariants as invocations
 use Rattle.command_words.specs.declared.invocation.MadeFile.{MadeFile}
+use Rattle.command_words.specs.declared.invocation.NewPlace.{NewPlace}
+use Rattle.command_words.specs.declared.invocation.NewPlace.TheVariants as places
 use Rattle.command_words.specs.declared.invocation.Serving.{Serving}
 use Rattle.command_words.specs.declared.invocation.Serving.TheVariants as servings
 use Rattle.command_words.specs.declared.invocation.VolumeFile.{VolumeFile}
@@ -219,7 +221,7 @@ copying_verb (copies.Get folder paths keeps) = verbs.Get
 -- the command of an invocation (this project)
 abbrev pub verb_of : Invocation → Verb
 verb_of (invocations.Cat volume node) = verbs.Cat
-verb_of (invocations.Mkfs image volume) = verbs.Mkfs
+verb_of (invocations.Mkfs place volume) = verbs.Mkfs
 verb_of (invocations.Migrate old at new migration) = verbs.Migrate
 verb_of (invocations.Get volume path) = verbs.Get
 verb_of (invocations.Salvage volume copy) = verbs.Salvage
@@ -229,7 +231,7 @@ verb_of (invocations.Copy volume copying) = copying_verb copying
 verb_of (invocations.Work volume work) = work_verb work
 verb_of (invocations.Serve volume serving) = verbs.Serve
 verb_of (invocations.Diff volume other all) = verbs.Diff
-verb_of (invocations.Identify images) = verbs.Identify
+verb_of (invocations.Identify images form) = verbs.Identify
 
 -- the words say that a volume begins at this block of a file: 0 if they say nothing of it (this project)
 abbrev pub IsAtGiven : Words → ℕ → Type 0
@@ -244,6 +246,18 @@ IsVolumeGiven given volume =
 -- the words name this file to make, by the argument for its path, and say whether it must not exist (this project)
 abbrev pub IsMadeGiven : Words → List ℕ → MadeFile → Type 0
 IsMadeGiven given name file = (file.path.now ≡ the_word given name) × (file.is_new ≡ is_set (given (codes "new")))
+
+-- the words name this place of a new volume: a file to make if no block was given; otherwise the blocks of a file from that one on, and the file needn't be
+-- new (this project)
+abbrev pub IsNewPlaceGiven : Words → NewPlace → Type 0
+IsNewPlaceGiven given (places.File file) = IsMadeGiven given (codes "IMAGE") file × IsLeftOut given (codes "at")
+IsNewPlaceGiven given (places.Part image at) = (image.now ≡ the_word given (codes "IMAGE"))
+    × ((word : List ℕ) × IsFirstWord given (codes "at") word × IsNumberGiven 4294967295 word at) × (is_set (given (codes "new")) ≡ false)
+
+-- the word for the block that a new volume begins at isn't valid; or one was given, and the file must not exist (this project)
+abbrev pub IsNewPlaceWrong : Words → Type 0
+IsNewPlaceWrong given =
+    (IsValue None kinds.LongOr (given (codes "at")) → ⊥) ⊎ ((is_set (given (codes "new")) ≡ true) × (IsLeftOut given (codes "at") → ⊥))
 
 -- the words describe this new volume: an i-list that was left out has mkfs's default size, and a user or a group that was left out is 0 (this
 -- project)
@@ -432,7 +446,7 @@ IsServingGiven given (servings.Changes is_mine rescue) = (is_set (given (codes "
 -- the words describe this invocation (this project)
 abbrev pub IsGiven : Option ℕ → Words → Invocation → Type 0
 IsGiven clock given (invocations.Cat volume node) = IsVolumeGiven given volume × IsNodeGiven (the_word given (codes "INO")) node
-IsGiven clock given (invocations.Mkfs image volume) = IsMadeGiven given (codes "IMAGE") image × IsNewVolumeGiven clock given volume
+IsGiven clock given (invocations.Mkfs place volume) = IsNewPlaceGiven given place × IsNewVolumeGiven clock given volume
 IsGiven clock given (invocations.Migrate old at new migration) = (old.now ≡ the_word given (codes "OLD"))
     × IsMadeGiven given (codes "NEW") new × IsMigrationGiven clock given migration × IsAtGiven given at
 IsGiven clock given (invocations.Get volume path) = IsVolumeGiven given volume × IsOnePathGiven given path.now
@@ -446,7 +460,7 @@ IsGiven clock given (invocations.Work volume work) = IsVolumeGiven given volume 
 IsGiven clock given (invocations.Serve volume serving) = IsVolumeGiven given volume × IsServingGiven given serving
 IsGiven clock given (invocations.Diff volume other all) = IsVolumeGiven given volume × (other.now ≡ the_word given (codes "OTHER"))
     × (all ≡ is_set (given (codes "all"))) × (is_set (given (codes "fields")) ≡ true)
-IsGiven clock given (invocations.Identify images) = map (λ image. image.now) images.items ≡ given (codes "IMAGE")
+IsGiven clock given (invocations.Identify images form) = (map (λ image. image.now) images.items ≡ given (codes "IMAGE")) × IsFormGiven given form
 
 -- the command, with the words for its arguments, is read as this invocation (this project)
 abbrev pub AsksFor : Option ℕ → Verb → Words → Invocation → Type 0

@@ -147,7 +147,7 @@ arguments_of verbs.Dcheck = of_checker
 arguments_of verbs.Ncheck = of_checker
 arguments_of verbs.Mkfs =
     edition ∷ word (codes "IMAGE") ∷ ((codes "FSIZE", kinds.Blocks, needs.Once) ∷ maybe_number (codes "IBLOCKS") ∷ maybe_number (codes "UID") ∷ maybe_number (codes "GID") ∷ moment
-    ∷ option (codes "new") ∷ [])
+    ∷ option (codes "new") ∷ at ∷ [])
 arguments_of verbs.Put = on_volume (word (codes "PATH") ∷ maybe_word (codes "FILE") ∷ maybe_word (codes "NOW") ∷ more_words
     ∷ valued (codes "target-directory") 116 values.Directory ∷ lettered (codes "preserve") 112 ∷ lettered (codes "executable") 120 ∷ [])
 arguments_of verbs.Import = on_volume (path needs.Maybe ∷ moment ∷ option (codes "skip-special")
@@ -166,7 +166,7 @@ arguments_of verbs.Migrate =
     word (codes "OLD") ∷ word (codes "NEW") ∷ long_number (codes "FSIZE") ∷ number (codes "IBLOCKS") ∷ moment ∷ option (codes "new") ∷ at ∷ []
 arguments_of verbs.Serve = on_volume (option (codes "read-only") ∷ option (codes "mine")
     ∷ (codes "rescue", kinds.Path, needs.Value (Some 114) values.Rescue) ∷ [])
-arguments_of verbs.Identify = (codes "IMAGE", kinds.Text, needs.Several) ∷ []
+arguments_of verbs.Identify = (codes "IMAGE", kinds.Text, needs.Several) ∷ option (codes "json") ∷ []
 
 -- all commands, in the order in which the help lists them (this project)
 abbrev pub all_verbs : List Verb

@@ -25,6 +25,15 @@ pub struct MadeFile<'a> {
     pub is_new: bool,
 }
 
+/// The place of a new volume.
+#[derive(Clone, Copy)]
+pub enum NewPlace<'a> {
+    /// A file to make, which holds the volume alone.
+    File(MadeFile<'a>),
+    /// The blocks from `at` on of the file `image`, which exists.
+    Part { image: &'a str, at: u32 },
+}
+
 /// Work on a volume with several threads.
 #[derive(Drop)]
 pub enum Work<'a> {
@@ -94,9 +103,9 @@ pub enum Invocation<'a> {
         volume: VolumeFile<'a>,
         path: &'a str,
     },
-    /// Make a volume in the file `image`.
+    /// Make a volume in this place.
     Mkfs {
-        image: MadeFile<'a>,
+        place: NewPlace<'a>,
         volume: NewVolume,
     },
     /// Make a volume of the seventh edition in the file `new` from the one of the sixth in the file `old`, which begins at block `at`.
@@ -143,8 +152,9 @@ pub enum Invocation<'a> {
         other: &'a str,
         all: bool,
     },
-    /// Guess what the images in these files are.
+    /// Guess what the images in these files are, in this format.
     Identify {
         images: Vec<&'a str>,
+        form: OutputForm,
     },
 }

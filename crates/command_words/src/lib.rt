@@ -6,6 +6,7 @@ mod disks;
 pub mod fault;
 pub mod given;
 pub mod invocation;
+mod mkfs_words;
 mod moment;
 mod octal;
 mod owners;
@@ -17,7 +18,7 @@ pub mod verbs;
 
 pub use fault::{Said, WordFault, WrongWord};
 pub use given::Given;
-pub use invocation::{Copying, Invocation, MadeFile, Moment, Serving, VolumeFile, Work};
+pub use invocation::{Copying, Invocation, MadeFile, Moment, NewPlace, Serving, VolumeFile, Work};
 pub use parameters::{Need, Parameter, ValueName, WordKind};
 pub use read_words::read;
 pub use verbs::{VERBS, Verb};

@@ -135,6 +135,13 @@ const OLD_AT: Parameter = Parameter {
     help: texts::OLD_AT,
 };
 
+const MADE_AT: Parameter = Parameter {
+    name: "at",
+    kind: WordKind::LongOr,
+    need: Need::Value(None, ValueName::Block),
+    help: texts::MADE_AT,
+};
+
 const NEW_IMAGE: Parameter = Parameter {
     name: "IMAGE",
     kind: WordKind::Text,
@@ -657,7 +664,7 @@ pub static FIND_WORDS: [Parameter; 6] = [EDITION, IMAGE, AT, SEARCHED, NAME, LOS
 pub static CHECKER_WORDS: [Parameter; 5] = [EDITION, IMAGE, AT, WORKERS, JSON];
 
 /// The words that `mkfs` takes.
-pub static MKFS_WORDS: [Parameter; 8] = [
+pub static MKFS_WORDS: [Parameter; 9] = [
     EDITION,
     NEW_IMAGE,
     DISK_BLOCKS,
@@ -666,6 +673,7 @@ pub static MKFS_WORDS: [Parameter; 8] = [
     GID,
     MADE_NOW,
     UNREPLACED,
+    MADE_AT,
 ];
 
 /// The words that `put` takes.
@@ -718,7 +726,7 @@ pub static MIGRATE_WORDS: [Parameter; 7] = [
 pub static SERVE_WORDS: [Parameter; 6] = [EDITION, IMAGE, AT, READ_ONLY, MINE, RESCUE];
 
 /// The words of `identify`.
-pub static IDENTIFY_WORDS: [Parameter; 1] = [IMAGES];
+pub static IDENTIFY_WORDS: [Parameter; 2] = [IMAGES, JSON];
 
 /// The words of `import`.
 pub static IMPORT_WORDS: [Parameter; 7] = [

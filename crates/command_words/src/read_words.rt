@@ -5,14 +5,13 @@ ghost use Rattle.command_words.specs.Verbs.{arguments_of, of_checker};
 ghost use Rattle.command_words.specs.declared.parameters.WordKind.TheVariants as kinds;
 ghost use Rattle.command_words.specs.declared.verbs.Verb.TheVariants as verbs;
 
-use crate::disks::list_default;
 use crate::fault::{Said, WordFault, WrongWord};
 use crate::given::{
-    Given, blocks_in, edition_in, flag_in, long_in, long_or, missing, moment_in, node_in, owner_in,
-    path_in, permissions_in, radix_in, rescue_in, scripts_in, target_in, text_in, threads_in,
-    word_in, word_or,
+    Given, edition_in, flag_in, long_in, long_or, missing, moment_in, node_in, owner_in, path_in,
+    permissions_in, radix_in, rescue_in, scripts_in, target_in, text_in, threads_in, word_in,
 };
 use crate::invocation::{Copying, Invocation, MadeFile, Serving, VolumeFile, Work};
+use crate::mkfs_words::read_mkfs;
 use crate::several::{PutFiles, file_in, files_in, no_more, not_empty, nothing_kept, paths_in};
 use crate::texts;
 use crate::verbs::Verb;
@@ -22,7 +21,6 @@ use std::alloc::Global;
 use vol_check::Checker;
 use vol_import::ImportOptions;
 use vol_listing::{Depth, Lines, ListOptions};
-use vol_mkfs::NewVolume;
 
 /// Reads the words after a command. `clock` is the time of the program's clock, in seconds since the beginning of 1970, if it has one; it is used if
 /// the command's time was left out. Returns a fault if a word isn't valid for its argument, a word is missing, there is one word too many, there is
@@ -376,30 +374,8 @@ fn picture_in<'a, G: Given<'a>>(given: &G) -> Picture
     }
 }
 
-/// Reads the words of `mkfs`.
-fn read_mkfs<'a, G: Given<'a>>(
-    given: &G,
-    clock: Option<u32>,
-) -> Result<Invocation<'a>, WordFault<'a>>
-    ensures read { IfOk result (AsksFor clock verbs.Mkfs (G.words given.now)) }
-    ensures refused { IfErr result (TellsOf (IsOneWrong clock (G.words given.now) (arguments_of verbs.Mkfs))) }
-{
-    let image = made_in(given, "IMAGE");
-    let edition = edition_in(given)?;
-    let blocks = blocks_in(given)?;
-    let volume = NewVolume {
-        edition,
-        blocks,
-        list_blocks: word_or(given, "IBLOCKS", list_default(edition, blocks))?,
-        uid: word_or(given, "UID", 0)?,
-        gid: word_or(given, "GID", 0)?,
-        now: moment_in(given, clock)?,
-    };
-    Ok(Invocation::Mkfs { image, volume })
-}
-
 /// Reads the file to make, whose path was given for an argument.
-fn made_in<'a, G: Given<'a>>(given: &G, name: &str) -> MadeFile<'a>
+pub(crate) fn made_in<'a, G: Given<'a>>(given: &G, name: &str) -> MadeFile<'a>
     ensures { IsMadeGiven (G.words given.now) name.now result }
 {
     MadeFile {
@@ -731,7 +707,8 @@ fn read_identify<'a, G: Given<'a>>(
     ensures refused { IfErr result (TellsOf (IsOneWrong None (G.words given.now) (arguments_of verbs.Identify))) }
 {
     let images = given.all(alloc, "IMAGE")?;
-    Ok(Invocation::Identify { images })
+    let form = form_in(given);
+    Ok(Invocation::Identify { images, form })
 }
 
 /// Reads the edition and the file of the volume, and the block that it begins at.

@@ -63,6 +63,9 @@ pub const IMAGE: &str = "The disk image, a file that holds a volume";
 pub const AT: &str =
     "The block of IMAGE, of 512 bytes, that the volume begins at; by default 0. All else in IMAGE stays the same, and one lock serves the whole of it";
 
+pub const MADE_AT: &str =
+    "The block of IMAGE, of 512 bytes, at which the volume is made; IMAGE must exist, and all else in it stays the same";
+
 pub const OLD_AT: &str = "The block of OLD, of 512 bytes, that the volume begins at; by default 0";
 
 pub const NODE: &str = "The file's i-number, or a path that begins with a slash";

@@ -14,4 +14,5 @@ pub use guess::{Guess, Identified, guess_image, identify};
 pub use laws::{sound_volumes_are_found, sound_volumes_are_guessed};
 pub use magic::{Packing, packing_of};
 pub use pack_scan::{Part, ScanFault, scan_pack};
-pub use pack_texts::{JudgedPart, is_pack, pack_lines};
+pub use pack_texts::{JudgedPart, command_text, is_pack, pack_lines};
+pub use texts::packing_text;

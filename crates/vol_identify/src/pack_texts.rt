@@ -126,7 +126,7 @@ fn verdict_text(
 }
 
 /// Returns a command for the volume of an edition at a block of the file at `path`.
-fn command_text(
+pub fn command_text(
     alloc: Global,
     word: &str,
     edition: u8,

@@ -9,7 +9,7 @@ use std::fmt;
 use vol_findings::edition_number;
 
 /// Returns the name of the program that packed a file.
-fn packing_text(packing: Packing) -> &'static str
+pub fn packing_text(packing: Packing) -> &'static str
     ensures { result.now ≡ packing_text packing }
 {
     match packing {

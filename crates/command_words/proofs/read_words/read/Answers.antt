@@ -75,7 +75,7 @@ returns-in-Ncheck-clause-refused g c =
 
 pub returns-in-Mkfs-clause-refused : goal.returns-in-Mkfs-clause-refused
 returns-in-Mkfs-clause-refused g c =
-    rw c.in-Mkfs.is (refuses_value c.args.clock verbs.Mkfs (g.G.Given.words c.args.given.now) c.read_mkfs.result c.read_mkfs.ensures.refused)
+    rw c.in-Mkfs.is c.read_mkfs.ensures.refused
 
 pub returns-in-Import-clause-refused : goal.returns-in-Import-clause-refused
 returns-in-Import-clause-refused g c =

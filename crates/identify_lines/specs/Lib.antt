@@ -1,0 +1,3 @@
+pub mod GuessJson
+pub mod Lines
+pub mod ShellWords

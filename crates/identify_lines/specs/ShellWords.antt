@@ -1,0 +1,21 @@
+-- Words of a shell.
+use Rattle.std.specs.Prelude.{ℕ, ◌==◌, ◌&&◌, ◌||◌, not, nat_le, Bool, if◌then◌else◌, List, ◌∷◌, [], ◌++◌, codes, length}
+use Rattle.std.specs.Char.{encode_utf8}
+use Rattle.std.specs.List.{flat_map, list_any}
+use Rattle.std.specs.Str.{chars}
+
+-- true if a shell may not take a byte as it is: it is no letter, no digit, and none of + , - . / : @ _ (sh)
+abbrev pub is_special : ℕ → Bool
+is_special b = not ((nat_le 97 b && nat_le b 122) || ((nat_le 64 b && nat_le b 90) || ((nat_le 43 b && nat_le b 58) || (b == 95))))
+
+-- a character between quotes: a quote ends them, is written behind a backslash, and begins them again (sh)
+abbrev pub quoted_char : ℕ → List ℕ
+quoted_char c = if c == 39 then codes "'\\''" else encode_utf8 c
+
+-- a text between quotes (sh)
+abbrev pub quoted : List ℕ → List ℕ
+quoted text = codes "'" ++ (flat_map quoted_char (chars text) ++ codes "'")
+
+-- a text as one word of a shell: as it is if the shell leaves it so, otherwise between quotes (sh)
+unfoldable pub shell_word : List ℕ → List ℕ
+shell_word text = if (length text == 0) || list_any is_special text then quoted text else text

@@ -1,0 +1,67 @@
+//! Words of a shell.
+ghost use Rattle.std.specs.Prelude.{◌≡◌, ◌++◌, IfOk, OnOk, string_bytes};
+ghost use Rattle.std.specs.List.{flat_map, list_any};
+ghost use Rattle.identify_lines.specs.ShellWords.{is_special, quoted, quoted_char, shell_word};
+
+use std::alloc::{AllocError, Global};
+
+/// Returns a text as one word of a shell: as it is if the shell leaves it so, otherwise between quotes.
+#[tactic(auto, unfolding(crate::specs::ShellWords::shell_word))]
+pub(crate) fn shell_word(alloc: Global, text: &str) -> Result<String, AllocError>
+    ensures { IfOk result (λ word. string_bytes word ≡ shell_word text.now) }
+{
+    if text.is_empty() || has_special(text.as_bytes()) {
+        quoted(alloc, text)
+    } else {
+        String::from_str(alloc, text)
+    }
+}
+
+/// True if a shell doesn't take one of these bytes as it is.
+fn has_special(bytes: &[u8]) -> bool
+    ensures { result ≡ list_any is_special bytes.now }
+{
+    bytes.iter().any(|byte| is_special(*byte))
+}
+
+/// True if a shell may not take a byte as it is.
+fn is_special(byte: u8) -> bool
+    ensures { result ≡ is_special byte }
+{
+    let is_lower = b'a' <= byte && byte <= b'z';
+    let is_upper = b'@' <= byte && byte <= b'Z';
+    let is_other = b'+' <= byte && byte <= b':' || byte == b'_';
+    !(is_lower || is_upper || is_other)
+}
+
+/// Returns a text between quotes, in which a quote is written as a shell takes it.
+fn quoted(alloc: Global, text: &str) -> Result<String, AllocError>
+    ensures { IfOk result (λ word. string_bytes word ≡ quoted text.now) }
+{
+    let characters: Vec<char> = text.chars().collect(alloc)?;
+    let mut word = String::from_str(alloc, "'")?;
+    push_quoted(&mut word, &characters)?;
+    word.push_str("'")?;
+    Ok(word)
+}
+
+/// Appends characters as they are written between quotes.
+fn push_quoted(word: &mut String, characters: &[char]) -> Result<(), AllocError>
+    ensures { OnOk result (string_bytes word.new ≡ string_bytes word.old ++ flat_map quoted_char characters.now) }
+{
+    'characters: for character in characters {
+        push_character(word, *character)?;
+    }
+    Ok(())
+}
+
+/// Appends a character as it is written between quotes.
+fn push_character(word: &mut String, character: char) -> Result<(), AllocError>
+    ensures { OnOk result (string_bytes word.new ≡ string_bytes word.old ++ quoted_char character) }
+{
+    if character == '\'' {
+        word.push_str("'\\''")
+    } else {
+        word.push(character)
+    }
+}

@@ -1,5 +1,5 @@
 -- What a file seems to be, as JSON.
-use Rattle.std.specs.Prelude.{ℕ, ◌==◌, Bool, if◌then◌else◌, List, [], ◌∷◌, ◌++◌, codes, drop, map, Option, None, Some}
+use Rattle.std.specs.Prelude.{ℕ, ◌==◌, Bool, if◌then◌else◌, List, [], ◌∷◌, ◌++◌, codes, map, Option, None, Some}
 use Rattle.std.specs.Option.{is_none}
 use Rattle.serde_json.specs.Data.{Data, null, boolean, string, array, object, member, no_members}
 use Rattle.serde_json.specs.View.{items_of}
@@ -97,33 +97,32 @@ abbrev pub seen_read : Seen → Option ℕ
 seen_read (seens.Pack judged) = None
 seen_read (seens.Image found read) = Some read
 
--- what the file at a path seems to be: its size if it is known, the path, the guess, the parts, and the number of bytes that the guess is by (this
--- project)
+-- what the file at a path seems to be: its size if it is known, the path, the number of the format, the guess, the parts, and the number of bytes that the
+-- guess is by (this project)
 unfoldable pub seen_data : List ℕ → Option ℕ → Seen → Data
 seen_data path size seen =
     object (member (codes "bytes") (count_or_null size)
     (member (codes "file") (string path)
+    (member (codes "format") (count 1)
     (member (codes "guess") (string (seen_word seen))
     (member (codes "parts") (array (items_of (seen_parts path seen)))
-    (member (codes "read") (count_or_null (seen_read seen)) no_members)))))
+    (member (codes "read") (count_or_null (seen_read seen)) no_members))))))
 
 -- the fault of a file with a status: memory ran out, or it can't be read (this project)
 abbrev pub fault_word : ℕ → List ℕ
 fault_word status = if status == 4 then codes "12 NoMemory" else codes "cannot read"
 
--- a file that wasn't read (this project)
+-- a file that wasn't read: its fault, its path, and the number of the format (this project)
 abbrev pub unread_data : List ℕ → ℕ → Data
 unread_data path status =
-    object (member (codes "fault") (string (fault_word status)) (member (codes "file") (string path) no_members))
+    object (member (codes "fault") (string (fault_word status))
+    (member (codes "file") (string path)
+    (member (codes "format") (count 1) no_members)))
 
--- an object on a line, with the number of its format as the first member (RFC 8259)
-abbrev pub format_line : Data → List ℕ
-format_line data = codes "{\"format\":1," ++ (drop 1 (compact_text data) ++ codes "\n")
-
--- what the file at a path seems to be, as a line (this project)
+-- what the file at a path seems to be, as a line (RFC 8259)
 abbrev pub seen_json : List ℕ → Option ℕ → Seen → List ℕ
-seen_json path size seen = format_line (seen_data path size seen)
+seen_json path size seen = compact_text (seen_data path size seen) ++ codes "\n"
 
--- a file that wasn't read, as a line (this project)
+-- a file that wasn't read, as a line (RFC 8259)
 abbrev pub unread_json : List ℕ → ℕ → List ℕ
-unread_json path status = format_line (unread_data path status)
+unread_json path status = compact_text (unread_data path status) ++ codes "\n"

@@ -1,8 +1,7 @@
 //! What a file seems to be, as JSON.
-ghost use Rattle.std.specs.Prelude.{◌≡◌, IfOk, false, drop, map};
+ghost use Rattle.std.specs.Prelude.{◌≡◌, IfOk, map, string_bytes};
 ghost use Rattle.serde_json.specs.View.{view};
-ghost use Rattle.serde_json.specs.Written.{has_float};
-ghost use Rattle.identify_lines.specs.GuessJson.{between_data, fault_word, format_line, front_data, guess_parts, guess_word, next_command, part_by, part_data, seen_data, seen_json, seen_parts, seen_read, seen_word, unread_data, unread_json, volume_data};
+ghost use Rattle.identify_lines.specs.GuessJson.{between_data, fault_word, front_data, guess_parts, guess_word, next_command, part_by, part_data, seen_data, seen_json, seen_parts, seen_read, seen_word, unread_data, unread_json, volume_data};
 
 use crate::seen::Seen;
 use crate::shell_words::shell_word;
@@ -10,12 +9,13 @@ use serde_json::{Value, json};
 use std::alloc::{AllocError, Global};
 use vol_findings::edition_number;
 use vol_identify::{FoundVolume, Guess, JudgedPart, Part, command_text, packing_text};
+use vol_listing::json::line;
 
 /// The status of a run that had too little memory.
 const NO_MEMORY: u8 = 4;
 
-/// The front of a line: the number of the format.
-const FORMAT: &[u8] = b"{\"format\":1,";
+/// The number of the format of these lines.
+const FORMAT: u64 = 1;
 
 /// Returns what the file at `path` seems to be as one JSON object, on one line. `size` is the number of its bytes, if the system knows it.
 pub fn seen_json(
@@ -23,38 +23,19 @@ pub fn seen_json(
     path: &str,
     size: Option<u64>,
     seen: &Seen,
-) -> Result<Vec<u8>, AllocError>
-    ensures { IfOk result (λ line. line.items ≡ seen_json path.now size seen.now) }
+) -> Result<String, AllocError>
+    ensures { IfOk result (λ line. string_bytes line ≡ seen_json path.now size seen.now) }
 {
     let value = seen_value(alloc, path, size, seen)?;
-    format_line(alloc, &value)
+    line(alloc, &value)
 }
 
 /// Returns the fault of the file at `path`, which wasn't read, as one JSON object, on one line. `status` is 4 if memory ran out.
-pub fn unread_json(alloc: Global, path: &str, status: u8) -> Result<Vec<u8>, AllocError>
-    ensures { IfOk result (λ line. line.items ≡ unread_json path.now status) }
+pub fn unread_json(alloc: Global, path: &str, status: u8) -> Result<String, AllocError>
+    ensures { IfOk result (λ line. string_bytes line ≡ unread_json path.now status) }
 {
     let value = unread_value(alloc, path, status)?;
-    format_line(alloc, &value)
-}
-
-/// Returns an object that has no floats as a line, with the number of its format as the first member.
-fn format_line(alloc: Global, value: &Value) -> Result<Vec<u8>, AllocError>
-    requires { has_float (view value.now) ≡ false }
-    ensures { IfOk result (λ line. line.items ≡ format_line (view value.now)) }
-{
-    let text = value.to_string(alloc)?;
-    let mut line = Vec::from_slice(alloc, FORMAT)?;
-    line.extend_from_slice(after_first(text.as_bytes()))?;
-    line.push(b'\n')?;
-    Ok(line)
-}
-
-/// Returns bytes without the first, the brace of an object.
-fn after_first(bytes: &[u8]) -> &[u8]
-    ensures { result.now ≡ drop 1 bytes.now }
-{
-    &bytes[1.min(bytes.len())..]
+    line(alloc, &value)
 }
 
 /// Returns what the file at `path` seems to be as a JSON value.
@@ -71,6 +52,7 @@ fn seen_value(
     json!(in alloc; {
         "bytes": size,
         "file": path,
+        "format": FORMAT,
         "guess": seen_word(seen),
         "parts": parts,
         "read": seen_read(seen)
@@ -81,7 +63,7 @@ fn seen_value(
 fn unread_value(alloc: Global, path: &str, status: u8) -> Result<Value, AllocError>
     ensures { IfOk result (λ value. view value ≡ unread_data path.now status) }
 {
-    json!(in alloc; {"fault": fault_word(status), "file": path})
+    json!(in alloc; {"fault": fault_word(status), "file": path, "format": FORMAT})
 }
 
 /// Returns the words for the fault of a file.

@@ -9,23 +9,24 @@ use Rattle.std.specs.Borrow.{Bor}
 use Rattle.command_faults.specs.Faults.{fault_line}
 use Rattle.command_faults.specs.Streams.{Streams}
 use Rattle.command_faults.specs.declared.fault.Fault.TheVariants.{Output}
+use Rattle.command_reads.specs.declared.looks.OutputForm.{OutputForm}
 use Rattle.host_files.specs.declared.image_file.Stamp.{Stamp}
 use Rattle.unixvol.specs.Identify.{AreIdentified, IsLine, RunsIdentify}
 use Rattle.unixvol.specs.Runs.{IsEnd}
 
 -- after the lines of some files, the line of one more
-pub one_more : {F : Type 0} (remaining : F → Option (List ℕ)) (stamped : F → Stamp → Type 0) (stood : Stamp → Type 0) (paths : List (List ℕ)) (path lines line : List ℕ) (read one : ℕ)
-    → AreIdentified remaining stamped stood paths lines read → IsLine remaining stamped stood path line one
-    → AreIdentified remaining stamped stood (paths ++ path ∷ []) (lines ++ line) (max read one)
-one_more remaining stamped stood [] path lines line read one are is =
+pub one_more : {F : Type 0} (remaining : F → Option (List ℕ)) (stamped : F → Stamp → Type 0) (stood : Stamp → Type 0) (form : OutputForm) (paths : List (List ℕ)) (path lines line : List ℕ) (read one : ℕ)
+    → AreIdentified remaining stamped stood form paths lines read → IsLine remaining stamped stood form path line one
+    → AreIdentified remaining stamped stood form (paths ++ path ∷ []) (lines ++ line) (max read one)
+one_more remaining stamped stood form [] path lines line read one are is =
     (line, one, [], 0, is, (refl, refl), ap (λ xs. xs ++ line) are.0 ∙ sym (append-nil line), omega (arith, are.1))
-one_more remaining stamped stood (first ∷ more) path lines line read one (had, status, rest, others, was, are, whole, greatest) is = (
+one_more remaining stamped stood form (first ∷ more) path lines line read one (had, status, rest, others, was, are, whole, greatest) is = (
   had,
   status,
   rest ++ line,
   max others one,
   was,
-  one_more remaining stamped stood more path rest line others one are is,
+  one_more remaining stamped stood form more path rest line others one are is,
   ap (λ xs. xs ++ line) whole ∙ append_assoc had rest line,
   omega (arith, greatest),
 )
@@ -42,20 +43,20 @@ paths_more images k d within =
     ∙ ap (λ path. take k (map path_of images) ++ path ∷ []) (get_or-map path_of images k d d.now within)
 
 -- the lines of the first `k` files are printed, with the greatest of their statuses
-pub record ArePrinted {F : Type 0} (remaining : F → Option (List ℕ)) (stamped : F → Stamp → Type 0) (stood : Stamp → Type 0) (images : List (Bor (List ℕ))) (k : ℕ) (old new : Option (List ℕ)) (status : ℕ) : Type 0 where
+pub record ArePrinted {F : Type 0} (remaining : F → Option (List ℕ)) (stamped : F → Stamp → Type 0) (stood : Stamp → Type 0) (form : OutputForm) (images : List (Bor (List ℕ))) (k : ℕ) (old new : Option (List ℕ)) (status : ℕ) : Type 0 where
   pub lines : List ℕ
-  pub are : AreIdentified remaining stamped stood (take k (map path_of images)) lines status
+  pub are : AreIdentified remaining stamped stood form (take k (map path_of images)) lines status
   pub whole : Appends old new lines
 
 -- after one more file, those of `k + 1` files are
-pub printed_more : {F : Type 0} (remaining : F → Option (List ℕ)) (stamped : F → Stamp → Type 0) (stood : Stamp → Type 0) (images : List (Bor (List ℕ))) (k : ℕ) (d : Bor (List ℕ)) (a b c : Option (List ℕ)) (status one : ℕ)
-    → k < length images → ArePrinted remaining stamped stood images k a b status
-    → (line : List ℕ) × IsLine remaining stamped stood (get_or images k d).now line one × Appends b c line
-    → ArePrinted remaining stamped stood images (k + 1) a c (max status one)
-printed_more remaining stamped stood images k d a b c status one within had (line, is, out) = record {
+pub printed_more : {F : Type 0} (remaining : F → Option (List ℕ)) (stamped : F → Stamp → Type 0) (stood : Stamp → Type 0) (form : OutputForm) (images : List (Bor (List ℕ))) (k : ℕ) (d : Bor (List ℕ)) (a b c : Option (List ℕ)) (status one : ℕ)
+    → k < length images → ArePrinted remaining stamped stood form images k a b status
+    → (line : List ℕ) × IsLine remaining stamped stood form (get_or images k d).now line one × Appends b c line
+    → ArePrinted remaining stamped stood form images (k + 1) a c (max status one)
+printed_more remaining stamped stood form images k d a b c status one within had (line, is, out) = record {
   lines = had.lines ++ line;
-  are = subst (λ paths. AreIdentified remaining stamped stood paths (had.lines ++ line) (max status one)) (sym (paths_more images k d within))
-      (one_more remaining stamped stood (take k (map path_of images)) (get_or images k d).now had.lines line status one had.are is);
+  are = subst (λ paths. AreIdentified remaining stamped stood form paths (had.lines ++ line) (max status one)) (sym (paths_more images k d within))
+      (one_more remaining stamped stood form (take k (map path_of images)) (get_or images k d).now had.lines line status one had.are is);
   whole = Appends-trans a b c had.lines line had.whole out;
 }
 
@@ -67,17 +68,17 @@ take_past xs ys n =
     ∙ ap (λ t. xs ++ take n t) (drop_at xs ys (length xs) refl))
 
 -- if standard output fails at the line of one more file, the run breaks off
-pub breaks_off : {F : Type 0} (remaining : F → Option (List ℕ)) (stamped : F → Stamp → Type 0) (stood : Stamp → Type 0) (images : List (Bor (List ℕ))) (k : ℕ) (d : Bor (List ℕ)) (streams : Streams) (b : Option (List ℕ))
-    (status : ℕ) (line : List ℕ) (count : ℕ) → k < length images → ArePrinted remaining stamped stood images k streams.old b status
-    → IsLine remaining stamped stood (get_or images k d).now line 0 → AppendsFront b streams.new line count → streams.failed ≡ true
-    → streams.said (fault_line Output) → RunsIdentify remaining stamped stood streams (map path_of images) 3
-breaks_off remaining stamped stood images k d streams b status line count within had is cut broken said =
+pub breaks_off : {F : Type 0} (remaining : F → Option (List ℕ)) (stamped : F → Stamp → Type 0) (stood : Stamp → Type 0) (form : OutputForm) (images : List (Bor (List ℕ))) (k : ℕ) (d : Bor (List ℕ)) (streams : Streams) (b : Option (List ℕ))
+    (status : ℕ) (line : List ℕ) (count one : ℕ) → k < length images → ArePrinted remaining stamped stood form images k streams.old b status
+    → IsLine remaining stamped stood form (get_or images k d).now line one → AppendsFront b streams.new line count → streams.failed ≡ true
+    → streams.said (fault_line Output) → RunsIdentify remaining stamped stood streams form (map path_of images) 3
+breaks_off remaining stamped stood form images k d streams b status line count one within had is cut broken said =
     inr (
       k + 1,
       had.lines ++ line,
-      max status 0,
-      subst (λ paths. AreIdentified remaining stamped stood paths (had.lines ++ line) (max status 0)) (sym (paths_more images k d within))
-          (one_more remaining stamped stood (take k (map path_of images)) (get_or images k d).now had.lines line status 0 had.are is),
+      max status one,
+      subst (λ paths. AreIdentified remaining stamped stood form paths (had.lines ++ line) (max status one)) (sym (paths_more images k d within))
+          (one_more remaining stamped stood form (take k (map path_of images)) (get_or images k d).now had.lines line status one had.are is),
       record {
         status = refl;
         front = (
@@ -93,38 +94,37 @@ breaks_off remaining stamped stood images k d streams b status line count within
     )
 
 -- if the lines of all files are printed, the run is over
-pub printed_all : {F : Type 0} (remaining : F → Option (List ℕ)) (stamped : F → Stamp → Type 0) (stood : Stamp → Type 0) (images : List (Bor (List ℕ))) (k : ℕ) (streams : Streams) (status : ℕ) → length images ≤ k
-    → ArePrinted remaining stamped stood images k streams.old streams.new status → streams.failed ≡ streams.had_failed → streams.said []
-    → RunsIdentify remaining stamped stood streams (map path_of images) status
-printed_all remaining stamped stood images k streams status all had working said =
+pub printed_all : {F : Type 0} (remaining : F → Option (List ℕ)) (stamped : F → Stamp → Type 0) (stood : Stamp → Type 0) (form : OutputForm) (images : List (Bor (List ℕ))) (k : ℕ) (streams : Streams) (status : ℕ) → length images ≤ k
+    → ArePrinted remaining stamped stood form images k streams.old streams.new status → streams.failed ≡ streams.had_failed → streams.said []
+    → RunsIdentify remaining stamped stood streams form (map path_of images) status
+printed_all remaining stamped stood form images k streams status all had working said =
     let whole : take k (map path_of images) ≡ map path_of images = take_all k (map path_of images) (omega (arith, all, length-map images path_of)) in
     inl (
       had.lines,
       status,
-      subst (λ paths. AreIdentified remaining stamped stood paths had.lines status) whole had.are,
+      subst (λ paths. AreIdentified remaining stamped stood form paths had.lines status) whole had.are,
       record { status = refl; whole = had.whole; working = working; said = said },
     )
 
 -- the status of a line is at most 4
-line_few : {F : Type 0} (remaining : F → Option (List ℕ)) (stamped : F → Stamp → Type 0) (stood : Stamp → Type 0) (path line : List ℕ) (one : ℕ) → IsLine remaining stamped stood path line one → one ≤ 4
-line_few remaining stamped stood path line one (inl pack) = omega (arith, pack.0)
-line_few remaining stamped stood path line one (inr (inl printed)) = omega (arith, printed.0)
-line_few remaining stamped stood path line one (inr (inr (inl three, none))) = omega (arith, three)
-line_few remaining stamped stood path line one (inr (inr (inr four, none))) = omega (arith, four)
+line_few : {F : Type 0} (remaining : F → Option (List ℕ)) (stamped : F → Stamp → Type 0) (stood : Stamp → Type 0) (form : OutputForm) (path line : List ℕ) (one : ℕ) → IsLine remaining stamped stood form path line one → one ≤ 4
+line_few remaining stamped stood form path line one (inl told) = omega (arith, told.0)
+line_few remaining stamped stood form path line one (inr (inl three, none)) = omega (arith, three)
+line_few remaining stamped stood form path line one (inr (inr four, none)) = omega (arith, four)
 
 -- so is the greatest of them
-lines_few : {F : Type 0} (remaining : F → Option (List ℕ)) (stamped : F → Stamp → Type 0) (stood : Stamp → Type 0) (paths : List (List ℕ)) (lines : List ℕ) (read : ℕ) → AreIdentified remaining stamped stood paths lines read → read ≤ 4
-lines_few remaining stamped stood [] lines read are = omega (arith, are.1)
-lines_few remaining stamped stood (path ∷ more) lines read (line, one, rest, others, is, are, whole, greatest) =
-    let few = line_few remaining stamped stood path line one is in
-    let rest_few = lines_few remaining stamped stood more rest others are in
+lines_few : {F : Type 0} (remaining : F → Option (List ℕ)) (stamped : F → Stamp → Type 0) (stood : Stamp → Type 0) (form : OutputForm) (paths : List (List ℕ)) (lines : List ℕ) (read : ℕ) → AreIdentified remaining stamped stood form paths lines read → read ≤ 4
+lines_few remaining stamped stood form [] lines read are = omega (arith, are.1)
+lines_few remaining stamped stood form (path ∷ more) lines read (line, one, rest, others, is, are, whole, greatest) =
+    let few = line_few remaining stamped stood form path line one is in
+    let rest_few = lines_few remaining stamped stood form more rest others are in
     omega (arith, greatest, few, rest_few)
 
 -- a run of `identify` ends as that of a command that shows part of an image
-pub ends_identified : {F : Type 0} (remaining : F → Option (List ℕ)) (stamped : F → Stamp → Type 0) (stood : Stamp → Type 0) (streams : Streams) (paths : List (List ℕ)) (status : ℕ)
-    → RunsIdentify remaining stamped stood streams paths status → IsEnd streams status
-ends_identified remaining stamped stood streams paths status (inl (lines, read, are, printed)) =
-    let few = lines_few remaining stamped stood paths lines read are in
+pub ends_identified : {F : Type 0} (remaining : F → Option (List ℕ)) (stamped : F → Stamp → Type 0) (stood : Stamp → Type 0) (form : OutputForm) (streams : Streams) (paths : List (List ℕ)) (status : ℕ)
+    → RunsIdentify remaining stamped stood streams form paths status → IsEnd streams status
+ends_identified remaining stamped stood form streams paths status (inl (lines, read, are, printed)) =
+    let few = lines_few remaining stamped stood form paths lines read are in
     record { within = omega (arith, few, printed.status); whole = λ e. (printed.working, printed.said) }
-ends_identified remaining stamped stood streams paths status (inr (count, lines, read, are, broken)) =
+ends_identified remaining stamped stood form streams paths status (inr (count, lines, read, are, broken)) =
     record { within = omega (arith, broken.status); whole = λ e. absurd (omega (arith, broken.status, e)) }

@@ -1,18 +1,19 @@
 -- `identify`: the part of each file that it reads, and the lines that it prints.
-use Rattle.std.specs.Prelude.{◌≡◌, ◌⊎◌, ℕ, ◌+◌, ◌*◌, ◌==◌, ◌&&◌, nat_le, max, Bool, false, if◌then◌else◌, List, [], ◌∷◌, ◌++◌, codes, decimal, length, take, String, string_bytes, Option, None, Some}
+use Rattle.std.specs.Prelude.{◌≡◌, ◌⊎◌, ℕ, ◌+◌, ◌*◌, ◌==◌, max, Bool, false, if◌then◌else◌, List, [], ◌∷◌, ◌++◌, length, take, Option, None, Some}
 use Rattle.command_faults.specs.Streams.{Gets, Streams}
 use Rattle.command_reads.specs.Print.{IsBrokenOff, IsPrintedWith}
-use Rattle.std.specs.Global.{Global, Vec}
+use Rattle.command_reads.specs.declared.looks.OutputForm.{OutputForm}
+use Rattle.command_reads.specs.declared.looks.OutputForm.TheVariants as forms
 use Rattle.host_files.specs.ReadParts.{IsReadOn}
 use Rattle.host_files.specs.declared.image_file.Stamp.{Stamp}
-use Rattle.pack_files.specs.PackFiles.{GivesPack}
+use Rattle.identify_lines.specs.GuessJson.{seen_json, unread_json}
+use Rattle.identify_lines.specs.Lines.{seen_lines}
+use Rattle.identify_lines.specs.declared.seen.Seen.{Seen}
+use Rattle.identify_lines.specs.declared.seen.Seen.TheVariants as seens
+use Rattle.pack_files.specs.PackFiles.{GivesPack, is_regular}
 use Rattle.vol_identify.specs.Front.{blocks_wanted}
-use Rattle.vol_identify.specs.Guesses.{IsJudgedSo, guess_of, is_open}
-use Rattle.vol_identify.specs.PackTexts.{pack_lines}
-use Rattle.vol_identify.specs.Texts.{identified_text}
-use Rattle.vol_identify.specs.declared.guess.Guess.{Guess}
+use Rattle.vol_identify.specs.Guesses.{IsJudgedSo, guess_of}
 use Rattle.vol_identify.specs.declared.guess.Identified.{Identified}
-use Rattle.vol_identify.specs.declared.pack_texts.JudgedPart.{JudgedPart}
 use Rattle.unixvol.specs.Runs.{IsEnd, IsStatusOfFileOrMemory}
 
 -- the greatest number of bytes of a file that are read for a guess, by its first three blocks: those of the volume that may begin there, and one block
@@ -29,56 +30,56 @@ IsFrontRead old new front =
 abbrev pub GaveFront : {F : Type 0} → (F → Option (List ℕ)) → List ℕ → Type 0
 GaveFront {F} remaining front = (old : F) × (new : F) × IsFrontRead (remaining old) (remaining new) front
 
--- true if a guess by so many bytes could be changed by bytes after them, which weren't read (this project)
-unfoldable pub is_cut : Guess → ℕ → Bool
-is_cut guess bytes = is_open guess && nat_le 268435456 bytes
+-- a front that some file gave looks like this image, by this number of its bytes (this project)
+abbrev pub IsImageSeen : {F : Type 0} → (F → Option (List ℕ)) → Identified → ℕ → Type 0
+IsImageSeen remaining found read =
+    (front : List ℕ) × GaveFront remaining front × (found.guess ≡ guess_of front) × IsJudgedSo front found.guess found.broken × (read ≡ length front)
 
--- the end of an image's line: the number of bytes that the guess is by, if others could change it (this project)
-abbrev pub line_end : Guess → ℕ → List ℕ
-line_end guess bytes = if is_cut guess bytes then codes ", by its first " ++ (decimal bytes ++ codes " bytes\n") else codes "\n"
+-- a file has this pack, whose volumes were read and judged; or it has none, and a front that it gave looks like this image (this project)
+abbrev pub IsSeen : {F : Type 0} → (F → Option (List ℕ)) → (F → Stamp → Type 0) → (Stamp → Type 0) → Seen → Type 0
+IsSeen remaining stamped stood (seens.Pack judged) = GivesPack remaining stamped stood (Some judged)
+IsSeen remaining stamped stood (seens.Image found read) = GivesPack remaining stamped stood None × IsImageSeen remaining found read
 
--- the line of an image: its path, and the words for what its front looks like (this project)
-abbrev pub identified_line : List ℕ → Identified → ℕ → List ℕ
-identified_line path found bytes = path ++ (codes ": " ++ (identified_text found.guess found.broken ++ line_end found.guess bytes))
+-- the number of bytes of a regular file; none of another kind (this project)
+abbrev pub size_of : Stamp → Option ℕ
+size_of stamp = if is_regular stamp.kind then Some stamp.size else None
 
--- the lines of the pack in the file at a path, each of whose volumes was read and judged; or it has no pack (this project)
-abbrev pub AreLinesOfPack : {F : Type 0} → (F → Option (List ℕ)) → (F → Stamp → Type 0) → (Stamp → Type 0) → List ℕ → Option (String Global) → Type 0
-AreLinesOfPack remaining stamped stood path None = GivesPack remaining stamped stood None
-AreLinesOfPack remaining stamped stood path (Some lines) =
-    (judged : Vec JudgedPart) × GivesPack remaining stamped stood (Some judged) × (string_bytes lines ≡ pack_lines path judged.items)
+-- this is the line, or these are the lines, of what the file at a path seems to be, in this format; JSON has the size of the file at some path (this
+-- project)
+abbrev pub IsTold : (Stamp → Type 0) → OutputForm → List ℕ → Seen → List ℕ → Type 0
+IsTold stood forms.Text path seen line = line ≡ seen_lines path seen
+IsTold stood forms.Json path seen line = (stamp : Stamp) × stood stamp × (line ≡ seen_json path (size_of stamp) seen)
 
--- the line of the image in a file that has no pack: by a front that the file gave, and what that looks like (this project)
-abbrev pub IsLineOfImage : {F : Type 0} → (F → Option (List ℕ)) → List ℕ → List ℕ → Type 0
-IsLineOfImage remaining path line =
-    (front : List ℕ) × (found : Identified) × GaveFront remaining front × (found.guess ≡ guess_of front)
-    × IsJudgedSo front found.guess found.broken × (line ≡ identified_line path found (length front))
+-- this is the line of a file that wasn't read, with this status: none as text; in JSON the one for its fault, unless memory ran out (this project)
+abbrev pub IsUntold : OutputForm → List ℕ → ℕ → List ℕ → Type 0
+IsUntold forms.Text path status line = line ≡ []
+IsUntold forms.Json path status line = (line ≡ unread_json path status) ⊎ ((status ≡ 4) × (line ≡ []))
 
--- the lines of the pack in a file, or the line of the image in it, with the status 0; or none, since the file can't be read or memory ran out, with the
+-- the line of what a file seems to be, in this format, with the status 0; or the one of a file that can't be read, or for which memory ran out, with the
 -- status for that (this project)
-abbrev pub IsLine : {F : Type 0} → (F → Option (List ℕ)) → (F → Stamp → Type 0) → (Stamp → Type 0) → List ℕ → List ℕ → ℕ → Type 0
-IsLine remaining stamped stood path line status =
-    ((status ≡ 0) × (judged : Vec JudgedPart) × GivesPack remaining stamped stood (Some judged) × (line ≡ pack_lines path judged.items))
-    ⊎ (((status ≡ 0) × GivesPack remaining stamped stood None × IsLineOfImage remaining path line)
-    ⊎ (IsStatusOfFileOrMemory status × (line ≡ [])))
+abbrev pub IsLine : {F : Type 0} → (F → Option (List ℕ)) → (F → Stamp → Type 0) → (Stamp → Type 0) → OutputForm → List ℕ → List ℕ → ℕ → Type 0
+IsLine remaining stamped stood form path line status =
+    ((status ≡ 0) × (seen : Seen) × IsSeen remaining stamped stood seen × IsTold stood form path seen line)
+    ⊎ (IsStatusOfFileOrMemory status × IsUntold form path status line)
 
--- these are the lines of the images in these files, in order, and the greatest of their statuses (this project)
-abbrev pub AreIdentified : {F : Type 0} → (F → Option (List ℕ)) → (F → Stamp → Type 0) → (Stamp → Type 0) → List (List ℕ) → List ℕ → ℕ → Type 0
-AreIdentified remaining stamped stood [] lines status = (lines ≡ []) × (status ≡ 0)
-AreIdentified remaining stamped stood (path ∷ more) lines status =
-    (line : List ℕ) × (one : ℕ) × (rest : List ℕ) × (others : ℕ) × IsLine remaining stamped stood path line one × AreIdentified remaining stamped stood more rest others
+-- these are the lines of these files, in order and in this format, and the greatest of their statuses (this project)
+abbrev pub AreIdentified : {F : Type 0} → (F → Option (List ℕ)) → (F → Stamp → Type 0) → (Stamp → Type 0) → OutputForm → List (List ℕ) → List ℕ → ℕ → Type 0
+AreIdentified remaining stamped stood form [] lines status = (lines ≡ []) × (status ≡ 0)
+AreIdentified remaining stamped stood form (path ∷ more) lines status =
+    (line : List ℕ) × (one : ℕ) × (rest : List ℕ) × (others : ℕ) × IsLine remaining stamped stood form path line one × AreIdentified remaining stamped stood form more rest others
     × (lines ≡ line ++ rest) × (status ≡ max one others)
 
--- `identify` runs: the lines of the images in these files are printed; or standard output fails, and the files after the one whose line couldn't be
+-- `identify` runs: the lines of these files are printed in this format; or standard output fails, and the files after the one whose line couldn't be
 -- printed aren't looked at (this project)
-abbrev pub RunsIdentify : {F : Type 0} → (F → Option (List ℕ)) → (F → Stamp → Type 0) → (Stamp → Type 0) → Streams → List (List ℕ) → ℕ → Type 0
-RunsIdentify remaining stamped stood streams paths status =
-    ((lines : List ℕ) × (read : ℕ) × AreIdentified remaining stamped stood paths lines read × IsPrintedWith read streams lines status)
-    ⊎ ((count : ℕ) × (lines : List ℕ) × (read : ℕ) × AreIdentified remaining stamped stood (take count paths) lines read × IsBrokenOff streams lines status)
+abbrev pub RunsIdentify : {F : Type 0} → (F → Option (List ℕ)) → (F → Stamp → Type 0) → (Stamp → Type 0) → Streams → OutputForm → List (List ℕ) → ℕ → Type 0
+RunsIdentify remaining stamped stood streams form paths status =
+    ((lines : List ℕ) × (read : ℕ) × AreIdentified remaining stamped stood form paths lines read × IsPrintedWith read streams lines status)
+    ⊎ ((count : ℕ) × (lines : List ℕ) × (read : ℕ) × AreIdentified remaining stamped stood form (take count paths) lines read × IsBrokenOff streams lines status)
 
 -- `identify` runs to its end, as a command that shows part of an image does (this project)
-abbrev pub IdentifiesToEnd : {F : Type 0} → (F → Option (List ℕ)) → (F → Stamp → Type 0) → (Stamp → Type 0) → Option (List ℕ) → Option (List ℕ) → List (List ℕ) → ℕ → Type 0
-IdentifiesToEnd remaining stamped stood output errors paths end =
+abbrev pub IdentifiesToEnd : {F : Type 0} → (F → Option (List ℕ)) → (F → Stamp → Type 0) → (Stamp → Type 0) → Option (List ℕ) → Option (List ℕ) → OutputForm → List (List ℕ) → ℕ → Type 0
+IdentifiesToEnd remaining stamped stood output errors form paths end =
     (new : Option (List ℕ)) × (failed : Bool) × (told : Option (List ℕ)) × (untold : Bool) × (status : ℕ)
-    × RunsIdentify remaining stamped stood (record { old = output; new = new; had_failed = false; failed = failed; said = Gets untold errors told }) paths status
+    × RunsIdentify remaining stamped stood (record { old = output; new = new; had_failed = false; failed = failed; said = Gets untold errors told }) form paths status
     × IsEnd (record { old = output; new = new; had_failed = false; failed = failed; said = Gets untold errors told }) status
     × ((end ≡ status) ⊎ (end ≡ 3))

@@ -364,7 +364,7 @@ RunsChange streams files input is_terminal edition change lines status =
 -- the invocation is a plain command: it doesn't show part of an image, compare two images, guess what images are, change a volume, copy several files or use several threads (this project)
 abbrev pub IsPlainCommand : Invocation → Type 0
 IsPlainCommand (invocations.Look volume look) = ⊥
-IsPlainCommand (invocations.Identify images) = ⊥
+IsPlainCommand (invocations.Identify images form) = ⊥
 IsPlainCommand (invocations.Diff volume other all) = ⊥
 IsPlainCommand (invocations.Change volume change) = ⊥
 IsPlainCommand (invocations.Copy volume copying) = ⊥
@@ -376,9 +376,9 @@ IsPlainCommand _ = Unit {0}
 abbrev pub volume_at : Invocation → ℕ
 volume_at (invocations.Cat volume node) = volume.at
 volume_at (invocations.Get volume path) = volume.at
-volume_at (invocations.Mkfs image volume) = 0
+volume_at (invocations.Mkfs place volume) = 0
 volume_at (invocations.Migrate old at new migration) = at
-volume_at (invocations.Identify images) = 0
+volume_at (invocations.Identify images form) = 0
 volume_at (invocations.Diff volume other all) = volume.at
 volume_at (invocations.Salvage volume copy) = volume.at
 volume_at (invocations.Look volume look) = volume.at
@@ -396,9 +396,9 @@ read_at (Err error) = 0
 abbrev pub Runs : Streams → HostFiles → ℕ → Invocation → Type 0
 Runs streams files status (invocations.Cat volume node) = RunsCat streams files volume.edition node status
 Runs streams files status (invocations.Get volume path) = RunsGetOne streams files volume.edition path.now status
-Runs streams files status (invocations.Mkfs image volume) = RunsMkfs streams files.taken volume status
+Runs streams files status (invocations.Mkfs place volume) = RunsMkfs streams files.taken volume status
 Runs streams files status (invocations.Migrate old at new migration) = RunsMigrate streams files migration status
-Runs streams files status (invocations.Identify images) = ⊥
+Runs streams files status (invocations.Identify images form) = ⊥
 Runs streams files status (invocations.Diff volume other all) = ⊥
 Runs streams files status (invocations.Salvage volume copy) = RunsSalvage streams files volume.edition copy status
 Runs streams files status (invocations.Look volume look) = ⊥

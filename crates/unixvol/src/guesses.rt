@@ -6,13 +6,11 @@ ghost use Rattle.unixvol.specs.Runs.{IsStatusOfFileOrMemory};
 use crate::explain::{NamedFile, explain_no_memory_for, explain_unread, reason_of};
 use crate::host::Surroundings;
 use host_files::{FrontFault, noted_reader, read_on};
+use identify_lines::MOST;
 use pdp_words::{BLOCK, Image, Source};
 use std::alloc::{AllocError, Global};
 use std::fs::{self, Files};
 use vol_identify::{Guess, blocks_wanted, guess_image};
-
-/// The number of bytes of a file that are read where no volume may begin at its front.
-pub const MOST: usize = 268_435_456;
 
 /// The number of bytes that say whether a volume may begin at the front.
 const HEAD: usize = 3 * BLOCK;

@@ -1,57 +1,62 @@
 //! `identify`, which guesses what images are, file after file: each has its line, or the lines of its pack, before the next is read.
-ghost use Rattle.std.specs.Prelude.{◌≡◌, true, List, ℕ, length, map, IfErr, IfOk, OnErr, string_bytes};
+ghost use Rattle.std.specs.Prelude.{◌≡◌, true, List, ℕ, map, Ok, IfErr, IfOk, OnErr, string_bytes};
 ghost use Rattle.std.specs.Io.KnownBytes.{Appends};
 ghost use Rattle.std.specs.Process.{exit_status};
 ghost use Rattle.command_faults.specs.Streams.{ErrorStream, Hears, streams};
 ghost use Rattle.pdp_words.specs.Devices.{AppendsFront};
-ghost use Rattle.unixvol.specs.Identify.{AreLinesOfPack, IdentifiesToEnd, IsLine, RunsIdentify, identified_line, is_cut};
+ghost use Rattle.unixvol.specs.Identify.{IdentifiesToEnd, IsImageSeen, IsLine, IsSeen, IsTold, IsUntold, RunsIdentify, size_of};
+ghost use Rattle.pack_files.specs.PackFiles.{GivesPack};
+ghost use Rattle.identify_lines.specs.declared.seen.Seen.{Seen};
 ghost use Rattle.unixvol.specs.Runs.{IsStatusOfFileOrMemory};
 
 use crate::explain::{
     NamedFile, explain_no_memory_for, explain_unread, finish_printed, reason_of, tell_fault,
 };
-use crate::guesses::{MOST, read_to_guess};
+use crate::guesses::read_to_guess;
 use crate::host::Surroundings;
 use command_faults::status::DONE;
 use command_faults::{Ending, Fault};
-use host_files::{ImageFiles, noted_writer};
+use command_reads::OutputForm;
+use host_files::{FileKind, ImageFiles, Stamp, noted_writer};
+use identify_lines::{Seen, seen_json, seen_lines, unread_json};
 use pack_files::{PackFault, judged_pack};
 use pdp_words::{IntoWrite, SaveFault, Sink, write_all};
-use std::alloc::{AllocError, Global};
+use std::alloc::AllocError;
 use std::io::Write;
 use std::process::ExitCode;
-use vol_identify::{Guess, Identified, identify, pack_lines};
+use vol_identify::{Identified, JudgedPart, identify};
 
-/// Prints a line for each image in these files, and returns the exit code: the greatest of their statuses. A file that can't be read, or for which
-/// there is too little memory, has its fault on standard error, and no line; the files after it are read all the same.
+/// Prints a line for each of these files, in this format, and returns the exit code: the greatest of their statuses. A file that can't be read, or for
+/// which there is too little memory, has its fault on standard error, and no line but in JSON; the files after it are read all the same.
 pub fn run_to_end<R: ImageFiles + Eprint + AllocGlobal, O: Write + Drop, E: Write + Drop>(
     host: &Surroundings<'_, R>,
     output: O,
     errors: E,
+    form: OutputForm,
     images: &[&str],
 ) -> ExitCode
-    ensures { IdentifiesToEnd R.File.remaining R.had R.stood (O.contents output) (E.contents errors) (map (λ image. image.now) images.now) (exit_status result) }
+    ensures { IdentifiesToEnd R.File.remaining R.had R.stood (O.contents output) (E.contents errors) form (map (λ image. image.now) images.now) (exit_status result) }
 {
     let mut errors = IntoWrite::new(errors);
     let mut output = noted_writer(output);
-    let ending = print_lines(host, &mut output, images);
+    let ending = print_lines(host, &mut output, form, images);
     tell_fault(host, &mut errors, &ending.fault, output.error(), None);
     ExitCode::from(finish_printed(host, output.into_inner().into_inner(), ending.status))
 }
 
-/// Prints the lines of the images in these files, each before the next file is read, and returns how the run ends. If standard output fails, no
-/// further file is read.
+/// Prints the lines of these files, each before the next file is read, and returns how the run ends. If standard output fails, no further file is read.
 fn print_lines<R: ImageFiles + Eprint + AllocGlobal, O: Sink>(
     host: &Surroundings<'_, R>,
     output: &mut O,
+    form: OutputForm,
     images: &[&str],
 ) -> Ending
     ensures { (errors : ErrorStream) → Hears errors result.fault
-        → RunsIdentify R.File.remaining R.had R.stood (streams O.contents O.failed output.old output.new errors) (map (λ image. image.now) images.now) result.status }
+        → RunsIdentify R.File.remaining R.had R.stood (streams O.contents O.failed output.old output.new errors) form (map (λ image. image.now) images.now) result.status }
 {
     let mut status = DONE;
     'images: for image in images {
-        match print_line(host, output, image) {
+        match print_line(host, output, form, image) {
             Ok(one) => status = status.max(one),
             Err(_) => return Ending::from(Fault::Output),
         }
@@ -62,89 +67,189 @@ fn print_lines<R: ImageFiles + Eprint + AllocGlobal, O: Sink>(
     }
 }
 
-/// Prints the line of the image in a file, or the lines of the pack, and returns its status. If it has no line, prints the fault. Fails only if standard output does.
+/// Prints the line of a file, or the lines of its pack, and returns its status. If it can't be read, prints the fault too. Fails only if standard output
+/// does.
 fn print_line<R: ImageFiles + Eprint + AllocGlobal, O: Sink>(
     host: &Surroundings<'_, R>,
     output: &mut O,
+    form: OutputForm,
     path: &str,
 ) -> Result<u8, SaveFault>
-    ensures printed { IfOk result (λ status. (line : List ℕ) × IsLine R.File.remaining R.had R.stood path.now line status
+    ensures printed { IfOk result (λ status. (line : List ℕ) × IsLine R.File.remaining R.had R.stood form path.now line status
         × Appends (O.contents output.old) (O.contents output.new) line × (O.failed output.new ≡ O.failed output.old)) }
-    ensures broken { OnErr result ((line : List ℕ) × (count : ℕ) × IsLine R.File.remaining R.had R.stood path.now line 0
+    ensures broken { OnErr result ((line : List ℕ) × (count : ℕ) × (status : ℕ) × IsLine R.File.remaining R.had R.stood form path.now line status
         × AppendsFront (O.contents output.old) (O.contents output.new) line count × (O.failed output.new ≡ true)) }
 {
-    match line_text(host, path) {
-        Ok(line) => {
-            write_all(output, line.as_bytes())?;
-            Ok(DONE)
-        }
-        Err(status) => Ok(status),
+    let told = told_of(host, form, path);
+    write_all(output, told.line.as_bytes())?;
+    Ok(told.status)
+}
+
+/// The line of a file, or the lines of its pack, and its status.
+#[derive(Drop)]
+struct ToldFile {
+    /// The line or lines.
+    line: String,
+    /// The status.
+    status: u8,
+}
+
+/// Returns the line of a file, or the lines of its pack. If it can't be read, prints the fault too.
+fn told_of<R: ImageFiles + Eprint + AllocGlobal>(
+    host: &Surroundings<'_, R>,
+    form: OutputForm,
+    path: &str,
+) -> ToldFile
+    ensures { IsLine R.File.remaining R.had R.stood form path.now (string_bytes result.line) result.status }
+{
+    match line_text(host, form, path) {
+        Ok(line) => ToldFile { line, status: DONE },
+        Err(status) => untold(host, form, path, status),
     }
 }
 
-/// Returns the line of the image in a file, or the lines of the pack. If it has none, prints the fault and returns the status.
+/// Returns the line of a file that wasn't read, with this status, or the status of memory if there is too little for the line.
+fn untold<R: Eprint + AllocGlobal>(
+    host: &Surroundings<'_, R>,
+    form: OutputForm,
+    path: &str,
+    status: u8,
+) -> ToldFile
+    requires { IsStatusOfFileOrMemory status }
+    ensures status { IsStatusOfFileOrMemory result.status }
+    ensures line { IsUntold form path.now result.status (string_bytes result.line) }
+{
+    let alloc = host.rt.alloc();
+    match form {
+        OutputForm::Text => ToldFile {
+            line: String::new(alloc),
+            status,
+        },
+        OutputForm::Json => match unread_json(alloc, path, status) {
+            Ok(line) => ToldFile { line, status },
+            Err(_) => ToldFile {
+                line: String::new(alloc),
+                status: explain_no_memory_for(host, path),
+            },
+        },
+    }
+}
+
+/// Returns the line of what a file seems to be, or the lines of its pack. If it can't be read, prints the fault and returns the status.
 fn line_text<R: ImageFiles + Eprint + AllocGlobal>(
     host: &Surroundings<'_, R>,
+    form: OutputForm,
     path: &str,
 ) -> Result<String, u8>
-    ensures line { IfOk result (λ line. IsLine R.File.remaining R.had R.stood path.now (string_bytes line) 0) }
+    ensures line { IfOk result (λ line. (seen : Seen) × IsSeen R.File.remaining R.had R.stood seen × IsTold R.stood form path.now seen (string_bytes line)) }
     ensures fault { IfErr result IsStatusOfFileOrMemory }
 {
-    if let Some(lines) = lines_of_pack(host, path)? {
-        return Ok(lines);
+    let seen = see(host, path)?;
+    match form {
+        OutputForm::Text => made_line(host, path, seen_lines(host.rt.alloc(), path, &seen)),
+        OutputForm::Json => {
+            let stamp = stamp_at(host, path)?;
+            let line = seen_json(host.rt.alloc(), path, size_of(stamp), &seen);
+            made_line(host, path, line)
+        }
     }
-    let front = read_to_guess(host, path)?;
-    let Ok(found) = identify(host.rt.alloc(), &front) else {
-        return Err(explain_no_memory_for(host, path));
-    };
-    match written_line(host.rt.alloc(), path, found, front.len()) {
+}
+
+/// Returns a line that was made, or prints that memory ran out for a file and returns the status.
+fn made_line<R: Eprint + AllocGlobal>(
+    host: &Surroundings<'_, R>,
+    path: &str,
+    made: Result<String, AllocError>,
+) -> Result<String, u8>
+    ensures line { IfOk result (λ line. made.entry ≡ Ok line) }
+    ensures fault { IfErr result IsStatusOfFileOrMemory }
+{
+    match made {
         Ok(line) => Ok(line),
         Err(_) => Err(explain_no_memory_for(host, path)),
     }
 }
 
-/// Returns the lines of the pack in a file, unless it isn't one. If it can't be read, prints the fault and returns the status.
-fn lines_of_pack<R: ImageFiles + Eprint + AllocGlobal>(
+/// Returns the number of bytes of a regular file. `None` for another kind.
+fn size_of(stamp: Stamp) -> Option<u64>
+    ensures { result ≡ size_of stamp }
+{
+    if stamp.kind == FileKind::Regular {
+        Some(stamp.size)
+    } else {
+        None
+    }
+}
+
+/// Returns the stamp of a file. If the system can't examine it, prints the fault and returns the status.
+fn stamp_at<R: ImageFiles + Eprint + AllocGlobal>(
     host: &Surroundings<'_, R>,
     path: &str,
-) -> Result<Option<String>, u8>
-    ensures lines { IfOk result (AreLinesOfPack R.File.remaining R.had R.stood path.now) }
+) -> Result<Stamp, u8>
+    ensures stamp { IfOk result R.stood }
     ensures fault { IfErr result IsStatusOfFileOrMemory }
 {
-    let parts = match judged_pack(host.rt, path) {
-        Ok(Some(parts)) => parts,
-        Ok(None) => return Ok(None),
-        Err(PackFault::Unread(why)) => {
-            return Err(explain_unread(host, NamedFile::File(path), reason_of(why)));
+    match host.rt.stamp_at(path) {
+        Ok(stamp) => Ok(stamp),
+        Err(why) => Err(explain_unread(host, NamedFile::File(path), why)),
+    }
+}
+
+/// Returns what a file seems to be. If it can't be read, prints the fault and returns the status.
+fn see<R: ImageFiles + Eprint + AllocGlobal>(
+    host: &Surroundings<'_, R>,
+    path: &str,
+) -> Result<Seen, u8>
+    ensures seen { IfOk result (IsSeen R.File.remaining R.had R.stood) }
+    ensures fault { IfErr result IsStatusOfFileOrMemory }
+{
+    match pack_of(host, path)? {
+        Some(parts) => Ok(Seen::Pack(parts)),
+        None => {
+            let SeenImage { found, read } = see_image(host, path)?;
+            Ok(Seen::Image { found, read })
         }
-        Err(PackFault::NoMemory) => return Err(explain_no_memory_for(host, path)),
-    };
-    match pack_lines(host.rt.alloc(), path, &parts) {
-        Ok(lines) => Ok(Some(lines)),
+    }
+}
+
+/// What the image in a file seems to be, by the first `read` bytes of the file.
+#[derive(Clone, Copy)]
+struct SeenImage {
+    found: Identified,
+    read: usize,
+}
+
+/// Returns what the image in a file seems to be. If it can't be read, prints the fault and returns the status.
+fn see_image<R: ImageFiles + Eprint + AllocGlobal>(
+    host: &Surroundings<'_, R>,
+    path: &str,
+) -> Result<SeenImage, u8>
+    ensures seen { IfOk result (λ image. IsImageSeen R.File.remaining image.found image.read) }
+    ensures fault { IfErr result IsStatusOfFileOrMemory }
+{
+    let front = read_to_guess(host, path)?;
+    match identify(host.rt.alloc(), &front) {
+        Ok(found) => Ok(SeenImage {
+            found,
+            read: front.len(),
+        }),
         Err(_) => Err(explain_no_memory_for(host, path)),
     }
 }
 
-/// Returns the line of an image of which so many bytes were looked at.
-fn written_line(
-    alloc: Global,
+/// Returns the judged parts of the pack in a file, unless it isn't one. If it can't be read, prints the fault and returns the status.
+fn pack_of<R: ImageFiles + Eprint + AllocGlobal>(
+    host: &Surroundings<'_, R>,
     path: &str,
-    found: Identified,
-    bytes: usize,
-) -> Result<String, AllocError>
-    ensures { IfOk result (λ line. string_bytes line ≡ identified_line path.now found bytes) }
+) -> Result<Option<Vec<JudgedPart>>, u8>
+    ensures pack { IfOk result (GivesPack R.File.remaining R.had R.stood) }
+    ensures fault { IfErr result IsStatusOfFileOrMemory }
 {
-    if is_cut(found.guess, bytes) {
-        format!(in alloc; "{path}: {found}, by its first {bytes} bytes\n")
-    } else {
-        format!(in alloc; "{path}: {found}\n")
+    match judged_pack(host.rt, path) {
+        Ok(pack) => Ok(pack),
+        Err(PackFault::Unread(why)) => {
+            Err(explain_unread(host, NamedFile::File(path), reason_of(why)))
+        }
+        Err(PackFault::NoMemory) => Err(explain_no_memory_for(host, path)),
     }
-}
-
-/// True if a guess by so many bytes could be changed by bytes after them, which weren't read.
-#[tactic(auto, unfolding(crate::specs::Identify::is_cut))]
-fn is_cut(guess: Guess, bytes: usize) -> bool
-    ensures { result ≡ is_cut guess bytes }
-{
-    guess.is_open() && MOST <= bytes
 }

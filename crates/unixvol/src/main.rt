@@ -68,8 +68,8 @@ fn main(rt: HostRuntime) -> ExitCode {
         Ok(Invocation::Diff { volume, other, all }) => {
             compare::run_to_end(&host, output, errors, volume, other, all)
         }
-        Ok(Invocation::Identify { images }) => {
-            identify::run_to_end(&host, output, errors, &images)
+        Ok(Invocation::Identify { images, form }) => {
+            identify::run_to_end(&host, output, errors, form, &images)
         }
         read => commands::run_to_end(&host, output, errors, read),
     }

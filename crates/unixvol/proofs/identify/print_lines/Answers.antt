@@ -11,16 +11,16 @@ pub returns-in-Err : goal.returns-in-Err
 returns-in-Err g c errors hears =
     let cut = c.in-Err.ensures.broken in
     let run = streams g.O.Sink.contents g.O.Sink.failed c.args.output.now c.print_line.new.output errors in
-    subst (λ (status : ℕ). RunsIdentify g.R.File.Read.remaining g.R.ImageFiles.had g.R.ImageFiles.stood run (map (λ (image : Bor (List ℕ)). image.now) c.args.images.now) status) (sym c.from.ensures.0)
-    (breaks_off g.R.File.Read.remaining g.R.ImageFiles.had g.R.ImageFiles.stood c.args.images.now c.images.image-index _ run (g.O.Sink.contents c.images.output) c.images.status cut.0 cut.1 (omega arith)
-    c.images.invariant.0 cut.2 cut.3 cut.4 (subst (λ (fault : Option Fault). says errors (line_after fault)) c.from.ensures.1 hears))
+    subst (λ (status : ℕ). RunsIdentify g.R.File.Read.remaining g.R.ImageFiles.had g.R.ImageFiles.stood run c.args.form (map (λ (image : Bor (List ℕ)). image.now) c.args.images.now) status) (sym c.from.ensures.0)
+    (breaks_off g.R.File.Read.remaining g.R.ImageFiles.had g.R.ImageFiles.stood c.args.form c.args.images.now c.images.image-index _ run (g.O.Sink.contents c.images.output) c.images.status cut.0 cut.1 cut.2 (omega arith)
+    c.images.invariant.0 cut.3 cut.4 cut.5 (subst (λ (fault : Option Fault). says errors (line_after fault)) c.from.ensures.1 hears))
 
 pub images-preserved : goal.images-preserved
 images-preserved g c =
     let line = c.in-Ok.ensures.printed in (
-      subst (λ (status : ℕ). ArePrinted g.R.File.Read.remaining g.R.ImageFiles.had g.R.ImageFiles.stood c.args.images.now (c.images.image-index + 1) (g.O.Sink.contents c.args.output.now)
+      subst (λ (status : ℕ). ArePrinted g.R.File.Read.remaining g.R.ImageFiles.had g.R.ImageFiles.stood c.args.form c.args.images.now (c.images.image-index + 1) (g.O.Sink.contents c.args.output.now)
           (g.O.Sink.contents c.print_line.new.output) status) (sym c.max-status.ensures)
-          (printed_more g.R.File.Read.remaining g.R.ImageFiles.had g.R.ImageFiles.stood c.args.images.now c.images.image-index _ (g.O.Sink.contents c.args.output.now) (g.O.Sink.contents c.images.output)
+          (printed_more g.R.File.Read.remaining g.R.ImageFiles.had g.R.ImageFiles.stood c.args.form c.args.images.now c.images.image-index _ (g.O.Sink.contents c.args.output.now) (g.O.Sink.contents c.images.output)
           (g.O.Sink.contents c.print_line.new.output) c.images.status c.in-Ok.one (omega arith) c.images.invariant.0 (line.0, line.1, line.2)),
       line.3 ∙ c.images.invariant.1,
     )

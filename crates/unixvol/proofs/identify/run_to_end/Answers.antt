@@ -20,10 +20,10 @@ returns g c =
       _,
       _,
       status,
-      begun (λ streams. RunsIdentify g.R.File.Read.remaining g.R.ImageFiles.had g.R.ImageFiles.stood streams paths status) (g.O.Write.contents c.args.output) (g.E.Write.contents c.args.errors) _ _ _ _ _ _ _
+      begun (λ streams. RunsIdentify g.R.File.Read.remaining g.R.ImageFiles.had g.R.ImageFiles.stood streams c.args.form paths status) (g.O.Write.contents c.args.output) (g.E.Write.contents c.args.errors) _ _ _ _ _ _ _
           c.noted_writer-output.ensures.bytes c.new-errors.ensures.bytes c.noted_writer-output.ensures.fresh runs,
       begun (λ streams. IsEnd streams status) (g.O.Write.contents c.args.output) (g.E.Write.contents c.args.errors) _ _ _ _ _ _ _
           c.noted_writer-output.ensures.bytes c.new-errors.ensures.bytes c.noted_writer-output.ensures.fresh
-          (ends_identified g.R.File.Read.remaining g.R.ImageFiles.had g.R.ImageFiles.stood _ paths status runs),
+          (ends_identified g.R.File.Read.remaining g.R.ImageFiles.had g.R.ImageFiles.stood c.args.form _ paths status runs),
       ended_printed status c.finish_printed.result (exit_status c.from.result) c.from.ensures c.finish_printed.ensures,
     )

@@ -6,7 +6,7 @@ use Rattle.clap.specs.Words.{kind_of}
 use Rattle.clap.specs.declared.error.Error.{Error}
 use Rattle.clap.specs.declared.error.kind.ErrorKind.{ErrorKind}
 use Rattle.clap.specs.declared.error.kind.ErrorKind.TheVariants as kinds
-use Rattle.vol_mkfs.specs.Blank.{blank_of, IsMade}
+use Rattle.vol_mkfs.specs.Blank.{Blank, blank_of, IsMade}
 use Rattle.vol_mkfs.specs.Mkfs.{is_size}
 use Rattle.vol_layout.specs.Edition.{constants}
 use Rattle.vol_layout.specs.Geometry.{block_count, geometry_read}
@@ -49,6 +49,8 @@ use Rattle.command_reads.specs.declared.cat.CatFault.TheVariants.{Writer}
 use Rattle.command_reads.specs.declared.looks.NodeName.{NodeName}
 use Rattle.command_words.specs.declared.invocation.Invocation.{Invocation}
 use Rattle.command_words.specs.declared.invocation.Invocation.TheVariants as invocations
+use Rattle.command_words.specs.declared.invocation.NewPlace.{NewPlace}
+use Rattle.command_words.specs.declared.invocation.NewPlace.TheVariants as places
 use Rattle.command_words.specs.declared.invocation.Work.{Work}
 use Rattle.command_words.specs.declared.invocation.Work.TheVariants as works
 use Rattle.vol_check.specs.declared.checker.Checker.{Checker}
@@ -207,6 +209,11 @@ abbrev pub MadeSaved : (List ℕ → Type 0) → MadeVolume → ℕ → Type 0
 MadeSaved taken made status =
     ((status ≡ made.status) × IfSome made.volume (λ blank. (bytes : List ℕ) × IsMade blank bytes × taken bytes))
     ⊎ (IsSome made.volume × IsStatusOfFileOrMemory status)
+
+-- the status after a new volume is to be saved: this one if its bytes were saved, otherwise the status of a file (this project)
+abbrev pub SavesMade : (List ℕ → Type 0) → Blank → ℕ → ℕ → Type 0
+SavesMade taken blank status result =
+    ((result ≡ status) × (bytes : List ℕ) × IsMade blank bytes × taken bytes) ⊎ IsStatusOfFileOrMemory result
 
 -- nothing is done: a file isn't read, and nothing is printed (this project)
 abbrev pub RunsNothing : Streams → HostFiles → ℕ → Type 0
@@ -372,11 +379,16 @@ IsPlainCommand (invocations.Work volume work) = ⊥
 IsPlainCommand (invocations.Serve volume serving) = ⊥
 IsPlainCommand _ = Unit {0}
 
+-- the block of its file that a new volume begins at (this project)
+abbrev pub new_place_at : NewPlace → ℕ
+new_place_at (places.File file) = 0
+new_place_at (places.Part image at) = at
+
 -- the block that the volume of an invocation begins at (this project)
 abbrev pub volume_at : Invocation → ℕ
 volume_at (invocations.Cat volume node) = volume.at
 volume_at (invocations.Get volume path) = volume.at
-volume_at (invocations.Mkfs place volume) = 0
+volume_at (invocations.Mkfs place volume) = new_place_at place
 volume_at (invocations.Migrate old at new migration) = at
 volume_at (invocations.Identify images form) = 0
 volume_at (invocations.Diff volume other all) = volume.at
@@ -396,7 +408,7 @@ read_at (Err error) = 0
 abbrev pub Runs : Streams → HostFiles → ℕ → Invocation → Type 0
 Runs streams files status (invocations.Cat volume node) = RunsCat streams files volume.edition node status
 Runs streams files status (invocations.Get volume path) = RunsGetOne streams files volume.edition path.now status
-Runs streams files status (invocations.Mkfs place volume) = RunsMkfs streams files.taken volume status
+Runs streams files status (invocations.Mkfs place volume) = RunsMkfs streams (made_in files place volume.blocks) volume status
 Runs streams files status (invocations.Migrate old at new migration) = RunsMigrate streams files migration status
 Runs streams files status (invocations.Identify images form) = ⊥
 Runs streams files status (invocations.Diff volume other all) = ⊥

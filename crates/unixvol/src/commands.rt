@@ -5,7 +5,7 @@ ghost use Rattle.std.specs.Process.{exit_status};
 ghost use Rattle.command_faults.specs.Faults.{line_after};
 ghost use Rattle.command_faults.specs.Streams.{ErrorStream, Hears, still, streams};
 ghost use Rattle.unixvol.specs.Reports.{IsOneFile, may_report, may_report_read};
-ghost use Rattle.unixvol.specs.Runs.{IsPlainCommand, IsUnread, GaveAt, PrintsBody, RunsMigrate, RunsMkfs, RunsSalvage, Runs, RunsRead, SavesCopy, RunsToEnd, Ends, but_remarks, host_files, read_at, volume_at};
+ghost use Rattle.unixvol.specs.Runs.{IsPlainCommand, IsUnread, GaveAt, PrintsBody, RunsMigrate, RunsMkfs, RunsSalvage, Runs, RunsRead, SavesCopy, RunsToEnd, Ends, but_remarks, host_files, made_in, new_place_at, read_at, volume_at};
 ghost use Rattle.host_files.specs.Save.{IsTaken};
 
 use crate::explain::{explain_cat, explain_command_line, finish, tell_fault};
@@ -22,7 +22,7 @@ use command_changes::salvage::{ReportedVolume, salvage_with_report};
 use command_faults::answer::{conclude, unremarked};
 use command_faults::status::DONE;
 use command_faults::{Ending, Fault};
-use command_line::{Invocation, MadeFile, VolumeFile};
+use command_line::{Invocation, MadeFile, NewPlace, VolumeFile};
 use command_reads::NodeName;
 use command_reads::cat::print_file;
 use command_reads::print::print_with;
@@ -92,7 +92,7 @@ fn carry_out<R: ImageFiles + Clock + Eprint + AllocGlobal, O: Sink>(
             fault: None,
         },
         Invocation::Get { volume, path } => run_get(host, output, volume, path),
-        Invocation::Mkfs { image, volume } => run_mkfs(host, image, volume),
+        Invocation::Mkfs { place, volume } => run_mkfs(host, place, volume),
         Invocation::Migrate {
             old,
             at,
@@ -133,17 +133,17 @@ fn run_cat<R: ImageFiles + Eprint + AllocGlobal, O: Sink>(
     }
 }
 
-/// Makes a new volume, saves it in a file, and returns the result of the run.
+/// Makes a new volume, saves it in its place, and returns the result of the run.
 fn run_mkfs<R: ImageFiles + Clock + Eprint + AllocGlobal>(
     host: &Surroundings<'_, R>,
-    image: MadeFile<'_>,
+    place: NewPlace<'_>,
     volume: NewVolume,
 ) -> Ending
     ensures { (known : Option (List ℕ)) (failed : Bool) (errors : ErrorStream) → Hears errors result.fault
-        → RunsMkfs (still known failed errors) (IsTaken R.File.contents) volume result.status }
+        → RunsMkfs (still known failed errors) (made_in (host_files (new_place_at place.entry) R.File.remaining R.File.contents R.had R.stood) place.entry volume.blocks) volume result.status }
 {
     let made = make_volume(host.rt.alloc(), volume);
-    let status = save_made(host, image, &made);
+    let status = save_made(host, place, volume.blocks, &made);
     Ending {
         status,
         fault: made.fault,

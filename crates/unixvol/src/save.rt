@@ -1,21 +1,24 @@
 //! Saves the result of a command in its file, and returns the exit status.
 ghost use Rattle.std.specs.Prelude.{◌≡◌, ◌⊎◌, IfErr, OnOk};
-ghost use Rattle.unixvol.specs.Runs.{IsStatusOfFileOrMemory, IsStored, EndsPlayed, EndsSaved, MadeSaved};
+ghost use Rattle.unixvol.specs.Runs.{IsStatusOfFileOrMemory, IsMadeAt, IsStored, EndsPlayed, EndsSaved, MadeSaved, SavesMade, host_files, made_in, new_place_at};
 ghost use Rattle.host_files.specs.Save.{IsTaken, Saves};
 
 use crate::explain::{NamedFile, explain_no_memory, explain_unwritten};
 use crate::host::Surroundings;
+use crate::place::expect_room;
 use crate::replaced::{held_at, tell_replaced};
 use command_changes::MadeVolume;
 use command_faults::Answer;
 use command_faults::status::BAD_FILE;
-use command_line::{MadeFile, VolumeFile};
+use command_line::{MadeFile, NewPlace, VolumeFile};
 use host_files::{
     Content, FileKind, ImageFiles, Marks, OpenFault, Stamp, VolumePart, open_image, save_file,
     save_marked, save_volume,
 };
+use pack_files::Growth;
 use std::io;
 use std::rt::Clock;
+use vol_mkfs::BlankVolume;
 
 /// The message if the file to write holds the volume that was read.
 const OLD_VOLUME: &str = "it holds the volume that was read, which is kept";
@@ -72,18 +75,41 @@ pub fn save_played<R: ImageFiles + Eprint + AllocGlobal>(
 /// The message for a file that exists and must not be replaced.
 const THERE: &str = "it is there already, and --new replaces no file";
 
-/// Saves the result of `mkfs` in a file, if there is one, and returns the exit status. An existing regular file is locked meanwhile, if it can be
-/// opened.
+/// Saves the result of `mkfs`, a volume of `blocks` blocks, in its place, if there is one, and returns the exit status.
 pub fn save_made<R: ImageFiles + Clock + Eprint + AllocGlobal>(
     host: &Surroundings<'_, R>,
-    file: MadeFile<'_>,
+    place: NewPlace<'_>,
+    blocks: u32,
     made: &MadeVolume,
 ) -> u8
-    ensures { MadeSaved (IsTaken R.File.contents) made.now result }
+    ensures { MadeSaved (made_in (host_files (new_place_at place.entry) R.File.remaining R.File.contents R.had R.stood) place.entry blocks) made.now result }
 {
     let Some(volume) = &made.volume else {
         return made.status;
     };
+    match place {
+        NewPlace::File(file) => save_made_file(host, file, volume, made.status),
+        NewPlace::Part { image, at } => {
+            let growth = Growth {
+                at,
+                had: 0,
+                gets: blocks,
+            };
+            save_made_part(host, image, growth, volume, made.status)
+        }
+    }
+}
+
+/// Saves a new volume in a file to make, and returns the exit status: `status` if it is saved. An existing regular file is locked meanwhile, if it can
+/// be opened.
+fn save_made_file<R: ImageFiles + Clock + Eprint + AllocGlobal>(
+    host: &Surroundings<'_, R>,
+    file: MadeFile<'_>,
+    volume: &BlankVolume,
+    status: u8,
+) -> u8
+    ensures { SavesMade (IsTaken R.File.contents) volume.now status result }
+{
     if is_kept(host, file) {
         return explain_there(host, file.path);
     }
@@ -93,9 +119,57 @@ pub fn save_made<R: ImageFiles + Clock + Eprint + AllocGlobal>(
     };
     let held = held_at(host, file.path);
     let content = Content::Volume(volume);
-    let saved = save(host, file.path, content, made.status);
+    let saved = save(host, file.path, content, status);
     tell_replaced(host, file.path, saved, held);
     saved
+}
+
+/// Saves a new volume in its place in an existing file, and returns the exit status: `status` if it is saved. The file must be a regular one that has
+/// all its blocks, and none of them may be another volume's. It is locked meanwhile.
+///
+/// Takes memory for the volume.
+fn save_made_part<R: ImageFiles + Clock + Eprint + AllocGlobal>(
+    host: &Surroundings<'_, R>,
+    image: &str,
+    place: Growth,
+    volume: &BlankVolume,
+    status: u8,
+) -> u8
+    ensures { SavesMade (IsMadeAt place R.File.remaining R.File.contents R.had R.stood) volume.now status result }
+{
+    let (_locked, stamp) = match open_made(host, image) {
+        Ok(opened) => opened,
+        Err(status) => return status,
+    };
+    if let Err(status) = expect_room(host, image, stamp, place) {
+        return status;
+    }
+    let Ok(bytes) = volume.to_bytes(host.rt.alloc()) else {
+        return explain_no_memory(host);
+    };
+    let part = VolumePart {
+        at: place.at,
+        bytes: &bytes,
+    };
+    match save_volume(host.rt, image, stamp, part) {
+        Ok(()) => status,
+        Err(why) => explain_unsaved(host, image, why),
+    }
+}
+
+/// Opens and locks the file in which a volume is made. If it can't be opened, prints that it can't be written, and returns the status.
+fn open_made<R: ImageFiles + Clock + Eprint + AllocGlobal>(
+    host: &Surroundings<'_, R>,
+    image: &str,
+) -> Result<(R::File, Stamp), u8>
+    ensures { IfErr result IsStatusOfFileOrMemory }
+{
+    match open_image(host.rt, image, host.is_watched) {
+        Ok(opened) => Ok(opened),
+        Err(OpenFault::Unread(why) | OpenFault::Stream(why) | OpenFault::Locked(why)) => {
+            Err(explain_unwritten(host, NamedFile::File(image), why))
+        }
+    }
 }
 
 /// True if something exists at the path of a file that must be new.

@@ -1,7 +1,7 @@
 //! The subjects of commands.
 
 use command_changes::Change;
-use command_line::{Copying, Invocation, VolumeFile, Work};
+use command_line::{Copying, Invocation, NewPlace, VolumeFile, Work};
 use command_reads::{DumpTarget, Look, NodeName};
 use command_words::Verb;
 use vol_check::Checker;
@@ -58,14 +58,7 @@ impl<'a> Subject<'a> {
             Invocation::Salvage { volume, .. } => {
                 Some(Subject::new(*volume, Verb::Salvage, About::Image))
             }
-            Invocation::Mkfs { image, volume } => Some(Subject {
-                verb: Verb::Mkfs,
-                image: image.path,
-                at: 0,
-                edition: volume.edition,
-                about: About::Image,
-                packed: None,
-            }),
+            Invocation::Mkfs { place, volume } => Some(Subject::of_new(*place, volume.edition)),
             Invocation::Migrate { old, at, new, .. } => Some(Subject {
                 verb: Verb::Migrate,
                 image: old,
@@ -75,6 +68,22 @@ impl<'a> Subject<'a> {
                 packed: None,
             }),
             _ => None,
+        }
+    }
+
+    /// Returns the subject of `mkfs`.
+    fn of_new(place: NewPlace<'a>, edition: Edition) -> Subject<'a> {
+        let (image, at) = match place {
+            NewPlace::File(file) => (file.path, 0),
+            NewPlace::Part { image, at } => (image, at),
+        };
+        Subject {
+            verb: Verb::Mkfs,
+            image,
+            at,
+            edition,
+            about: About::Image,
+            packed: None,
         }
     }
 

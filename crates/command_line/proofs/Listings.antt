@@ -1,12 +1,12 @@
 -- The words of `ls`.
-use Rattle.std.proofs.Common.{◌≡◌, ◌↔◌, ◌==◌, ◌∙◌, ℕ, true≢false, true, false, List, ◌∷◌, [], drop, map, slice_index_or, Option, Some, None, refl, sym, ap, subst, codes}
+use Rattle.std.proofs.Common.{◌≡◌, ◌↔◌, ◌==◌, ◌∙◌, Bool, ℕ, true≢false, true, false, List, ◌∷◌, [], drop, map, slice_index_or, Option, Some, None, refl, sym, ap, subst, codes}
 use Rattle.std.specs.Borrow.{Bor}
 use Rattle.std.specs.Str.{bytes_eq}
 use Rattle.std.proofs.lemmas.Bool.{ne_eqb}
 use Rattle.std.proofs.lemmas.Slice.Eq.{bytes_eq-Decides}
 use Rattle.clap.proofs.OnLiterals.{clap_on_literals}
 use Rattle.clap.specs.Words.{Row}
-use Rattle.command_words.specs.Invocations.{AreLinesGiven, IsDepthGiven, IsEditionNamed, IsGiven, IsNumberOr, Words, first_word, is_set, the_word, verb_of}
+use Rattle.command_words.specs.Invocations.{AreLinesGiven, IsDepthGiven, IsEditionGiven, IsEditionNamed, IsGiven, IsNumberOr, Words, first_word, is_set, the_word, verb_of}
 use Rattle.command_words.specs.Verbs.{verb_name}
 use Rattle.command_words.specs.declared.invocation.Invocation.{Invocation}
 use Rattle.command_words.specs.declared.invocation.Invocation.TheVariants as invocations
@@ -31,23 +31,29 @@ word_of V6 = codes "6"
 word_of V7 = codes "7"
 
 -- a reference to the names of the editions, made of these references
-abbrev names_at : ℕ × ℕ → ℕ × ℕ → ℕ × ℕ → Bor (List (Bor (List ℕ)))
-names_at p q r = record { ref_ptr = p; now = record { ref_ptr = q; now = codes "6" } ∷ record { ref_ptr = r; now = codes "7" } ∷ [] }
+abbrev names_at : ℕ × ℕ → ℕ × ℕ → ℕ × ℕ → ℕ × ℕ → Bor (List (Bor (List ℕ)))
+names_at p q r s = record {
+  ref_ptr = p;
+  now = record { ref_ptr = q; now = codes "6" } ∷ record { ref_ptr = r; now = codes "7" } ∷ record { ref_ptr = s; now = codes "any" } ∷ [];
+}
 
 -- a property of each of these references is a property of every reference to the names of the editions
-at_names : (P : Bor (List (Bor (List ℕ))) → Type 0) → ((p q r : ℕ × ℕ) → P (names_at p q r)) → (editions : Bor (List (Bor (List ℕ)))) → AreEditions editions → P editions
+at_names : (P : Bor (List (Bor (List ℕ))) → Type 0) → ((p q r s : ℕ × ℕ) → P (names_at p q r s)) → (editions : Bor (List (Bor (List ℕ)))) → AreEditions editions → P editions
 at_names P holds editions are = go editions.ref_ptr editions.now are
   where
-    go : (p : ℕ × ℕ) (names : List (Bor (List ℕ))) → map (λ name. name.now) names ≡ codes "6" ∷ codes "7" ∷ [] → P (record { ref_ptr = p; now = names })
+    go : (p : ℕ × ℕ) (names : List (Bor (List ℕ))) → map (λ name. name.now) names ≡ codes "6" ∷ codes "7" ∷ codes "any" ∷ [] → P (record { ref_ptr = p; now = names })
     go p [] is = absurd (cc)
     go p (a ∷ []) is = absurd (cc)
-    go p (a ∷ b ∷ []) is =
+    go p (a ∷ b ∷ []) is = absurd (cc)
+    go p (a ∷ b ∷ c ∷ []) is =
         let six : a.now ≡ codes "6" = cc in
         let seven : b.now ≡ codes "7" = cc in
-        subst (λ (t : List ℕ). P (record { ref_ptr = p; now = record { ref_ptr = a.ref_ptr; now = t } ∷ b ∷ [] })) (sym six)
-        (subst (λ (t : List ℕ). P (record { ref_ptr = p; now = record { ref_ptr = a.ref_ptr; now = codes "6" } ∷ record { ref_ptr = b.ref_ptr; now = t } ∷ [] })) (sym seven)
-        (holds p a.ref_ptr b.ref_ptr))
-    go p (a ∷ b ∷ c ∷ rest) is = absurd (cc)
+        let any : c.now ≡ codes "any" = cc in
+        subst (λ (t : List ℕ). P (record { ref_ptr = p; now = record { ref_ptr = a.ref_ptr; now = t } ∷ b ∷ c ∷ [] })) (sym six)
+        (subst (λ (t : List ℕ). P (record { ref_ptr = p; now = record { ref_ptr = a.ref_ptr; now = codes "6" } ∷ record { ref_ptr = b.ref_ptr; now = t } ∷ c ∷ [] })) (sym seven)
+        (subst (λ (t : List ℕ). P (record { ref_ptr = p; now = record { ref_ptr = a.ref_ptr; now = codes "6" } ∷ record { ref_ptr = b.ref_ptr; now = codes "7" } ∷ record { ref_ptr = c.ref_ptr; now = t } ∷ [] })) (sym any)
+        (holds p a.ref_ptr b.ref_ptr c.ref_ptr)))
+    go p (a ∷ b ∷ c ∷ d ∷ rest) is = absurd (cc)
 
 -- the name of the command that clap found, and the words for the arguments of `ls`
 abbrev seen : Option (List ℕ × List Row) → List (List ℕ)
@@ -71,27 +77,27 @@ IsTaken editions edition program image path =
     × (seen (command_in (unixvol_app editions) (program ∷ codes "ls" ∷ word_of edition ∷ image ∷ path ∷ [])) ≡ words_of edition image path)
 
 -- the command line accepts the words of `ls` if the file and the path don't begin with a hyphen
-taken : (p q r : ℕ × ℕ) (edition : Edition) (name image path : List ℕ) → IsPlainWord image → IsPlainWord path → IsTaken (names_at p q r) edition name image path
+taken : (p q r s : ℕ × ℕ) (edition : Edition) (name image path : List ℕ) → IsPlainWord image → IsPlainWord path → IsTaken (names_at p q r s) edition name image path
 unfolding clap_on_literals faults_of command_in unixvol_app program bare_program explain_rule with_command verb_shape with_argument named_shape argument_rule need_rule
-taken p q r V6 name [] [] image path = (refl {a = []}, refl {a = words_of V6 [] []})
-taken p q r V6 name (x ∷ xs) [] image path =
+taken p q r s V6 name [] [] image path = (refl {a = []}, refl {a = words_of V6 [] []})
+taken p q r s V6 name (x ∷ xs) [] image path =
     let e : (x == 45) ≡ false = ne_eqb _ _ image in
     (rw (e, e) (refl {a = []}), rw (e, e) (refl {a = words_of V6 (x ∷ xs) []}))
-taken p q r V6 name [] (y ∷ ys) image path =
+taken p q r s V6 name [] (y ∷ ys) image path =
     let f : (y == 45) ≡ false = ne_eqb _ _ path in
     (rw (f, f) (refl {a = []}), rw (f, f) (refl {a = words_of V6 [] (y ∷ ys)}))
-taken p q r V6 name (x ∷ xs) (y ∷ ys) image path =
+taken p q r s V6 name (x ∷ xs) (y ∷ ys) image path =
     let e : (x == 45) ≡ false = ne_eqb _ _ image in
     let f : (y == 45) ≡ false = ne_eqb _ _ path in
     (rw (e, e, f, f) (refl {a = []}), rw (e, e, f, f) (refl {a = words_of V6 (x ∷ xs) (y ∷ ys)}))
-taken p q r V7 name [] [] image path = (refl {a = []}, refl {a = words_of V7 [] []})
-taken p q r V7 name (x ∷ xs) [] image path =
+taken p q r s V7 name [] [] image path = (refl {a = []}, refl {a = words_of V7 [] []})
+taken p q r s V7 name (x ∷ xs) [] image path =
     let e : (x == 45) ≡ false = ne_eqb _ _ image in
     (rw (e, e) (refl {a = []}), rw (e, e) (refl {a = words_of V7 (x ∷ xs) []}))
-taken p q r V7 name [] (y ∷ ys) image path =
+taken p q r s V7 name [] (y ∷ ys) image path =
     let f : (y == 45) ≡ false = ne_eqb _ _ path in
     (rw (f, f) (refl {a = []}), rw (f, f) (refl {a = words_of V7 [] (y ∷ ys)}))
-taken p q r V7 name (x ∷ xs) (y ∷ ys) image path =
+taken p q r s V7 name (x ∷ xs) (y ∷ ys) image path =
     let e : (x == 45) ≡ false = ne_eqb _ _ image in
     let f : (y == 45) ≡ false = ne_eqb _ _ path in
     (rw (e, e, f, f) (refl {a = []}), rw (e, e, f, f) (refl {a = words_of V7 (x ∷ xs) (y ∷ ys)}))
@@ -106,6 +112,12 @@ edition_is V6 V6 named = refl
 edition_is V6 V7 named = absurd (true≢false (sym (same _ _ named)))
 edition_is V7 V6 named = absurd (true≢false (sym (same _ _ named)))
 edition_is V7 V7 named = refl
+
+-- if an edition is given by the word of another, both are the same, and the word isn't `any`
+given_is : (one : Edition) (is_any : Bool) (other : Edition) → IsEditionGiven one is_any (word_of other) → (one ≡ other) × (is_any ≡ false)
+given_is one false other is = (edition_is one other is, refl)
+given_is one true V6 is = absurd (true≢false (sym (same _ _ is.0)))
+given_is one true V7 is = absurd (true≢false (sym (same _ _ is.0)))
 
 -- if a word names an edition, it is the edition's word
 word_is : (edition : Edition) (word : List ℕ) → IsEditionNamed edition word → word ≡ word_of edition
@@ -154,6 +166,7 @@ asks_listing clock given edition image path (invocations.Mkfs place volume) test
 asks_listing clock given edition image path (invocations.Migrate old at new migration) test e_is i_is p_is none is = absurd (true≢false (sym test))
 asks_listing clock given edition image path (invocations.Salvage volume copy) test e_is i_is p_is none is = absurd (true≢false (sym test))
 asks_listing clock given edition image path (invocations.Get volume p) test e_is i_is p_is none is = absurd (true≢false (sym test))
+asks_listing clock given edition image path (invocations.Resize volume blocks is_trial) test e_is i_is p_is none is = absurd (true≢false (sym test))
 asks_listing clock given edition image path (invocations.Serve volume serving) test e_is i_is p_is none is = absurd (true≢false (sym test))
 asks_listing clock given edition image path (invocations.Diff volume other all) test e_is i_is p_is none is = absurd (true≢false (sym test))
 asks_listing clock given edition image path (invocations.Identify images form) test e_is i_is p_is none is = absurd (true≢false (sym test))
@@ -184,12 +197,13 @@ asks_listing clock given edition image path (invocations.Look volume (looks.Chec
 asks_listing clock given edition image path (invocations.Look volume (looks.Slots p)) test e_is i_is p_is none is =
     absurd (true≢false (sym is.1.1 ∙ unset (given (codes "slots")) none.slots))
 asks_listing clock given edition image path (invocations.Look volume (looks.List directory listing)) test e_is i_is p_is none is = (
-  edition_is volume.edition edition (subst (IsEditionNamed volume.edition) e_is is.0.0),
+  (given_is volume.edition volume.is_any edition (subst (IsEditionGiven volume.edition volume.is_any) e_is is.0.0)).0,
   is.0.1 ∙ i_is,
   is.1.0 ∙ p_is,
   plain given listing.lines none is.1.1,
   to_names given listing.depth none is.1.2,
   subst (λ (words : List (List ℕ)). IsNumberOr 4294967295 0 words volume.at) none.at is.0.2,
+  (given_is volume.edition volume.is_any edition (subst (IsEditionGiven volume.edition volume.is_any) e_is is.0.0)).1,
 )
 asks_listing clock given edition image path (invocations.Copy volume (copies.Put directory files keep now)) test e_is i_is p_is none is = absurd (true≢false (sym test))
 asks_listing clock given edition image path (invocations.Copy volume (copies.Get folder paths keeps)) test e_is i_is p_is none is = absurd (true≢false (sym test))
@@ -225,6 +239,13 @@ word_names : (edition : Edition) → IsEditionNamed edition (word_of edition)
 word_names V6 = refl
 word_names V7 = refl
 
+-- an edition is given by its word
+given_by : (one : Edition) (is_any : Bool) (edition : Edition) (text : List ℕ) → one ≡ edition → is_any ≡ false → text ≡ word_of edition
+    → IsEditionGiven one is_any text
+given_by one true edition text is none word = absurd (true≢false none)
+given_by one false edition text is none word =
+    subst (λ (e : Edition). IsEditionNamed e text) (sym is) (subst (IsEditionNamed edition) (sym word) (word_names edition))
+
 -- if clap found the command `ls` with its words and no options, they are read as that listing
 listing_asks : (clock : Option ℕ) (met : Option (List ℕ × List Row)) (edition : Edition) (image path : List ℕ) (invocation : Invocation)
     → seen met ≡ words_of edition image path → IsListing edition image path invocation → MetAsks clock met invocation
@@ -234,6 +255,7 @@ listing_asks clock (Some met) edition image path (invocations.Mkfs place volume)
 listing_asks clock (Some met) edition image path (invocations.Migrate old at new migration) is listed = absurd listed
 listing_asks clock (Some met) edition image path (invocations.Salvage volume copy) is listed = absurd listed
 listing_asks clock (Some met) edition image path (invocations.Get volume p) is listed = absurd listed
+listing_asks clock (Some met) edition image path (invocations.Resize volume blocks is_trial) is listed = absurd listed
 listing_asks clock (Some met) edition image path (invocations.Serve volume serving) is listed = absurd listed
 listing_asks clock (Some met) edition image path (invocations.Diff volume other all) is listed = absurd listed
 listing_asks clock (Some met) edition image path (invocations.Identify images form) is listed = absurd listed
@@ -258,7 +280,7 @@ listing_asks clock (Some met) edition image path (invocations.Look volume (looks
       name,
       (
         (
-          subst (λ (e : Edition). IsEditionNamed e (the_word (words_by met.1) (codes "EDITION"))) (sym listed.0) (subst (IsEditionNamed edition) (sym word) (word_names edition)),
+          given_by volume.edition volume.is_any edition _ listed.0 listed.6 word,
           listed.1 ∙ sym file,
           subst (λ (words : List (List ℕ)). IsNumberOr 4294967295 0 words volume.at) (sym none.at) listed.5,
         ),
@@ -291,4 +313,4 @@ pub reads_listing : ReadsListing
 reads_listing clock editions are edition program word image path named plain_image plain_path =
     subst (AsksListing clock editions edition program image path) (sym (word_is edition word named))
     (asks clock editions edition program image path
-    (at_names (λ e. IsTaken e edition program image path) (λ p q r. taken p q r edition program image path plain_image plain_path) editions are))
+    (at_names (λ e. IsTaken e edition program image path) (λ p q r s. taken p q r s edition program image path plain_image plain_path) editions are))

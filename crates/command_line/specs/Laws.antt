@@ -1,5 +1,5 @@
 -- The words of `ls`.
-use Rattle.std.specs.Prelude.{◌≡◌, ◌≢◌, ◌↔◌, ◌∷◌, ℕ, List, [], Option, slice_index, codes}
+use Rattle.std.specs.Prelude.{◌≡◌, ◌≢◌, ◌↔◌, ◌∷◌, ℕ, false, List, [], Option, slice_index, codes}
 use Rattle.std.specs.Borrow.{Bor}
 use Rattle.command_words.specs.Invocations.{IsEditionNamed}
 use Rattle.command_words.specs.declared.invocation.Invocation.{Invocation}
@@ -20,7 +20,7 @@ IsPlainWord word = slice_index word 0 ≢ 45
 abbrev pub IsListing : Edition → List ℕ → List ℕ → Invocation → Type 0
 IsListing edition image path (invocations.Look volume (looks.List directory listing)) =
     (volume.edition ≡ edition) × (volume.image.now ≡ image) × (directory.now ≡ path) × (listing.lines ≡ lines.Plain) × (listing.depth ≡ depths.Names)
-    × (volume.at ≡ 0)
+    × (volume.at ≡ 0) × (volume.is_any ≡ false)
 IsListing edition image path _ = ⊥
 
 -- whatever the clock's time, clap accepts `ls`, an edition and two words that don't begin with a hyphen; they are read as that listing and as no

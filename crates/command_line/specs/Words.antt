@@ -27,9 +27,9 @@ shape command = shape_of command
 unfoldable pub app : Command → App
 app command = app_of command
 
--- the referenced texts are the names of the editions (this project)
+-- the referenced texts are the words for the edition of a volume (this project)
 abbrev pub AreEditions : Bor (List (Bor (List ℕ))) → Type 0
-AreEditions editions = map (λ name. name.now) editions.now ≡ codes "6" ∷ codes "7" ∷ []
+AreEditions editions = map (λ name. name.now) editions.now ≡ codes "6" ∷ codes "7" ∷ codes "any" ∷ []
 
 -- an argument with this name and number of words (this project)
 unfoldable pub need_rule : List ℕ → Need → Rule

@@ -14,12 +14,12 @@ use std::alloc::{AllocError, Global};
 pub(crate) struct Builder<'a> {
     /// The allocator.
     pub alloc: Global,
-    /// The editions' names on the command line.
+    /// The words for the edition of a volume on the command line.
     pub editions: &'a [&'a str],
 }
 
 impl<'a> Builder<'a> {
-    /// Returns a builder with the editions' names.
+    /// Returns a builder with the words for an edition.
     pub(crate) fn new(alloc: Global) -> Builder<'a>
         ensures { AreEditions result.editions }
     {

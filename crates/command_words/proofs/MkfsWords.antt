@@ -63,6 +63,7 @@ makes clock given (invocations.Mkfs (places.File file) volume) mkfs is new = is.
 makes clock given (invocations.Mkfs (places.Part image at) volume) mkfs is new = absurd (true≢false (sym new ∙ is.0.2))
 makes clock given (invocations.Migrate old at new migration) mkfs is new = absurd (true≢false (sym mkfs))
 makes clock given (invocations.Salvage volume copy) mkfs is new = absurd (true≢false (sym mkfs))
+makes clock given (invocations.Resize volume blocks is_trial) mkfs is new = absurd (true≢false (sym mkfs))
 makes clock given (invocations.Serve volume serving) mkfs is new = absurd (true≢false (sym mkfs))
 makes clock given (invocations.Diff volume other all) mkfs is new = absurd (true≢false (sym mkfs))
 makes clock given (invocations.Identify images form) mkfs is new = absurd (true≢false (sym mkfs))

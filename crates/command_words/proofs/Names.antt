@@ -38,9 +38,10 @@ named text =
     (cond (bytes_eq text (codes "chown")) verbs.Chown
     (cond (bytes_eq text (codes "touch")) verbs.Touch
     (cond (bytes_eq text (codes "salvage")) verbs.Salvage
+    (cond (bytes_eq text (codes "resize")) verbs.Resize
     (cond (bytes_eq text (codes "play")) verbs.Play
     (cond (bytes_eq text (codes "migrate")) verbs.Migrate
-    (cond (bytes_eq text (codes "serve")) verbs.Serve verbs.Identify))))))))))))))))))))))))))))))))
+    (cond (bytes_eq text (codes "serve")) verbs.Serve verbs.Identify)))))))))))))))))))))))))))))))))
 
 -- the command with a command's name is this command
 named_by_its_name : (verb : Verb) → named (verb_name verb) ≡ verb
@@ -74,6 +75,7 @@ named_by_its_name verbs.Chmod = refl
 named_by_its_name verbs.Chown = refl
 named_by_its_name verbs.Touch = refl
 named_by_its_name verbs.Salvage = refl
+named_by_its_name verbs.Resize = refl
 named_by_its_name verbs.Play = refl
 named_by_its_name verbs.Migrate = refl
 named_by_its_name verbs.Serve = refl

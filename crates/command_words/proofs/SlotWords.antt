@@ -58,6 +58,7 @@ lists clock given (invocations.Cat volume node) ls is slots json = absurd (true�
 lists clock given (invocations.Mkfs place volume) ls is slots json = absurd (true≢false (sym ls))
 lists clock given (invocations.Migrate old at new migration) ls is slots json = absurd (true≢false (sym ls))
 lists clock given (invocations.Salvage volume copy) ls is slots json = absurd (true≢false (sym ls))
+lists clock given (invocations.Resize volume blocks is_trial) ls is slots json = absurd (true≢false (sym ls))
 lists clock given (invocations.Serve volume serving) ls is slots json = absurd (true≢false (sym ls))
 lists clock given (invocations.Diff volume other all) ls is slots json = absurd (true≢false (sym ls))
 lists clock given (invocations.Identify images form) ls is slots json = absurd (true≢false (sym ls))

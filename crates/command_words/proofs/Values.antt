@@ -1,5 +1,5 @@
 -- An invocation can only be read from valid words; if a word isn't valid, there is no invocation.
-use Rattle.std.proofs.Common.{◌≡◌, ◌⊎◌, ◌∙◌, ◌≤◌, ◌∷◌, ℕ, Bool, List, [], Option, None, Some, codes, length, map, sym, ap, subst, inl, inr, Result, Ok, Err, IfErr}
+use Rattle.std.proofs.Common.{◌≡◌, ◌⊎◌, ◌∙◌, ◌≤◌, ◌∷◌, ℕ, Bool, true, false, List, [], Option, None, Some, codes, length, map, sym, ap, subst, inl, inr, Result, Ok, Err, IfErr}
 use Rattle.std.specs.Borrow.{Bor}
 use Rattle.std.proofs.lemmas.List.{length-map}
 use Rattle.vol_dir.specs.declared.cred.Cred.{Cred}
@@ -12,7 +12,7 @@ use Rattle.command_reads.specs.declared.looks.NodeName.{NodeName}
 use Rattle.command_reads.specs.declared.looks.NodeName.TheVariants as nodes
 use Rattle.vol_check.specs.declared.checker.Checker.TheVariants as checkers
 use Rattle.command_changes.specs.declared.changes.Change.TheVariants as changes
-use Rattle.command_words.specs.Invocations.{AreValues, AsksForNothing, IsEditionNamed, IsGiven, IsNodeGiven, IsNewPlaceGiven, IsNodeWord, IsNumberIfAny, IsNumberOr, IsOneWrong, IsPlaceWord, IsTargetGiven, IsVolumeWrong, NameAsksFor, TellsOf, Words, verb_of}
+use Rattle.command_words.specs.Invocations.{AreValues, AsksForNothing, IsEditionGiven, IsEditionNamed, IsGiven, IsNodeGiven, IsNewPlaceGiven, IsNodeWord, IsNumberIfAny, IsNumberOr, IsOneWrong, IsPlaceWord, IsTargetGiven, IsVolumeWrong, NameAsksFor, TellsOf, Words, verb_of}
 use Rattle.command_words.specs.Decimal.{IsNumberGiven, IsNumberUpTo}
 use Rattle.command_words.specs.Owners.{IsOwnerGiven, IsOwnerIfAny}
 use Rattle.command_words.specs.Verbs.{Argument, IsNoCommand, arguments_of, on_volume, verb_name}
@@ -29,9 +29,16 @@ use Rattle.command_words.specs.declared.verbs.Verb.{Verb}
 use Rattle.command_words.proofs.Names.{verb_name-injective}
 
 -- a word that names an edition is `6` or `7`
-edition_value : (edition : Edition) (text : List ℕ) → IsEditionNamed edition text → (text ≡ codes "6") ⊎ (text ≡ codes "7")
-edition_value V6 text is = inl is
-edition_value V7 text is = inr is
+new_edition_value : (edition : Edition) (text : List ℕ) → IsEditionNamed edition text → (text ≡ codes "6") ⊎ (text ≡ codes "7")
+new_edition_value V6 text is = inl is
+new_edition_value V7 text is = inr is
+
+-- a word for the edition of a volume is `6`, `7` or `any`
+edition_value : (edition : Edition) (is_any : Bool) (text : List ℕ) → IsEditionGiven edition is_any text
+    → (text ≡ codes "6") ⊎ (text ≡ codes "7") ⊎ (text ≡ codes "any")
+edition_value V6 false text is = inl is
+edition_value V7 false text is = inr (inl is)
+edition_value edition true text is = inr (inr is.0)
 
 -- the number of words given for the scripts is the number of scripts, 1 to 64
 scripts_value : (items : List (Bor (List ℕ))) (words : List (List ℕ)) → map (λ script. script.now) items ≡ words → 1 ≤ length items → length items ≤ 64
@@ -86,9 +93,9 @@ place_value (targets.Path path) word inode is = inl is.1
 -- the words of an invocation are valid for its command's arguments
 pub values_given : (clock : Option ℕ) (given : Words) (invocation : Invocation) → IsGiven clock given invocation
     → AreValues clock given (arguments_of (verb_of invocation))
-values_given clock given (invocations.Cat volume node) is = (edition_value volume.edition _ is.0.0, (tt, (at_value volume.at _ is.0.2, (node_value node _ is.1, tt))))
+values_given clock given (invocations.Cat volume node) is = (edition_value volume.edition volume.is_any _ is.0.0, (tt, (at_value volume.at _ is.0.2, (node_value node _ is.1, tt))))
 values_given clock given (invocations.Mkfs place volume) is = (
-  edition_value volume.edition _ is.1.0,
+  new_edition_value volume.edition _ is.1.0,
   (
     tt,
     (
@@ -104,53 +111,54 @@ values_given clock given (invocations.Mkfs place volume) is = (
   ),
 )
 values_given clock given (invocations.Migrate old at new migration) is = (tt, (tt, (is.2.0.0, (is.2.1.0, ((migration.now, is.2.2), (tt, (at_value at _ is.3, tt)))))))
-values_given clock given (invocations.Get volume path) is = (edition_value volume.edition _ is.0.0, (tt, (at_value volume.at _ is.0.2, (tt, (tt, (tt, (tt, tt)))))))
-values_given clock given (invocations.Change volume (changes.Put path file keep now)) is = (edition_value volume.edition _ is.0.0, (tt, (at_value volume.at _ is.0.2, (tt, (tt, (tt, (tt, (tt, (tt, (tt, tt))))))))))
-values_given clock given (invocations.Change volume (changes.Rm path now)) is = (edition_value volume.edition _ is.0.0, (tt, (at_value volume.at _ is.0.2, (tt, ((now, is.1.1), (tt, tt))))))
-values_given clock given (invocations.Change volume (changes.Rmdir path now)) is = (edition_value volume.edition _ is.0.0, (tt, (at_value volume.at _ is.0.2, (tt, ((now, is.1.1), tt)))))
-values_given clock given (invocations.Change volume (changes.Mkdir path now)) is = (edition_value volume.edition _ is.0.0, (tt, (at_value volume.at _ is.0.2, (tt, ((now, is.1.1), (tt, tt))))))
+values_given clock given (invocations.Get volume path) is = (edition_value volume.edition volume.is_any _ is.0.0, (tt, (at_value volume.at _ is.0.2, (tt, (tt, (tt, (tt, tt)))))))
+values_given clock given (invocations.Change volume (changes.Put path file keep now)) is = (edition_value volume.edition volume.is_any _ is.0.0, (tt, (at_value volume.at _ is.0.2, (tt, (tt, (tt, (tt, (tt, (tt, (tt, tt))))))))))
+values_given clock given (invocations.Change volume (changes.Rm path now)) is = (edition_value volume.edition volume.is_any _ is.0.0, (tt, (at_value volume.at _ is.0.2, (tt, ((now, is.1.1), (tt, tt))))))
+values_given clock given (invocations.Change volume (changes.Rmdir path now)) is = (edition_value volume.edition volume.is_any _ is.0.0, (tt, (at_value volume.at _ is.0.2, (tt, ((now, is.1.1), tt)))))
+values_given clock given (invocations.Change volume (changes.Mkdir path now)) is = (edition_value volume.edition volume.is_any _ is.0.0, (tt, (at_value volume.at _ is.0.2, (tt, ((now, is.1.1), (tt, tt))))))
 values_given clock given (invocations.Change volume (changes.Ln from to now)) is =
-    (edition_value volume.edition _ is.0.0, (tt, (at_value volume.at _ is.0.2, (tt, (tt, ((now, is.1.2), tt))))))
+    (edition_value volume.edition volume.is_any _ is.0.0, (tt, (at_value volume.at _ is.0.2, (tt, (tt, ((now, is.1.2), tt))))))
 values_given clock given (invocations.Change volume (changes.Chmod path perm now)) is =
-    (edition_value volume.edition _ is.0.0, (tt, (at_value volume.at _ is.0.2, (is.1.0.1, (is.1.1.0, ((now, is.1.2), tt))))))
+    (edition_value volume.edition volume.is_any _ is.0.0, (tt, (at_value volume.at _ is.0.2, (is.1.0.1, (is.1.1.0, ((now, is.1.2), tt))))))
 values_given clock given (invocations.Change volume (changes.Chown path uid gid now)) is =
-    (edition_value volume.edition _ is.0.0, (tt, (at_value volume.at _ is.0.2, (is.1.0.1, (is.1.1.0, (is.1.2.0, ((now, is.1.3), tt)))))))
-values_given clock given (invocations.Change volume (changes.Touch path now)) is = (edition_value volume.edition _ is.0.0, (tt, (at_value volume.at _ is.0.2, (is.1.0.1, ((now, is.1.1), tt)))))
-values_given clock given (invocations.Salvage volume None) is = (edition_value volume.edition _ is.0.0, (tt, (at_value volume.at _ is.0.2, (tt, (tt, tt)))))
-values_given clock given (invocations.Salvage volume (Some copy)) is = (edition_value volume.edition _ is.0.0, (tt, (at_value volume.at _ is.0.2, (tt, (tt, tt)))))
-values_given clock given (invocations.Change volume changes.Salvage) is = (edition_value volume.edition _ is.0.0, (tt, (at_value volume.at _ is.0.2, (tt, (tt, tt)))))
-values_given clock given (invocations.Look volume (looks.Export path options)) is = (edition_value volume.edition _ is.0.0, (tt, (at_value volume.at _ is.0.2, (tt, (tt, (tt, (tt, (tt, tt))))))))
-values_given clock given (invocations.Look volume (looks.Sums path form lost)) is = (edition_value volume.edition _ is.0.0, (tt, (at_value volume.at _ is.0.2, (tt, (tt, (tt, tt))))))
-values_given clock given (invocations.Look volume (looks.Inode node form)) is = (edition_value volume.edition _ is.0.0, (tt, (at_value volume.at _ is.0.2, (node_value node _ is.1.0, (tt, tt)))))
-values_given clock given (invocations.Look volume (looks.Super form)) is = (edition_value volume.edition _ is.0.0, (tt, (at_value volume.at _ is.0.2, (tt, tt))))
-values_given clock given (invocations.Look volume (looks.Free form)) is = (edition_value volume.edition _ is.0.0, (tt, (at_value volume.at _ is.0.2, (tt, tt))))
-values_given clock given (invocations.Look volume (looks.Block block)) is = (edition_value volume.edition _ is.0.0, (tt, (at_value volume.at _ is.0.2, (is.1.0, tt))))
+    (edition_value volume.edition volume.is_any _ is.0.0, (tt, (at_value volume.at _ is.0.2, (is.1.0.1, (is.1.1.0, (is.1.2.0, ((now, is.1.3), tt)))))))
+values_given clock given (invocations.Change volume (changes.Touch path now)) is = (edition_value volume.edition volume.is_any _ is.0.0, (tt, (at_value volume.at _ is.0.2, (is.1.0.1, ((now, is.1.1), tt)))))
+values_given clock given (invocations.Salvage volume None) is = (edition_value volume.edition volume.is_any _ is.0.0, (tt, (at_value volume.at _ is.0.2, (tt, (tt, tt)))))
+values_given clock given (invocations.Salvage volume (Some copy)) is = (edition_value volume.edition volume.is_any _ is.0.0, (tt, (at_value volume.at _ is.0.2, (tt, (tt, tt)))))
+values_given clock given (invocations.Resize volume blocks is_trial) is = (edition_value volume.edition volume.is_any _ is.0.0, (tt, (at_value volume.at _ is.0.2, (is.1.0, (tt, tt)))))
+values_given clock given (invocations.Change volume changes.Salvage) is = (edition_value volume.edition volume.is_any _ is.0.0, (tt, (at_value volume.at _ is.0.2, (tt, (tt, tt)))))
+values_given clock given (invocations.Look volume (looks.Export path options)) is = (edition_value volume.edition volume.is_any _ is.0.0, (tt, (at_value volume.at _ is.0.2, (tt, (tt, (tt, (tt, (tt, tt))))))))
+values_given clock given (invocations.Look volume (looks.Sums path form lost)) is = (edition_value volume.edition volume.is_any _ is.0.0, (tt, (at_value volume.at _ is.0.2, (tt, (tt, (tt, tt))))))
+values_given clock given (invocations.Look volume (looks.Inode node form)) is = (edition_value volume.edition volume.is_any _ is.0.0, (tt, (at_value volume.at _ is.0.2, (node_value node _ is.1.0, (tt, tt)))))
+values_given clock given (invocations.Look volume (looks.Super form)) is = (edition_value volume.edition volume.is_any _ is.0.0, (tt, (at_value volume.at _ is.0.2, (tt, tt))))
+values_given clock given (invocations.Look volume (looks.Free form)) is = (edition_value volume.edition volume.is_any _ is.0.0, (tt, (at_value volume.at _ is.0.2, (tt, tt))))
+values_given clock given (invocations.Look volume (looks.Block block)) is = (edition_value volume.edition volume.is_any _ is.0.0, (tt, (at_value volume.at _ is.0.2, (is.1.0, tt))))
 values_given clock given (invocations.Look volume (looks.Dump target radix)) is =
-    (edition_value volume.edition _ is.0.0, (tt, (at_value volume.at _ is.0.2, (place_value target _ _ is.1.0, (tt, (tt, tt))))))
-values_given clock given (invocations.Look volume (looks.Df form)) is = (edition_value volume.edition _ is.0.0, (tt, (at_value volume.at _ is.0.2, (tt, tt))))
-values_given clock given (invocations.Look volume (looks.Find path name lost)) is = (edition_value volume.edition _ is.0.0, (tt, (at_value volume.at _ is.0.2, (tt, (tt, (tt, tt))))))
-values_given clock given (invocations.Look volume (looks.Map picture)) is = (edition_value volume.edition _ is.0.0, (tt, (at_value volume.at _ is.0.2, (tt, tt))))
-values_given clock given (invocations.Look volume (looks.Check graded form)) is = (edition_value volume.edition _ is.0.0, (tt, (at_value volume.at _ is.0.2, (tt, (tt, tt)))))
-values_given clock given (invocations.Look volume (looks.List path listing)) is = (edition_value volume.edition _ is.0.0, (tt, (at_value volume.at _ is.0.2, (tt, (tt, (tt, (tt, (tt, (tt, tt)))))))))
-values_given clock given (invocations.Look volume (looks.Slots path)) is = (edition_value volume.edition _ is.0.0, (tt, (at_value volume.at _ is.0.2, (tt, (tt, (tt, (tt, (tt, (tt, tt)))))))))
+    (edition_value volume.edition volume.is_any _ is.0.0, (tt, (at_value volume.at _ is.0.2, (place_value target _ _ is.1.0, (tt, (tt, tt))))))
+values_given clock given (invocations.Look volume (looks.Df form)) is = (edition_value volume.edition volume.is_any _ is.0.0, (tt, (at_value volume.at _ is.0.2, (tt, tt))))
+values_given clock given (invocations.Look volume (looks.Find path name lost)) is = (edition_value volume.edition volume.is_any _ is.0.0, (tt, (at_value volume.at _ is.0.2, (tt, (tt, (tt, tt))))))
+values_given clock given (invocations.Look volume (looks.Map picture)) is = (edition_value volume.edition volume.is_any _ is.0.0, (tt, (at_value volume.at _ is.0.2, (tt, tt))))
+values_given clock given (invocations.Look volume (looks.Check graded form)) is = (edition_value volume.edition volume.is_any _ is.0.0, (tt, (at_value volume.at _ is.0.2, (tt, (tt, tt)))))
+values_given clock given (invocations.Look volume (looks.List path listing)) is = (edition_value volume.edition volume.is_any _ is.0.0, (tt, (at_value volume.at _ is.0.2, (tt, (tt, (tt, (tt, (tt, (tt, tt)))))))))
+values_given clock given (invocations.Look volume (looks.Slots path)) is = (edition_value volume.edition volume.is_any _ is.0.0, (tt, (at_value volume.at _ is.0.2, (tt, (tt, (tt, (tt, (tt, (tt, tt)))))))))
 values_given clock given (invocations.Change volume (changes.Import path options now)) is =
-    (edition_value volume.edition _ is.0.0, (tt, (at_value volume.at _ is.0.2, (is.1.0.1, ((now, is.1.1), (tt, (owner_value _ options.owner is.1.2.1, tt)))))))
-values_given clock given (invocations.Change volume (changes.MkdirAll path now)) is = (edition_value volume.edition _ is.0.0, (tt, (at_value volume.at _ is.0.2, (tt, ((now, is.1.1), (tt, tt))))))
-values_given clock given (invocations.Change volume (changes.RmAll path now)) is = (edition_value volume.edition _ is.0.0, (tt, (at_value volume.at _ is.0.2, (tt, ((now, is.1.1), (tt, tt))))))
+    (edition_value volume.edition volume.is_any _ is.0.0, (tt, (at_value volume.at _ is.0.2, (is.1.0.1, ((now, is.1.1), (tt, (owner_value _ options.owner is.1.2.1, tt)))))))
+values_given clock given (invocations.Change volume (changes.MkdirAll path now)) is = (edition_value volume.edition volume.is_any _ is.0.0, (tt, (at_value volume.at _ is.0.2, (tt, ((now, is.1.1), (tt, tt))))))
+values_given clock given (invocations.Change volume (changes.RmAll path now)) is = (edition_value volume.edition volume.is_any _ is.0.0, (tt, (at_value volume.at _ is.0.2, (tt, ((now, is.1.1), (tt, tt))))))
 values_given clock given (invocations.Change volume (changes.Mv from to now)) is =
-    (edition_value volume.edition _ is.0.0, (tt, (at_value volume.at _ is.0.2, (tt, (tt, ((now, is.1.2), tt))))))
-values_given clock given (invocations.Copy volume (copies.Put directory files keep now)) is = (edition_value volume.edition _ is.0.0, (tt, (at_value volume.at _ is.0.2, (tt, (tt, (tt, (tt, (tt, (tt, (tt, tt))))))))))
-values_given clock given (invocations.Copy volume (copies.Get folder paths keeps)) is = (edition_value volume.edition _ is.0.0, (tt, (at_value volume.at _ is.0.2, (tt, (tt, (tt, (tt, tt)))))))
-values_given clock given (invocations.Work volume (works.Check checkers.Blocks workers form)) is = (edition_value volume.edition _ is.0.0, (tt, (at_value volume.at _ is.0.2, (is.1.0.0, (tt, tt)))))
-values_given clock given (invocations.Work volume (works.Check checkers.Entries workers form)) is = (edition_value volume.edition _ is.0.0, (tt, (at_value volume.at _ is.0.2, (is.1.0.0, (tt, tt)))))
-values_given clock given (invocations.Work volume (works.Check checkers.Names workers form)) is = (edition_value volume.edition _ is.0.0, (tt, (at_value volume.at _ is.0.2, (is.1.0.0, (tt, tt)))))
+    (edition_value volume.edition volume.is_any _ is.0.0, (tt, (at_value volume.at _ is.0.2, (tt, (tt, ((now, is.1.2), tt))))))
+values_given clock given (invocations.Copy volume (copies.Put directory files keep now)) is = (edition_value volume.edition volume.is_any _ is.0.0, (tt, (at_value volume.at _ is.0.2, (tt, (tt, (tt, (tt, (tt, (tt, (tt, tt))))))))))
+values_given clock given (invocations.Copy volume (copies.Get folder paths keeps)) is = (edition_value volume.edition volume.is_any _ is.0.0, (tt, (at_value volume.at _ is.0.2, (tt, (tt, (tt, (tt, tt)))))))
+values_given clock given (invocations.Work volume (works.Check checkers.Blocks workers form)) is = (edition_value volume.edition volume.is_any _ is.0.0, (tt, (at_value volume.at _ is.0.2, (is.1.0.0, (tt, tt)))))
+values_given clock given (invocations.Work volume (works.Check checkers.Entries workers form)) is = (edition_value volume.edition volume.is_any _ is.0.0, (tt, (at_value volume.at _ is.0.2, (is.1.0.0, (tt, tt)))))
+values_given clock given (invocations.Work volume (works.Check checkers.Names workers form)) is = (edition_value volume.edition volume.is_any _ is.0.0, (tt, (at_value volume.at _ is.0.2, (is.1.0.0, (tt, tt)))))
 values_given clock given (invocations.Work volume (works.Play scripts journal)) is =
-    (edition_value volume.edition _ is.0.0, (tt, (at_value volume.at _ is.0.2, (scripts_value scripts.items _ is.1.0 is.1.1 is.1.2, (tt, tt)))))
-values_given clock given (invocations.Serve volume servings.ReadOnly) is = (edition_value volume.edition _ is.0.0, (tt, (at_value volume.at _ is.0.2, (tt, (tt, (is.1.1, tt))))))
+    (edition_value volume.edition volume.is_any _ is.0.0, (tt, (at_value volume.at _ is.0.2, (scripts_value scripts.items _ is.1.0 is.1.1 is.1.2, (tt, tt)))))
+values_given clock given (invocations.Serve volume servings.ReadOnly) is = (edition_value volume.edition volume.is_any _ is.0.0, (tt, (at_value volume.at _ is.0.2, (tt, (tt, (is.1.1, tt))))))
 values_given clock given (invocations.Serve volume (servings.Changes is_mine rescue)) is =
-    (edition_value volume.edition _ is.0.0, (tt, (at_value volume.at _ is.0.2, (tt, (tt, (is.1.2.1, tt))))))
+    (edition_value volume.edition volume.is_any _ is.0.0, (tt, (at_value volume.at _ is.0.2, (tt, (tt, (is.1.2.1, tt))))))
 values_given clock given (invocations.Diff volume other all) is =
-    (edition_value volume.edition _ is.0.0, (tt, (at_value volume.at _ is.0.2, (tt, (is.3, (tt, tt))))))
+    (edition_value volume.edition volume.is_any _ is.0.0, (tt, (at_value volume.at _ is.0.2, (tt, (is.3, (tt, tt))))))
 values_given clock given (invocations.Identify images form) is = (tt, (tt, tt))
 
 -- if all words are valid, none of them is wrong

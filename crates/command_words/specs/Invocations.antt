@@ -89,6 +89,11 @@ abbrev pub IsEditionNamed : Edition → List ℕ → Type 0
 IsEditionNamed V6 text = text ≡ codes "6"
 IsEditionNamed V7 text = text ≡ codes "7"
 
+-- the word names this edition, and the flag is false; or it is `any`, and the flag is true (this project)
+abbrev pub IsEditionGiven : Edition → Bool → List ℕ → Type 0
+IsEditionGiven edition false text = IsEditionNamed edition text
+IsEditionGiven edition true text = (text ≡ codes "any") × (edition ≡ V7)
+
 -- the time to use: the one in the first word, or the time of the program's clock if there is no word (this project)
 abbrev pub IsMomentGiven : Option ℕ → List (List ℕ) → ℕ → Type 0
 IsMomentGiven clock [] now = clock ≡ Some now
@@ -137,7 +142,9 @@ IsTargetGiven word inode (targets.Path path) = (path.now ≡ word) × (is_path w
 
 -- the words are valid for an argument of this kind (this project)
 abbrev pub IsValue : Option ℕ → WordKind → List (List ℕ) → Type 0
-IsValue clock kinds.Edition words = (first_word words ≡ codes "6") ⊎ (first_word words ≡ codes "7")
+IsValue clock kinds.Edition words =
+    (first_word words ≡ codes "6") ⊎ (first_word words ≡ codes "7") ⊎ (first_word words ≡ codes "any")
+IsValue clock kinds.NewEdition words = (first_word words ≡ codes "6") ⊎ (first_word words ≡ codes "7")
 IsValue clock kinds.Text words = Unit {0}
 IsValue clock kinds.Path words = IsPathWord words
 IsValue clock kinds.Word words = IsNumberUpTo 65535 (first_word words)
@@ -225,6 +232,7 @@ verb_of (invocations.Mkfs place volume) = verbs.Mkfs
 verb_of (invocations.Migrate old at new migration) = verbs.Migrate
 verb_of (invocations.Get volume path) = verbs.Get
 verb_of (invocations.Salvage volume copy) = verbs.Salvage
+verb_of (invocations.Resize volume blocks is_trial) = verbs.Resize
 verb_of (invocations.Change volume change) = change_verb change
 verb_of (invocations.Look volume look) = look_verb look
 verb_of (invocations.Copy volume copying) = copying_verb copying
@@ -233,6 +241,38 @@ verb_of (invocations.Serve volume serving) = verbs.Serve
 verb_of (invocations.Diff volume other all) = verbs.Diff
 verb_of (invocations.Identify images form) = verbs.Identify
 
+-- the volume in a file that a command works on, if its words name the volume's edition (this project)
+abbrev pub volume_of : Invocation → Option VolumeFile
+volume_of (invocations.Cat volume node) = Some volume
+volume_of (invocations.Mkfs place volume) = None
+volume_of (invocations.Migrate old at new migration) = None
+volume_of (invocations.Get volume path) = Some volume
+volume_of (invocations.Salvage volume copy) = Some volume
+volume_of (invocations.Resize volume blocks is_trial) = Some volume
+volume_of (invocations.Change volume change) = Some volume
+volume_of (invocations.Look volume look) = Some volume
+volume_of (invocations.Copy volume copying) = Some volume
+volume_of (invocations.Work volume work) = Some volume
+volume_of (invocations.Serve volume serving) = Some volume
+volume_of (invocations.Diff volume other all) = Some volume
+volume_of (invocations.Identify images form) = None
+
+-- the same command on this volume, if it works on a volume whose edition its words name; else the command itself (this project)
+abbrev pub with_volume : Invocation → VolumeFile → Invocation
+with_volume (invocations.Cat old node) volume = invocations.Cat volume node
+with_volume (invocations.Mkfs place made) volume = invocations.Mkfs place made
+with_volume (invocations.Migrate old at new migration) volume = invocations.Migrate old at new migration
+with_volume (invocations.Get old path) volume = invocations.Get volume path
+with_volume (invocations.Salvage old copy) volume = invocations.Salvage volume copy
+with_volume (invocations.Resize old blocks is_trial) volume = invocations.Resize volume blocks is_trial
+with_volume (invocations.Change old change) volume = invocations.Change volume change
+with_volume (invocations.Look old look) volume = invocations.Look volume look
+with_volume (invocations.Copy old copying) volume = invocations.Copy volume copying
+with_volume (invocations.Work old work) volume = invocations.Work volume work
+with_volume (invocations.Serve old serving) volume = invocations.Serve volume serving
+with_volume (invocations.Diff old other all) volume = invocations.Diff volume other all
+with_volume (invocations.Identify images form) volume = invocations.Identify images form
+
 -- the words say that a volume begins at this block of a file: 0 if they say nothing of it (this project)
 abbrev pub IsAtGiven : Words → ℕ → Type 0
 IsAtGiven given at = IsNumberOr 4294967295 0 (given (codes "at")) at
@@ -240,7 +280,7 @@ IsAtGiven given at = IsNumberOr 4294967295 0 (given (codes "at")) at
 -- the words name this volume (this project)
 abbrev pub IsVolumeGiven : Words → VolumeFile → Type 0
 IsVolumeGiven given volume =
-    IsEditionNamed volume.edition (the_word given (codes "EDITION")) × (volume.image.now ≡ the_word given (codes "IMAGE"))
+    IsEditionGiven volume.edition volume.is_any (the_word given (codes "EDITION")) × (volume.image.now ≡ the_word given (codes "IMAGE"))
     × IsAtGiven given volume.at
 
 -- the words name this file to make, by the argument for its path, and say whether it must not exist (this project)
@@ -453,6 +493,8 @@ IsGiven clock given (invocations.Get volume path) = IsVolumeGiven given volume �
 IsGiven clock given (invocations.Salvage volume None) = IsVolumeGiven given volume × (is_set (given (codes "dry-run")) ≡ true)
 IsGiven clock given (invocations.Salvage volume (Some copy)) = IsVolumeGiven given volume × (is_set (given (codes "dry-run")) ≡ false)
     × IsFirstWord given (codes "output") copy.now
+IsGiven clock given (invocations.Resize volume blocks is_trial) = IsVolumeGiven given volume
+    × IsNumberGiven 4294967295 (the_word given (codes "BLOCKS")) blocks × (is_trial ≡ is_set (given (codes "dry-run")))
 IsGiven clock given (invocations.Change volume change) = IsVolumeGiven given volume × IsChangeGiven clock given change
 IsGiven clock given (invocations.Look volume look) = IsVolumeGiven given volume × IsLookGiven given look
 IsGiven clock given (invocations.Copy volume copying) = IsVolumeGiven given volume × IsCopyGiven clock given copying

@@ -22,6 +22,10 @@ argument_of parameter = (parameter.name.now, parameter.kind, parameter.need)
 abbrev pub edition : Argument
 edition = (codes "EDITION", kinds.Edition, needs.Once)
 
+-- the argument `EDITION` of a volume to make (this project)
+abbrev pub new_edition : Argument
+new_edition = (codes "EDITION", kinds.NewEdition, needs.Once)
+
 -- an argument for any word (this project)
 abbrev pub word : List ℕ → Argument
 word name = (name, kinds.Text, needs.Once)
@@ -118,6 +122,7 @@ verb_name verbs.Chmod = codes "chmod"
 verb_name verbs.Chown = codes "chown"
 verb_name verbs.Touch = codes "touch"
 verb_name verbs.Salvage = codes "salvage"
+verb_name verbs.Resize = codes "resize"
 verb_name verbs.Play = codes "play"
 verb_name verbs.Migrate = codes "migrate"
 verb_name verbs.Serve = codes "serve"
@@ -146,7 +151,7 @@ arguments_of verbs.Icheck = of_checker
 arguments_of verbs.Dcheck = of_checker
 arguments_of verbs.Ncheck = of_checker
 arguments_of verbs.Mkfs =
-    edition ∷ word (codes "IMAGE") ∷ ((codes "FSIZE", kinds.Blocks, needs.Once) ∷ maybe_number (codes "IBLOCKS") ∷ maybe_number (codes "UID") ∷ maybe_number (codes "GID") ∷ moment
+    new_edition ∷ word (codes "IMAGE") ∷ ((codes "FSIZE", kinds.Blocks, needs.Once) ∷ maybe_number (codes "IBLOCKS") ∷ maybe_number (codes "UID") ∷ maybe_number (codes "GID") ∷ moment
     ∷ option (codes "new") ∷ at ∷ [])
 arguments_of verbs.Put = on_volume (word (codes "PATH") ∷ maybe_word (codes "FILE") ∷ maybe_word (codes "NOW") ∷ more_words
     ∷ valued (codes "target-directory") 116 values.Directory ∷ lettered (codes "preserve") 112 ∷ lettered (codes "executable") 120 ∷ [])
@@ -161,6 +166,7 @@ arguments_of verbs.Chmod = on_volume (path needs.Once ∷ (codes "PERM", kinds.P
 arguments_of verbs.Chown = on_volume (path needs.Once ∷ number (codes "UID") ∷ number (codes "GID") ∷ moment ∷ [])
 arguments_of verbs.Touch = on_volume (path needs.Once ∷ moment ∷ [])
 arguments_of verbs.Salvage = on_volume (valued (codes "output") 111 values.Copy ∷ lettered (codes "dry-run") 110 ∷ [])
+arguments_of verbs.Resize = on_volume (long_number (codes "BLOCKS") ∷ lettered (codes "dry-run") 110 ∷ [])
 arguments_of verbs.Play = on_volume ((codes "SCRIPT", kinds.Scripts, needs.Several) ∷ option (codes "journal") ∷ [])
 arguments_of verbs.Migrate =
     word (codes "OLD") ∷ word (codes "NEW") ∷ long_number (codes "FSIZE") ∷ number (codes "IBLOCKS") ∷ moment ∷ option (codes "new") ∷ at ∷ []
@@ -173,7 +179,7 @@ abbrev pub all_verbs : List Verb
 all_verbs =
     verbs.Cat ∷ verbs.Ls ∷ verbs.Get ∷ verbs.Find ∷ verbs.Export ∷ verbs.Sums ∷ verbs.Inode ∷ verbs.Super ∷ verbs.Free ∷ verbs.Block
     ∷ verbs.Dump ∷ verbs.Diff ∷ verbs.Df ∷ verbs.Map ∷ verbs.Check ∷ verbs.Icheck ∷ verbs.Dcheck ∷ verbs.Ncheck ∷ verbs.Mkfs ∷ verbs.Put ∷ verbs.Import ∷ verbs.Rm
-    ∷ verbs.Rmdir ∷ verbs.Mkdir ∷ verbs.Ln ∷ verbs.Mv ∷ verbs.Chmod ∷ verbs.Chown ∷ verbs.Touch ∷ verbs.Salvage ∷ verbs.Play ∷ verbs.Migrate
+    ∷ verbs.Rmdir ∷ verbs.Mkdir ∷ verbs.Ln ∷ verbs.Mv ∷ verbs.Chmod ∷ verbs.Chown ∷ verbs.Touch ∷ verbs.Salvage ∷ verbs.Resize ∷ verbs.Play ∷ verbs.Migrate
     ∷ verbs.Serve ∷ verbs.Identify ∷ []
 
 -- no command has this name (this project)

@@ -4,7 +4,7 @@ ghost use Rattle.command_words.specs.Decimal.{IsNumberUpTo, IsNumberGiven, IsThr
 ghost use Rattle.command_words.specs.Octal.{IsOctalUpTo, IsOctalGiven};
 ghost use Rattle.command_words.specs.Disks.{AreBlocksOf};
 ghost use Rattle.command_words.specs.Owners.{IsOwnerGiven, IsOwnerIfAny, IsOwnerNamed, IsOwnerWord};
-ghost use Rattle.command_words.specs.Invocations.{IsEditionNamed, IsMomentGiven, IsNodeGiven, IsNodeWord, IsNumberOr, IsPathGiven, IsPathWord, IsPlaceWord, IsRadixGiven, IsRescueGiven, IsTargetGiven, IsValue, IsWrong, TellsOf, is_path, is_set, the_word};
+ghost use Rattle.command_words.specs.Invocations.{IsEditionGiven, IsEditionNamed, IsMomentGiven, IsNodeGiven, IsNodeWord, IsNumberOr, IsPathGiven, IsPathWord, IsPlaceWord, IsRadixGiven, IsRescueGiven, IsTargetGiven, IsValue, IsWrong, TellsOf, is_path, is_set, the_word};
 ghost use Rattle.command_words.specs.declared.parameters.WordKind.TheVariants as kinds;
 
 use crate::decimal::{long_of, threads_of, word_of};
@@ -50,16 +50,48 @@ pub(crate) fn flag_in<'a, G: Given<'a>>(given: &G, name: &str) -> bool
 /// The word of an option that was given.
 const SET: &str = "true";
 
-/// Reads the edition.
-pub(crate) fn edition_in<'a, G: Given<'a>>(given: &G) -> Result<Edition, WordFault<'a>>
-    ensures read { IfOk result (λ edition. IsEditionNamed edition (the_word (G.words given.now) (codes "EDITION"))) }
+/// The edition of a volume, by its word.
+#[derive(Clone, Copy)]
+pub(crate) struct EditionWord {
+    /// The edition; if `is_any`, the seventh.
+    pub edition: Edition,
+    /// True if the word stands for the edition of which the volume is sound.
+    pub is_any: bool,
+}
+
+/// Reads the edition of a volume.
+pub(crate) fn edition_in<'a, G: Given<'a>>(given: &G) -> Result<EditionWord, WordFault<'a>>
+    ensures read { IfOk result (λ word. IsEditionGiven word.edition word.is_any (the_word (G.words given.now) (codes "EDITION"))) }
     ensures refused { IfErr result (TellsOf (IsValue None kinds.Edition (G.words given.now (codes "EDITION")) → ⊥)) }
+{
+    let text = text_in(given, "EDITION");
+    match text {
+        "6" => Ok(EditionWord {
+            edition: Edition::V6,
+            is_any: false,
+        }),
+        "7" => Ok(EditionWord {
+            edition: Edition::V7,
+            is_any: false,
+        }),
+        "any" => Ok(EditionWord {
+            edition: Edition::V7,
+            is_any: true,
+        }),
+        _ => Err(wrong("EDITION", text, texts::EDITIONS)),
+    }
+}
+
+/// Reads the edition of a volume to make.
+pub(crate) fn new_edition_in<'a, G: Given<'a>>(given: &G) -> Result<Edition, WordFault<'a>>
+    ensures read { IfOk result (λ edition. IsEditionNamed edition (the_word (G.words given.now) (codes "EDITION"))) }
+    ensures refused { IfErr result (TellsOf (IsValue None kinds.NewEdition (G.words given.now (codes "EDITION")) → ⊥)) }
 {
     let text = text_in(given, "EDITION");
     match text {
         "6" => Ok(Edition::V6),
         "7" => Ok(Edition::V7),
-        _ => Err(wrong("EDITION", text, texts::EDITIONS)),
+        _ => Err(wrong("EDITION", text, texts::NEW_EDITIONS)),
     }
 }
 

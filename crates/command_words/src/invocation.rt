@@ -1,4 +1,7 @@
 //! Invocations: a command with its arguments read.
+ghost use Rattle.std.specs.Prelude.{◌≡◌};
+ghost use Rattle.command_words.specs.Invocations.{volume_of, with_volume};
+
 use command_changes::{Change, Keep, Migration};
 use command_reads::{Look, NodeName, OutputForm};
 use vol_check::Checker;
@@ -8,8 +11,10 @@ use vol_mkfs::NewVolume;
 /// A volume in a file.
 #[derive(Clone, Copy)]
 pub struct VolumeFile<'a> {
-    /// The edition of Unix.
+    /// The edition of Unix; if `is_any`, the seventh, until the volume is judged.
     pub edition: Edition,
+    /// True if the edition is still to be found: the one of which the volume is sound.
+    pub is_any: bool,
     /// The path of its file.
     pub image: &'a str,
     /// The number of the block of the file that it begins at.
@@ -120,6 +125,12 @@ pub enum Invocation<'a> {
         volume: VolumeFile<'a>,
         copy: Option<&'a str>,
     },
+    /// Give the volume in a file another number of blocks; if `is_trial`, in memory only.
+    Resize {
+        volume: VolumeFile<'a>,
+        blocks: u32,
+        is_trial: bool,
+    },
     /// Change the volume in a file.
     Change {
         volume: VolumeFile<'a>,
@@ -157,4 +168,54 @@ pub enum Invocation<'a> {
         images: Vec<&'a str>,
         form: OutputForm,
     },
+}
+
+impl<'a> Invocation<'a> {
+    /// Returns the volume in a file that the command works on, if its words name the volume's edition.
+    pub fn volume(&self) -> Option<VolumeFile<'a>>
+        ensures { result ≡ volume_of self.now }
+    {
+        match self {
+            Invocation::Mkfs { .. } | Invocation::Migrate { .. } | Invocation::Identify { .. } =>
+                None,
+            Invocation::Cat { volume, .. }
+            | Invocation::Get { volume, .. }
+            | Invocation::Salvage { volume, .. }
+            | Invocation::Resize { volume, .. }
+            | Invocation::Change { volume, .. }
+            | Invocation::Look { volume, .. }
+            | Invocation::Copy { volume, .. }
+            | Invocation::Work { volume, .. }
+            | Invocation::Serve { volume, .. }
+            | Invocation::Diff { volume, .. } => Some(*volume),
+        }
+    }
+
+    /// Returns the same command on this volume, if it works on a volume whose edition its words name; else the command itself.
+    pub fn with_volume(self, volume: VolumeFile<'a>) -> Invocation<'a>
+        ensures { result ≡ with_volume self.entry volume.entry }
+    {
+        match self {
+            Invocation::Cat { node, .. } => Invocation::Cat { volume, node },
+            Invocation::Get { path, .. } => Invocation::Get { volume, path },
+            Invocation::Salvage { copy, .. } => Invocation::Salvage { volume, copy },
+            Invocation::Resize {
+                blocks,
+                is_trial,
+                ..
+            } => Invocation::Resize {
+                volume,
+                blocks,
+                is_trial,
+            },
+            Invocation::Change { change, .. } => Invocation::Change { volume, change },
+            Invocation::Look { look, .. } => Invocation::Look { volume, look },
+            Invocation::Copy { copying, .. } => Invocation::Copy { volume, copying },
+            Invocation::Work { work, .. } => Invocation::Work { volume, work },
+            Invocation::Serve { serving, .. } => Invocation::Serve { volume, serving },
+            Invocation::Diff { other, all, .. } => Invocation::Diff { volume, other, all },
+            Invocation::Mkfs { .. } | Invocation::Migrate { .. } | Invocation::Identify { .. } =>
+                self,
+        }
+    }
 }

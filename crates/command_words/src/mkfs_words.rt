@@ -8,7 +8,7 @@ ghost use Rattle.command_words.specs.declared.verbs.Verb.TheVariants as verbs;
 use crate::decimal::long_of;
 use crate::disks::list_default;
 use crate::fault::{Said, WordFault, WrongWord};
-use crate::given::{Given, blocks_in, edition_in, flag_in, moment_in, text_in, word_or, wrong};
+use crate::given::{Given, blocks_in, flag_in, moment_in, new_edition_in, text_in, word_or, wrong};
 use crate::invocation::{Invocation, NewPlace};
 use crate::read_words::made_in;
 use crate::texts;
@@ -35,7 +35,7 @@ fn new_volume_in<'a, G: Given<'a>>(
     ensures read { IfOk result (IsNewVolumeGiven clock (G.words given.now)) }
     ensures refused { IfErr result (TellsOf (IsOneWrong clock (G.words given.now) (arguments_of verbs.Mkfs))) }
 {
-    let edition = edition_in(given)?;
+    let edition = new_edition_in(given)?;
     let blocks = blocks_in(given)?;
     Ok(NewVolume {
         edition,

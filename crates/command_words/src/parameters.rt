@@ -4,8 +4,10 @@ use crate::texts;
 /// The kind of words that an argument takes.
 #[derive(Clone, Copy)]
 pub enum WordKind {
-    /// An edition, `6` or `7`.
+    /// An edition, `6` or `7`; or `any`, for the one of which the volume is sound.
     Edition,
+    /// The edition of a volume to make, `6` or `7`.
+    NewEdition,
     /// Any word.
     Text,
     /// A path, which isn't the empty word.
@@ -104,14 +106,21 @@ pub struct Parameter {
     pub help: &'static str,
 }
 
-/// The editions' names on the command line.
-pub static EDITIONS: [&str; 2] = ["6", "7"];
+/// The words for an edition on the command line: the editions' names, and the word for the one of which the volume is sound.
+pub static EDITIONS: [&str; 3] = ["6", "7", "any"];
 
 const EDITION: Parameter = Parameter {
     name: "EDITION",
     kind: WordKind::Edition,
     need: Need::Once,
     help: texts::EDITION,
+};
+
+const NEW_EDITION: Parameter = Parameter {
+    name: "EDITION",
+    kind: WordKind::NewEdition,
+    need: Need::Once,
+    help: texts::NEW_EDITION,
 };
 
 const IMAGE: Parameter = Parameter {
@@ -611,6 +620,20 @@ const DRY_RUN: Parameter = Parameter {
     help: texts::salvage::DRY_RUN,
 };
 
+const RESIZED: Parameter = Parameter {
+    name: "BLOCKS",
+    kind: WordKind::Long,
+    need: Need::Once,
+    help: texts::resize::BLOCKS,
+};
+
+const TRIAL: Parameter = Parameter {
+    name: "dry-run",
+    kind: WordKind::Flag,
+    need: Need::Flag(Some('n')),
+    help: texts::resize::DRY_RUN,
+};
+
 const SCRIPT: Parameter = Parameter {
     name: "SCRIPT",
     kind: WordKind::Scripts,
@@ -665,7 +688,7 @@ pub static CHECKER_WORDS: [Parameter; 5] = [EDITION, IMAGE, AT, WORKERS, JSON];
 
 /// The words that `mkfs` takes.
 pub static MKFS_WORDS: [Parameter; 9] = [
-    EDITION,
+    NEW_EDITION,
     NEW_IMAGE,
     DISK_BLOCKS,
     MADE_LIST_BLOCKS,
@@ -707,6 +730,9 @@ pub static CHECK_WORDS: [Parameter; 5] = [EDITION, IMAGE, AT, CHECK_GRADED, JSON
 
 /// The words that `salvage` takes.
 pub static SALVAGE_WORDS: [Parameter; 5] = [EDITION, IMAGE, AT, COPY, DRY_RUN];
+
+/// The words that `resize` takes.
+pub static RESIZE_WORDS: [Parameter; 5] = [EDITION, IMAGE, AT, RESIZED, TRIAL];
 
 /// The words that `play` takes.
 pub static PLAY_WORDS: [Parameter; 5] = [EDITION, IMAGE, AT, SCRIPT, JOURNAL];

@@ -7,8 +7,9 @@ ghost use Rattle.command_words.specs.declared.verbs.Verb.TheVariants as verbs;
 
 use crate::fault::{Said, WordFault, WrongWord};
 use crate::given::{
-    Given, edition_in, flag_in, long_in, long_or, missing, moment_in, node_in, owner_in, path_in,
-    permissions_in, radix_in, rescue_in, scripts_in, target_in, text_in, threads_in, word_in,
+    EditionWord, Given, edition_in, flag_in, long_in, long_or, missing, moment_in, node_in,
+    owner_in, path_in, permissions_in, radix_in, rescue_in, scripts_in, target_in, text_in,
+    threads_in, word_in,
 };
 use crate::invocation::{Copying, Invocation, MadeFile, Serving, VolumeFile, Work};
 use crate::mkfs_words::read_mkfs;
@@ -65,6 +66,7 @@ pub fn read<'a, G: Given<'a>>(
         Verb::Chown => read_chown(given, clock),
         Verb::Touch => read_touch(given, clock),
         Verb::Salvage => read_salvage(given),
+        Verb::Resize => read_resize(given),
         Verb::Play => read_play(alloc, given),
         Verb::Migrate => read_migrate(given, clock),
         Verb::Serve => read_serve(given),
@@ -650,6 +652,21 @@ fn read_salvage<'a, G: Given<'a>>(given: &G) -> Result<Invocation<'a>, WordFault
     }
 }
 
+/// Reads the words of `resize`.
+fn read_resize<'a, G: Given<'a>>(given: &G) -> Result<Invocation<'a>, WordFault<'a>>
+    ensures read { IfOk result (AsksFor None verbs.Resize (G.words given.now)) }
+    ensures refused { IfErr result (TellsOf (IsOneWrong None (G.words given.now) (arguments_of verbs.Resize))) }
+{
+    let volume = volume_in(given)?;
+    let blocks = long_in(given, "BLOCKS")?;
+    let is_trial = flag_in(given, "dry-run");
+    Ok(Invocation::Resize {
+        volume,
+        blocks,
+        is_trial,
+    })
+}
+
 /// Reads the words of a checker's command.
 fn read_checker<'a, G: Given<'a>>(
     given: &G,
@@ -716,8 +733,13 @@ fn volume_in<'a, G: Given<'a>>(given: &G) -> Result<VolumeFile<'a>, WordFault<'a
     ensures read { IfOk result (IsVolumeGiven (G.words given.now)) }
     ensures refused { IfErr result (TellsOf (IsVolumeWrong (G.words given.now))) }
 {
-    let edition = edition_in(given)?;
+    let EditionWord { edition, is_any } = edition_in(given)?;
     let image = text_in(given, "IMAGE");
     let at = long_or(given, "at", 0)?;
-    Ok(VolumeFile { edition, image, at })
+    Ok(VolumeFile {
+        edition,
+        is_any,
+        image,
+        at,
+    })
 }

@@ -11,6 +11,7 @@ pub mod get;
 pub mod identify;
 pub mod import;
 pub mod put;
+pub mod resize;
 pub mod salvage;
 pub mod serve;
 pub mod sums;
@@ -25,7 +26,11 @@ command line, 3 if a file can't be read or written, and 4 if memory runs out.
 
 With --explain, before or after the command, a second line says what the fault means, what it is about, and, if a
 file failed, the system's own reason. If standard error is a terminal, this line is printed without --explain too;
-set the variable UNIXVOL_EXPLAIN to 0 to turn that off, or to 1 to have the line everywhere, as in logs.";
+set the variable UNIXVOL_EXPLAIN to 0 to turn that off, or to 1 to have the line everywhere, as in logs.
+
+Where a command takes the EDITION of a volume in a file, `any` may be written for it. Then the volume is judged first,
+as one of each edition, and the command runs with the edition of which it is sound. If it is sound as neither or as
+both, the status is 1, and nothing is done. A pipe can be read only once, so it needs 6 or 7.";
 
 pub const EXPLAIN: &str = "Explain a fault in a second line";
 
@@ -54,9 +59,13 @@ Status:
   3  `unixvol: cannot read IMAGE`, or `unixvol: cannot write -`: standard output failed
   4  `unixvol: 12 NoMemory`";
 
-pub const EDITION: &str = "The volume's edition of Unix";
+pub const EDITION: &str = "The volume's edition of Unix; any is the one of which it is sound";
 
-pub const EDITIONS: &str = "6 for the Sixth, 7 for the Seventh";
+pub const EDITIONS: &str = "6 for the Sixth, 7 for the Seventh, any for the one that fits";
+
+pub const NEW_EDITION: &str = "The new volume's edition of Unix, 6 or 7";
+
+pub const NEW_EDITIONS: &str = "6 for the Sixth, 7 for the Seventh";
 
 pub const IMAGE: &str = "The disk image, a file that holds a volume";
 

@@ -6,8 +6,8 @@ use crate::parameters::{
     BLOCK_WORDS, CAT_WORDS, CHECK_WORDS, CHECKER_WORDS, CHMOD_WORDS, CHOWN_WORDS, DIFF_WORDS,
     DUMP_WORDS, EXPORT_WORDS, FIND_WORDS, GET_WORDS, IDENTIFY_WORDS, IMPORT_WORDS, INODE_WORDS,
     LS_WORDS, MAP_WORDS, MIGRATE_WORDS, MKDIR_WORDS, MKFS_WORDS, NAMES_WORDS, PLAY_WORDS,
-    PUT_WORDS, Parameter, RM_WORDS, RMDIR_WORDS, SALVAGE_WORDS, SERVE_WORDS, SUMS_WORDS,
-    SUPER_WORDS, TOUCH_WORDS,
+    PUT_WORDS, Parameter, RESIZE_WORDS, RM_WORDS, RMDIR_WORDS, SALVAGE_WORDS, SERVE_WORDS,
+    SUMS_WORDS, SUPER_WORDS, TOUCH_WORDS,
 };
 use crate::texts;
 
@@ -44,6 +44,7 @@ pub enum Verb {
     Chown,
     Touch,
     Salvage,
+    Resize,
     Play,
     Migrate,
     Serve,
@@ -51,7 +52,7 @@ pub enum Verb {
 }
 
 /// All commands, in the order in which the help lists them.
-pub static VERBS: [Verb; 34] = [
+pub static VERBS: [Verb; 35] = [
     Verb::Cat,
     Verb::Ls,
     Verb::Get,
@@ -82,6 +83,7 @@ pub static VERBS: [Verb; 34] = [
     Verb::Chown,
     Verb::Touch,
     Verb::Salvage,
+    Verb::Resize,
     Verb::Play,
     Verb::Migrate,
     Verb::Serve,
@@ -124,6 +126,7 @@ impl Verb {
             Verb::Chown => "chown",
             Verb::Touch => "touch",
             Verb::Salvage => "salvage",
+            Verb::Resize => "resize",
             Verb::Play => "play",
             Verb::Migrate => "migrate",
             Verb::Serve => "serve",
@@ -158,6 +161,7 @@ impl Verb {
             Verb::Map => &MAP_WORDS,
             Verb::Check => &CHECK_WORDS,
             Verb::Salvage => &SALVAGE_WORDS,
+            Verb::Resize => &RESIZE_WORDS,
             Verb::Icheck | Verb::Dcheck | Verb::Ncheck => &CHECKER_WORDS,
             Verb::Mkfs => &MKFS_WORDS,
             Verb::Put => &PUT_WORDS,
@@ -227,6 +231,7 @@ impl Verb {
             Verb::Chown => texts::CHOWN_ABOUT,
             Verb::Touch => texts::touch::ABOUT,
             Verb::Salvage => texts::salvage::ABOUT,
+            Verb::Resize => texts::resize::ABOUT,
             Verb::Play => texts::PLAY_ABOUT,
             Verb::Migrate => texts::MIGRATE_ABOUT,
             Verb::Serve => texts::serve::ABOUT,
@@ -267,6 +272,7 @@ impl Verb {
             Verb::Chown => texts::CHOWN_MORE,
             Verb::Touch => texts::touch::MORE,
             Verb::Salvage => texts::salvage::MORE,
+            Verb::Resize => texts::resize::MORE,
             Verb::Play => texts::PLAY_MORE,
             Verb::Migrate => texts::MIGRATE_MORE,
             Verb::Serve => texts::serve::MORE,

@@ -21,7 +21,7 @@ pub use noted::{Noted, noted_reader, noted_writer};
 pub use pack::{MoveFault, SpliceFault, moved_to, splice};
 pub use saved_files::{
     Content, HeldFile, VolumePart, is_pipe, save_apart, save_file, save_held, save_marked,
-    save_volume,
+    save_volume, save_whole,
 };
 pub use system::ImageFiles;
 pub use volume_front::{FrontFault, UpTo, read_on, read_up_to};

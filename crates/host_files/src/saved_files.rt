@@ -1,7 +1,7 @@
 //! Saves an image in a file so that a failure leaves the old file unchanged.
 ghost use Rattle.std.specs.Prelude.{◌≡◌, true, IfOk, IfSome, OnErr, OnOk};
 ghost use Rattle.std.specs.Path.{path_bytes, path_buf_bytes};
-ghost use Rattle.host_files.specs.Save.{Fills, Grows, Holds, IsBeside, IsFilled, IsNamed, IsPlaced, Saves, Stores};
+ghost use Rattle.host_files.specs.Save.{Fills, Grows, Holds, IsBeside, IsFilled, IsNamed, IsPlaced, IsTaken, Saves, Stores};
 
 use crate::acts::{HostActs, SaveActs, end_of_links};
 use crate::image_file::{FileKind, Stamp};
@@ -155,6 +155,24 @@ pub fn save_volume<R: ImageFiles + AllocGlobal>(
 {
     let acts = HostActs::new(rt);
     let filling = Filling::Part(part);
+    put(&acts, rt.alloc(), path, Some(read), filling, None)?;
+    Ok(())
+}
+
+/// Saves a volume as all that the file `path` holds, as [`save_file`] does, if the file has the stamp `read` just before, as for [`save_volume`].
+///
+/// The errors are those of [`save_file`]; and `ResourceBusy` if the stamp differs.
+pub fn save_whole<R: ImageFiles + AllocGlobal>(
+    rt: &R,
+    path: &str,
+    read: Stamp,
+    bytes: &[u8],
+) -> io::Result<()>
+    ensures saved { OnOk result (IsTaken R.File.contents bytes.now) }
+    ensures unchanged { OnOk result (R.stood read) }
+{
+    let acts = HostActs::new(rt);
+    let filling = Filling::Whole(Content::Bytes(bytes));
     put(&acts, rt.alloc(), path, Some(read), filling, None)?;
     Ok(())
 }

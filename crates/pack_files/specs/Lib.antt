@@ -1,1 +1,3 @@
+pub mod OtherVolumes
 pub mod PackFiles
+pub mod Verdicts

@@ -23,6 +23,11 @@ abbrev pub is_regular : FileKind → Bool
 is_regular kinds.Regular = true
 is_regular _ = false
 
+-- a pack of `blocks` blocks was read from a source, and these are its parts; or the source ended before it did (this project)
+abbrev pub AreScanned : ℕ → Option (List ℕ) → Option (List ℕ) → Option (Vec Part) → Type 0
+AreScanned blocks old new None = IsCutShort blocks old new
+AreScanned blocks old new (Some parts) = IsScanned blocks old new parts.items
+
 -- a pack of `blocks` blocks was read from a source, and these are its parts; or it isn't a pack, or the source ended before it did (this project)
 abbrev pub IsFound : ℕ → Option (List ℕ) → Option (List ℕ) → Option (Vec Part) → Type 0
 IsFound blocks old new None = IsCutShort blocks old new ⊎ ((parts : List Part) × IsScanned blocks old new parts × (is_pack parts ≡ false))

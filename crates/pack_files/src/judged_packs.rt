@@ -2,7 +2,7 @@
 ghost use Rattle.std.specs.Prelude.{◌≡◌, false, true, IfOk, List, ℕ};
 ghost use Rattle.host_files.specs.ReadParts.{IsReadUpTo};
 ghost use Rattle.vol_judge.specs.Sound.{IsJudged};
-ghost use Rattle.pack_files.specs.PackFiles.{AreJudged, FindsPack, GivesPack, IsFound, IsJudgedAt, IsOpenedFound, IsPartJudged, blocks_in, is_regular};
+ghost use Rattle.pack_files.specs.PackFiles.{AreJudged, AreScanned, FindsPack, GivesPack, IsFound, IsJudgedAt, IsOpenedFound, IsPartJudged, blocks_in, is_regular};
 
 use host_files::{
     FileKind, FrontFault, ImageFiles, MoveFault, Noted, Stamp, UpTo, moved_to, noted_reader,
@@ -20,6 +20,8 @@ use vol_layout::Edition;
 pub enum PackFault {
     /// The file can't be read: the system's error, if there was one.
     Unread(Option<io::Error>),
+    /// The file ends before the block that is wanted.
+    Short,
     /// Out of memory.
     NoMemory,
 }
@@ -83,7 +85,7 @@ fn is_regular(stamp: Stamp) -> bool
 }
 
 /// Returns the number of whole blocks in a file of so many bytes, but at most 2^32 - 1.
-fn blocks_in(size: u64) -> u32
+pub fn blocks_in(size: u64) -> u32
     ensures { result ≡ blocks_in size }
 {
     (size / BLOCK as u64).min(u64::from(u32::MAX)) as u32
@@ -110,14 +112,29 @@ fn scan_source<S: Source>(
     requires { ⟦<Noted<S> as Source>⟧.failed source.old ≡ false }
     ensures { IfOk result (IsFound blocks (⟦<Noted<S> as Source>⟧.remaining source.old) (⟦<Noted<S> as Source>⟧.remaining source.new)) }
 {
-    match scan_pack(alloc, source, blocks) {
-        Ok(parts) => {
+    match scanned_parts(alloc, source, blocks)? {
+        Some(parts) => {
             if is_pack(&parts) {
                 Ok(Some(parts))
             } else {
                 Ok(None)
             }
         }
+        None => Ok(None),
+    }
+}
+
+/// Returns the parts of the pack of `blocks` blocks that a source gives. Returns `None` if the source ends before it has so many.
+pub(crate) fn scanned_parts<S: Source>(
+    alloc: Global,
+    source: &mut Noted<S>,
+    blocks: u32,
+) -> Result<Option<Vec<Part>>, PackFault>
+    requires { ⟦<Noted<S> as Source>⟧.failed source.old ≡ false }
+    ensures { IfOk result (AreScanned blocks (⟦<Noted<S> as Source>⟧.remaining source.old) (⟦<Noted<S> as Source>⟧.remaining source.new)) }
+{
+    match scan_pack(alloc, source, blocks) {
+        Ok(parts) => Ok(Some(parts)),
         Err(ScanFault::Short) => Ok(None),
         Err(ScanFault::Device) => Err(PackFault::Unread(source.error())),
         Err(ScanFault::NoMemory) => Err(PackFault::NoMemory),
@@ -161,7 +178,7 @@ fn judged_part<R: ImageFiles + AllocGlobal>(
 }
 
 /// Returns the first rule that the volume of an edition at block `at` of a file breaks.
-fn judged_at<R: ImageFiles + AllocGlobal>(
+pub(crate) fn judged_at<R: ImageFiles + AllocGlobal>(
     rt: &R,
     path: &str,
     at: u32,
@@ -175,7 +192,7 @@ fn judged_at<R: ImageFiles + AllocGlobal>(
     };
     match moved_to(rt, file, stamp, at) {
         Ok(moved) => judge_file(rt.alloc(), edition, moved),
-        Err(MoveFault::Short) => Err(PackFault::Unread(None)),
+        Err(MoveFault::Short) => Err(PackFault::Short),
         Err(MoveFault::Unread(why)) => Err(PackFault::Unread(Some(why))),
     }
 }

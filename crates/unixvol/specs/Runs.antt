@@ -34,6 +34,7 @@ use Rattle.command_faults.specs.Outcomes.{Concludes}
 use Rattle.command_faults.specs.Streams.{Gets, Streams}
 use Rattle.command_changes.specs.Mkfs.{mkfs_line_at}
 use Rattle.command_changes.specs.Migrate.{of_migration}
+use Rattle.command_changes.specs.Resize.{of_resize}
 use Rattle.command_changes.specs.Salvage.{IsReported, IsUnsalvaged}
 use Rattle.command_faults.specs.declared.fault.Fault.{Fault}
 use Rattle.command_reads.specs.Print.{IsTold, Prints}
@@ -51,6 +52,7 @@ use Rattle.command_words.specs.declared.invocation.Invocation.{Invocation}
 use Rattle.command_words.specs.declared.invocation.Invocation.TheVariants as invocations
 use Rattle.command_words.specs.declared.invocation.NewPlace.{NewPlace}
 use Rattle.command_words.specs.declared.invocation.NewPlace.TheVariants as places
+use Rattle.command_words.specs.declared.invocation.VolumeFile.{VolumeFile}
 use Rattle.command_words.specs.declared.invocation.Work.{Work}
 use Rattle.command_words.specs.declared.invocation.Work.TheVariants as works
 use Rattle.vol_check.specs.declared.checker.Checker.{Checker}
@@ -65,7 +67,10 @@ use Rattle.host_files.specs.declared.volume_front.UpTo.TheVariants.{End, Volume,
 use Rattle.host_files.specs.Save.{IsTaken, Stores}
 use Rattle.host_files.specs.declared.image_file.Stamp.{Stamp}
 use Rattle.host_files.specs.declared.saved_files.VolumePart.{VolumePart}
+use Rattle.pack_files.specs.PackFiles.{blocks_in}
+use Rattle.pack_files.specs.declared.other_volumes.Growth.{Growth}
 use Rattle.unixvol.specs.Reports.{IsOneFile, IsReportTold, may_report_read}
+use Rattle.unixvol.specs.Resize.{IsAlone, has_only}
 
 -- these bytes were read from some file, up to this end (std::io::Read)
 abbrev pub Gave : {F : Type 0} → UpTo → (F → Option (List ℕ)) → List ℕ → Type 0
@@ -125,8 +130,8 @@ IsStored {F} at bytes remaining contents had = (part : VolumePart) × (part.at �
 
 -- the effects of files on the program: none could be read, with this status; these bytes, these bytes to put into a volume of an edition, this
 -- script, this image of a volume of an edition, or this image for `check` was read from a file; such an image was read from a file that will be
--- changed and had this stamp; these bytes were written to a file; this volume was saved in its place, or in some place; the file at some path had this
--- stamp (this project)
+-- changed and had this stamp; these bytes were written to a file; this volume was saved in its place, or in some place; no other volume has a block of
+-- this growth; the file at some path had this stamp (this project)
 pub record HostFiles : Type 1 where
   pub unread : ℕ → Type 0
   pub given : List ℕ → Type 0
@@ -138,6 +143,7 @@ pub record HostFiles : Type 1 where
   pub taken : List ℕ → Type 0
   pub stored : List ℕ → Type 0
   pub saved : List ℕ → Type 0
+  pub alone : Growth → Type 0
   pub stood : Stamp → Type 0
 
 -- the effects of files on a command whose volume begins at this block, from the contracts of reading and writing (std::io::Read and Write)
@@ -154,6 +160,7 @@ host_files at remaining contents had stood =
       taken = IsTaken contents;
       stored = λ bytes. IsStored at bytes remaining contents had;
       saved = λ bytes. (place : ℕ) × IsStored place bytes remaining contents had;
+      alone = IsAlone remaining had;
       stood = stood;
     }
 
@@ -227,6 +234,30 @@ RunsMigrate streams files migration status =
     RunsNothing streams files status
     ⊎ ((image : List ℕ) × (answer : Answer) × files.shown V6 image × Concludes (of_migration image migration) streams answer
     × EndsSaved files.taken answer status)
+
+-- a volume with another number of blocks was saved, if this is no trial: in its place, or as the whole file if the file has nothing else; and the system
+-- reported that some file had the stamp of the volume's file (this project)
+abbrev pub IsResizedSaved : HostFiles → Stamp → Growth → Bool → List ℕ → Type 0
+IsResizedSaved files stamp growth true bytes = Unit {0}
+IsResizedSaved files stamp growth false bytes =
+    (files.stored bytes ⊎ ((has_only stamp growth ≡ true) × files.taken bytes)) × files.stood stamp
+
+-- no other volume has a block that a volume gets, and the volume was saved, if this is no trial (this project)
+abbrev pub SavesResized : HostFiles → Stamp → Growth → Bool → List ℕ → Type 0
+SavesResized files stamp growth is_trial bytes = files.alone growth × IsResizedSaved files stamp growth is_trial bytes
+
+-- the growth of a volume in a file that was read as this image (this project)
+abbrev pub growth_of : VolumeFile → List ℕ → ℕ → Growth
+growth_of volume image blocks = record { at = volume.at; had = blocks_in (length image); gets = blocks }
+
+-- `resize` runs: nothing is done; or the volume in an image, which is read from a file and may be changed, gets so many blocks, and nothing is printed; it
+-- is saved, unless this is a trial (this project)
+abbrev pub RunsResize : Streams → HostFiles → VolumeFile → ℕ → Bool → ℕ → Type 0
+RunsResize streams files volume blocks is_trial status =
+    RunsNothing streams files status
+    ⊎ ((image : List ℕ) × (stamp : Stamp) × (answer : Answer) × files.opened volume.edition image stamp
+    × Concludes (of_resize volume.edition image blocks) streams answer
+    × EndsSaved (SavesResized files stamp (growth_of volume image blocks) is_trial) answer status)
 
 -- a volume is saved in a file, and then its report is printed, on standard error if the system said that the file is standard output; or it isn't
 -- saved, and nothing is printed (this project)
@@ -384,6 +415,16 @@ abbrev pub new_place_at : NewPlace → ℕ
 new_place_at (places.File file) = 0
 new_place_at (places.Part image at) = at
 
+-- a new volume was saved in its place in a file: none of its blocks is another volume's, and the system reported that some file had the stamp of the
+-- volume's file (this project)
+abbrev pub IsMadeAt : HostFiles → Growth → List ℕ → Type 0
+IsMadeAt files place bytes = files.alone place × files.stored bytes × (stamp : Stamp) × files.stood stamp
+
+-- a new volume of `blocks` blocks was saved: in a file that has it alone, or in its place in an existing one (this project)
+abbrev pub made_in : HostFiles → NewPlace → ℕ → List ℕ → Type 0
+made_in files (places.File file) blocks bytes = files.taken bytes
+made_in files (places.Part image at) blocks bytes = IsMadeAt files (record { at = at; had = 0; gets = blocks }) bytes
+
 -- the block that the volume of an invocation begins at (this project)
 abbrev pub volume_at : Invocation → ℕ
 volume_at (invocations.Cat volume node) = volume.at
@@ -393,6 +434,7 @@ volume_at (invocations.Migrate old at new migration) = at
 volume_at (invocations.Identify images form) = 0
 volume_at (invocations.Diff volume other all) = volume.at
 volume_at (invocations.Salvage volume copy) = volume.at
+volume_at (invocations.Resize volume blocks is_trial) = volume.at
 volume_at (invocations.Look volume look) = volume.at
 volume_at (invocations.Change volume change) = volume.at
 volume_at (invocations.Copy volume copying) = volume.at
@@ -413,6 +455,7 @@ Runs streams files status (invocations.Migrate old at new migration) = RunsMigra
 Runs streams files status (invocations.Identify images form) = ⊥
 Runs streams files status (invocations.Diff volume other all) = ⊥
 Runs streams files status (invocations.Salvage volume copy) = RunsSalvage streams files volume.edition copy status
+Runs streams files status (invocations.Resize volume blocks is_trial) = RunsResize streams files volume blocks is_trial status
 Runs streams files status (invocations.Look volume look) = ⊥
 Runs streams files status (invocations.Change volume change) = ⊥
 Runs streams files status (invocations.Copy volume copying) = ⊥

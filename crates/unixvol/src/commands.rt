@@ -1,4 +1,4 @@
-//! `cat`, `get`, `mkfs`, `migrate`, `salvage -n` and `salvage -o`, which print all or nothing: the files they open and save.
+//! `cat`, `get`, `mkfs`, `migrate`, `resize`, `salvage -n` and `salvage -o`, which print all or nothing: the files they open and save.
 ghost use Rattle.std.specs.Prelude.{◌≡◌, ◌≢◌, ◌≤◌, ℕ, Bool, true, List, Option, IfOk, string_bytes};
 ghost use Rattle.std.specs.Io.KnownBytes.{Keeps};
 ghost use Rattle.std.specs.Process.{exit_status};
@@ -12,6 +12,7 @@ use crate::explain::{explain_cat, explain_command_line, finish, tell_fault};
 use crate::host::Surroundings;
 use crate::looks::run_get;
 use crate::read::{read_stamped, read_volume};
+use crate::resize::run_resize;
 use crate::save::{save_made, save_migrated, save_over};
 use crate::subject::Subject;
 use clap::Error;
@@ -100,6 +101,11 @@ fn carry_out<R: ImageFiles + Clock + Eprint + AllocGlobal, O: Sink>(
             migration,
         } => run_migrate(host, old, at, new, migration),
         Invocation::Salvage { volume, copy } => run_salvage(host, output, volume, copy),
+        Invocation::Resize {
+            volume,
+            blocks,
+            is_trial,
+        } => run_resize(host, volume, blocks, is_trial),
         Invocation::Identify { .. }
         | Invocation::Diff { .. }
         | Invocation::Look { .. }
@@ -165,6 +171,7 @@ fn run_migrate<R: ImageFiles + Clock + Eprint + AllocGlobal>(
 {
     let volume = VolumeFile {
         edition: Edition::V6,
+        is_any: false,
         image: old,
         at,
     };

@@ -250,6 +250,9 @@ fn pack_of<R: ImageFiles + Eprint + AllocGlobal>(
         Err(PackFault::Unread(why)) => {
             Err(explain_unread(host, NamedFile::File(path), reason_of(why)))
         }
+        Err(PackFault::Short) => {
+            Err(explain_unread(host, NamedFile::File(path), reason_of(None)))
+        }
         Err(PackFault::NoMemory) => Err(explain_no_memory_for(host, path)),
     }
 }

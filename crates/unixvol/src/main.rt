@@ -5,6 +5,7 @@ mod changes;
 mod commands;
 mod compare;
 mod copy;
+mod editions;
 mod explain;
 mod guesses;
 mod hints;
@@ -15,9 +16,11 @@ mod looks;
 mod meanings;
 mod mounted;
 mod packed;
+mod place;
 mod read;
 mod replaced;
 mod rescue;
+mod resize;
 mod save;
 mod serve;
 mod sizes;
@@ -47,7 +50,11 @@ fn main(rt: HostRuntime) -> ExitCode {
     let host = Surroundings::new(&rt, words.as_slice(), errors.is_terminal());
     let output = rt.stdout();
     let screen = looks::screen(&rt, output.is_terminal());
-    match command_line::read(rt.alloc(), moment(&rt), words.as_slice()) {
+    let read = match editions::read_settled(&host, moment(&rt), words.as_slice()) {
+        Ok(read) => read,
+        Err(status) => return ExitCode::from(status),
+    };
+    match read {
         Ok(Invocation::Work { volume, work }) => {
             threads::run_to_end(&host, screen, output, errors, volume, work)
         }

@@ -107,8 +107,38 @@ fn unread_meaning(
             let member = shown(alloc, "this member")?;
             meaning(alloc, member, STORED_SPARSE)
         }
+        (Verb::Resize, _) => needs_meaning(alloc, lines, subject),
         _ => Ok(None),
     }
+}
+
+/// Returns the meaning of a volume that can't have fewer blocks: the last block that a file uses.
+fn needs_meaning(
+    alloc: Global,
+    lines: &[u8],
+    subject: Subject<'_>,
+) -> Result<Option<String>, AllocError> {
+    let Some(needed) = needed_in(lines) else {
+        return Ok(None);
+    };
+    let image = shown(alloc, subject.image)?;
+    let number = edition_number(subject.edition);
+    let last = needed.saturating_sub(1);
+    let place = match subject.at {
+        0 => String::new(alloc),
+        at => format!(in alloc; " --at {at}")?,
+    };
+    let text = format!(in alloc;
+        "{image}: block {last} is the last one that a file uses; `unixvol block {number} {image} {last}{place}` says which"
+    )?;
+    Ok(Some(text))
+}
+
+/// Returns the number of blocks in the line that says that a volume needs so many.
+fn needed_in(lines: &[u8]) -> Option<u32> {
+    let text = str::from_utf8(lines).ok()?;
+    let more = text.strip_prefix("unixvol: it needs ")?;
+    more.strip_suffix(" blocks\n")?.parse().ok()
 }
 
 /// True if a line says that a member is a sparse file.

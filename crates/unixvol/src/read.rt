@@ -286,7 +286,7 @@ pub fn begin<
 }
 
 /// Reads the image to change, and returns it with its stamp. If it can't be read, or may not be changed, prints the fault and returns the status.
-fn read_image<R: ImageFiles + Clock + Eprint + AllocGlobal>(
+pub fn read_image<R: ImageFiles + Clock + Eprint + AllocGlobal>(
     host: &Surroundings<'_, R>,
     volume: VolumeFile<'_>,
 ) -> Result<(ReadFile<R::File>, Stamp), u8>

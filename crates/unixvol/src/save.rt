@@ -135,7 +135,7 @@ fn save_made_part<R: ImageFiles + Clock + Eprint + AllocGlobal>(
     volume: &BlankVolume,
     status: u8,
 ) -> u8
-    ensures { SavesMade (IsMadeAt place R.File.remaining R.File.contents R.had R.stood) volume.now status result }
+    ensures { SavesMade (IsMadeAt (host_files place.at R.File.remaining R.File.contents R.had R.stood) place) volume.now status result }
 {
     let (_locked, stamp) = match open_made(host, image) {
         Ok(opened) => opened,

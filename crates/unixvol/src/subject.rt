@@ -58,6 +58,9 @@ impl<'a> Subject<'a> {
             Invocation::Salvage { volume, .. } => {
                 Some(Subject::new(*volume, Verb::Salvage, About::Image))
             }
+            Invocation::Resize { volume, .. } => {
+                Some(Subject::new(*volume, Verb::Resize, About::Image))
+            }
             Invocation::Mkfs { place, volume } => Some(Subject::of_new(*place, volume.edition)),
             Invocation::Migrate { old, at, new, .. } => Some(Subject {
                 verb: Verb::Migrate,

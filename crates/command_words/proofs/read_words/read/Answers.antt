@@ -113,6 +113,10 @@ pub returns-in-Touch-clause-refused : goal.returns-in-Touch-clause-refused
 returns-in-Touch-clause-refused g c =
     rw c.in-Touch.is (refuses_value c.args.clock verbs.Touch (g.G.Given.words c.args.given.now) c.read_touch.result c.read_touch.ensures.refused)
 
+pub returns-in-Resize-clause-refused : goal.returns-in-Resize-clause-refused
+returns-in-Resize-clause-refused g c =
+    rw c.in-Resize.is (refuses_value c.args.clock verbs.Resize (g.G.Given.words c.args.given.now) c.read_resize.result c.read_resize.ensures.refused)
+
 pub returns-in-Salvage-clause-refused : goal.returns-in-Salvage-clause-refused
 returns-in-Salvage-clause-refused g c =
     rw c.in-Salvage.is (refuses_value c.args.clock verbs.Salvage (g.G.Given.words c.args.given.now) c.read_salvage.result c.read_salvage.ensures.refused)

@@ -11,7 +11,7 @@ use Rattle.command_words.specs.declared.verbs.Verb.TheVariants as verbs
 use Rattle.command_words.proofs.verbs.Verb.of.Goals as goal
 
 -- a property of each command in the list is one of each command
-each : (text : List ℕ) → AllWithin (λ (verb : Verb). text ≢ verb_name verb) all_verbs 0 34 → (verb : Verb) → text ≢ verb_name verb
+each : (text : List ℕ) → AllWithin (λ (verb : Verb). text ≢ verb_name verb) all_verbs 0 35 → (verb : Verb) → text ≢ verb_name verb
 each text none verbs.Cat = none 0 verbs.Cat (omega arith) (omega arith)
 each text none verbs.Ls = none 1 verbs.Cat (omega arith) (omega arith)
 each text none verbs.Get = none 2 verbs.Cat (omega arith) (omega arith)
@@ -42,10 +42,11 @@ each text none verbs.Chmod = none 26 verbs.Cat (omega arith) (omega arith)
 each text none verbs.Chown = none 27 verbs.Cat (omega arith) (omega arith)
 each text none verbs.Touch = none 28 verbs.Cat (omega arith) (omega arith)
 each text none verbs.Salvage = none 29 verbs.Cat (omega arith) (omega arith)
-each text none verbs.Play = none 30 verbs.Cat (omega arith) (omega arith)
-each text none verbs.Migrate = none 31 verbs.Cat (omega arith) (omega arith)
-each text none verbs.Serve = none 32 verbs.Cat (omega arith) (omega arith)
-each text none verbs.Identify = none 33 verbs.Cat (omega arith) (omega arith)
+each text none verbs.Resize = none 30 verbs.Cat (omega arith) (omega arith)
+each text none verbs.Play = none 31 verbs.Cat (omega arith) (omega arith)
+each text none verbs.Migrate = none 32 verbs.Cat (omega arith) (omega arith)
+each text none verbs.Serve = none 33 verbs.Cat (omega arith) (omega arith)
+each text none verbs.Identify = none 34 verbs.Cat (omega arith) (omega arith)
 
 pub returns-clause-none : goal.returns-clause-none
 returns-clause-none c none =

@@ -106,11 +106,18 @@ pub const MKFS_MORE: &str = "\
 Examples:
   unixvol mkfs 6 disk.img 4000 100 0 0 173750400
   unixvol mkfs --new 6 disk.img rk05
+  unixvol mkfs 7 pack.img 9000 --at 18392
 
 IMAGE is made or replaced only if the volume was made: a new file is written beside it and then takes its place,
 with its permissions. An existing file is replaced without asking, whatever it holds; if standard error is a
 terminal, a line says what it held. With --new nothing is written if something already has this path. If IMAGE is
 a device or a pipe, the bytes are written into it.
+
+With --at the volume is made in IMAGE from block BLOCK on, and every other byte of IMAGE stays: a new file with them
+is written beside it and takes its place, with holes if it had some. IMAGE must be a regular file that has all these
+blocks; it never becomes longer. No other volume may have one of them: they are searched for as `unixvol identify`
+does. A volume that begins at BLOCK itself is replaced without asking, and no line says what it held. The whole volume
+is in memory meanwhile. --at doesn't go together with --new.
 
 The root directory has permissions 0777. Its size is 32, for `.` and `..`. All other data blocks are free.
 
@@ -132,7 +139,9 @@ Status:
   1  `unixvol: bounds`: no volume of this edition has these sizes
      `unixvol: 104 BadId`: UID or GID is above the edition's highest
   2  the command line is wrong
-  3  `unixvol: cannot write IMAGE`; with --new, also if something already has this path
+  3  `unixvol: cannot write IMAGE`; with --new, also if something already has this path; with --at, also if IMAGE
+     doesn't exist, ends before the volume would, or has another volume there
+     `unixvol: cannot read IMAGE`: with --at, if it can't be searched
   4  `unixvol: 12 NoMemory`";
 
 pub const UNREPLACED: &str = "Write nothing if something already has this path";

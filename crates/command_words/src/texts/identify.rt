@@ -3,8 +3,9 @@
 pub const ABOUT: &str = "Guesses what images are whose edition isn't known.";
 
 pub const MORE: &str = "\
-Example:
+Examples:
   unixvol identify pack.img other.img
+  unixvol identify --json *.img
 
 Each image has a line: its path, and what it looks like. That is a guess by a few bytes; nothing is changed. All
 other commands must be told the edition. A file in which a volume begins after block 0 is a pack, and has lines:
@@ -37,6 +38,20 @@ A regular file is searched for volumes to its end; then each volume is read, one
 268435456 bytes; or, if a volume may begin them, by that volume and one block more. If the bytes after them could
 change the guess, its line ends with `, by its first 268435456 bytes`. All lines of an image are printed before
 the next one is read.
+
+With --json each image is one object on a line:
+
+  bytes    the size of a regular file; null of another
+  file     the path, as it was given
+  format   1
+  guess    pack, volume, empty, tar, ext2, swapped, cut, inside, unknown; or gzip, bzip2, xz, zstd, zip
+  parts    of a pack all that it has, in order; else the volume that the guess names, if it names one
+  read     the number of bytes that the guess is by; null of a pack, which was read to its end
+
+A part that is a volume has block, blocks, edition, and, if it was judged, sound, rule (the first that it breaks, or
+null) and command, in which a shell's quotes are round a path that needs them. Any other part has block, blocks and
+zeros, which is true if all its bytes are. A file without a line has an object with fault, file and format: the
+fault is `cannot read` or `12 NoMemory`.
 
 Status, the greatest if there are several:
   0  all images were read

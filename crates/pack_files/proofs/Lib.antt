@@ -1,1 +1,2 @@
 pub mod JudgedPacks
+pub mod ListedVolumes

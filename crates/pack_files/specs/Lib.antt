@@ -1,3 +1,4 @@
+pub mod Catalogued
 pub mod OtherVolumes
 pub mod PackFiles
 pub mod Verdicts

@@ -78,7 +78,7 @@ fn opened_pack<R: ImageFiles + AllocGlobal>(
 }
 
 /// True if a stamp is that of a regular file.
-fn is_regular(stamp: Stamp) -> bool
+pub(crate) fn is_regular(stamp: Stamp) -> bool
     ensures { result ≡ is_regular stamp.kind }
 {
     matches!(stamp.kind, FileKind::Regular)

@@ -21,7 +21,9 @@ mod reword;
 
 use builder::Builder;
 use clap_words::ClapWords;
-pub use command_words::{Copying, Invocation, MadeFile, NewPlace, Serving, VolumeFile, Work};
+pub use command_words::{
+    Copying, GuessForm, Invocation, MadeFile, NewPlace, Serving, VolumeFile, Work,
+};
 pub use explain::asks_to_explain;
 pub use reword::reworded;
 

@@ -1,5 +1,5 @@
 pub mod Copies
-pub mod MkfsWords
+pub mod ExcludedWords
 pub mod Faults
 pub mod FileWords
 pub mod Moments

@@ -17,6 +17,8 @@ use Rattle.command_words.specs.declared.parameters.WordKind.{WordKind}
 use Rattle.command_words.specs.declared.parameters.WordKind.TheVariants as kinds
 use Rattle.command_words.specs.declared.invocation.Copying.{Copying}
 use Rattle.command_words.specs.declared.invocation.Copying.TheVariants as copies
+use Rattle.command_words.specs.declared.invocation.GuessForm.{GuessForm}
+use Rattle.command_words.specs.declared.invocation.GuessForm.TheVariants as guesses
 use Rattle.command_words.specs.declared.invocation.Invocation.{Invocation}
 use Rattle.command_words.specs.declared.invocation.Invocation.TheVariants as invocations
 use Rattle.command_words.specs.declared.invocation.MadeFile.{MadeFile}
@@ -366,6 +368,16 @@ abbrev pub IsFormGiven : Words → OutputForm → Type 0
 IsFormGiven given forms.Text = is_set (given (codes "json")) ≡ false
 IsFormGiven given forms.Json = is_set (given (codes "json")) ≡ true
 
+-- the words choose this format of guesses: JSON or a catalogue if its option is given, but not both (this project)
+abbrev pub IsGuessFormGiven : Words → GuessForm → Type 0
+IsGuessFormGiven given guesses.Lines = (is_set (given (codes "json")) ≡ false) × (is_set (given (codes "csv")) ≡ false)
+IsGuessFormGiven given guesses.Json = (is_set (given (codes "json")) ≡ true) × (is_set (given (codes "csv")) ≡ false)
+IsGuessFormGiven given guesses.Catalogue = (is_set (given (codes "json")) ≡ false) × (is_set (given (codes "csv")) ≡ true)
+
+-- the words ask for both (this project)
+abbrev pub AreTwoFormsGiven : Words → Type 0
+AreTwoFormsGiven given = (is_set (given (codes "json")) ≡ true) × (is_set (given (codes "csv")) ≡ true)
+
 -- the words choose this format of a picture of the blocks: SVG if its option is given (this project)
 abbrev pub IsPictureGiven : Words → Picture → Type 0
 IsPictureGiven given pictures.Cells = is_set (given (codes "svg")) ≡ false
@@ -502,7 +514,7 @@ IsGiven clock given (invocations.Work volume work) = IsVolumeGiven given volume 
 IsGiven clock given (invocations.Serve volume serving) = IsVolumeGiven given volume × IsServingGiven given serving
 IsGiven clock given (invocations.Diff volume other all) = IsVolumeGiven given volume × (other.now ≡ the_word given (codes "OTHER"))
     × (all ≡ is_set (given (codes "all"))) × (is_set (given (codes "fields")) ≡ true)
-IsGiven clock given (invocations.Identify images form) = (map (λ image. image.now) images.items ≡ given (codes "IMAGE")) × IsFormGiven given form
+IsGiven clock given (invocations.Identify images form) = (map (λ image. image.now) images.items ≡ given (codes "IMAGE")) × IsGuessFormGiven given form
 
 -- the command, with the words for its arguments, is read as this invocation (this project)
 abbrev pub AsksFor : Option ℕ → Verb → Words → Invocation → Type 0

@@ -39,6 +39,17 @@ pub enum NewPlace<'a> {
     Part { image: &'a str, at: u32 },
 }
 
+/// The format of guesses.
+#[derive(Clone, Copy, PartialEq, Eq)]
+pub enum GuessForm {
+    /// Lines.
+    Lines,
+    /// JSON.
+    Json,
+    /// A catalogue of volumes, as comma-separated values.
+    Catalogue,
+}
+
 /// Work on a volume with several threads.
 #[derive(Drop)]
 pub enum Work<'a> {
@@ -166,7 +177,7 @@ pub enum Invocation<'a> {
     /// Guess what the images in these files are, in this format.
     Identify {
         images: Vec<&'a str>,
-        form: OutputForm,
+        form: GuessForm,
     },
 }
 

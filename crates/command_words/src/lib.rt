@@ -5,6 +5,7 @@ mod decimal;
 mod disks;
 pub mod fault;
 pub mod given;
+mod identify_words;
 pub mod invocation;
 mod mkfs_words;
 mod moment;
@@ -18,7 +19,9 @@ pub mod verbs;
 
 pub use fault::{Said, WordFault, WrongWord};
 pub use given::Given;
-pub use invocation::{Copying, Invocation, MadeFile, Moment, NewPlace, Serving, VolumeFile, Work};
+pub use invocation::{
+    Copying, GuessForm, Invocation, MadeFile, Moment, NewPlace, Serving, VolumeFile, Work,
+};
 pub use parameters::{Need, Parameter, ValueName, WordKind};
 pub use read_words::read;
 pub use verbs::{VERBS, Verb};

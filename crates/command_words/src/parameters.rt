@@ -1,5 +1,8 @@
 //! The words that commands take.
+mod identify;
+
 use crate::texts;
+pub use identify::IDENTIFY_WORDS;
 
 /// The kind of words that an argument takes.
 #[derive(Clone, Copy)]
@@ -564,7 +567,7 @@ const PARENTS: Parameter = Parameter {
     help: texts::PARENTS,
 };
 
-const JSON: Parameter = Parameter {
+pub(crate) const JSON: Parameter = Parameter {
     name: "json",
     kind: WordKind::Flag,
     need: Need::Flag(None),
@@ -646,13 +649,6 @@ const JOURNAL: Parameter = Parameter {
     kind: WordKind::Flag,
     need: Need::Flag(None),
     help: texts::JOURNAL,
-};
-
-const IMAGES: Parameter = Parameter {
-    name: "IMAGE",
-    kind: WordKind::Text,
-    need: Need::Several,
-    help: texts::identify::IMAGES,
 };
 
 const OLD: Parameter = Parameter {
@@ -750,9 +746,6 @@ pub static MIGRATE_WORDS: [Parameter; 7] = [
 
 /// The words that `serve` takes.
 pub static SERVE_WORDS: [Parameter; 6] = [EDITION, IMAGE, AT, READ_ONLY, MINE, RESCUE];
-
-/// The words of `identify`.
-pub static IDENTIFY_WORDS: [Parameter; 2] = [IMAGES, JSON];
 
 /// The words of `import`.
 pub static IMPORT_WORDS: [Parameter; 7] = [

@@ -11,6 +11,7 @@ use crate::given::{
     owner_in, path_in, permissions_in, radix_in, rescue_in, scripts_in, target_in, text_in,
     threads_in, word_in,
 };
+use crate::identify_words::read_identify;
 use crate::invocation::{Copying, Invocation, MadeFile, Serving, VolumeFile, Work};
 use crate::mkfs_words::read_mkfs;
 use crate::several::{PutFiles, file_in, files_in, no_more, not_empty, nothing_kept, paths_in};
@@ -713,19 +714,6 @@ fn read_serve<'a, G: Given<'a>>(given: &G) -> Result<Invocation<'a>, WordFault<'
         }
     };
     Ok(Invocation::Serve { volume, serving })
-}
-
-/// Reads the words of `identify`.
-fn read_identify<'a, G: Given<'a>>(
-    alloc: Global,
-    given: &G,
-) -> Result<Invocation<'a>, WordFault<'a>>
-    ensures read { IfOk result (AsksFor None verbs.Identify (G.words given.now)) }
-    ensures refused { IfErr result (TellsOf (IsOneWrong None (G.words given.now) (arguments_of verbs.Identify))) }
-{
-    let images = given.all(alloc, "IMAGE")?;
-    let form = form_in(given);
-    Ok(Invocation::Identify { images, form })
 }
 
 /// Reads the edition and the file of the volume, and the block that it begins at.

@@ -11,7 +11,7 @@ ghost use Rattle.pack_files.specs.Catalogued.{AreListed, AreParts, GaveFacts, Is
 
 use crate::judged_packs::{PackFault, blocks_in, is_regular, scanned_parts};
 use host_files::{
-    FrontFault, ImageFiles, MoveFault, Noted, Stamp, UpTo, moved_to, noted_reader, open_stamped,
+    FrontFault, ImageFiles, MoveFault, Stamp, UpTo, moved_to, noted_reader, open_stamped,
     read_up_to,
 };
 use pdp_words::Source;
@@ -99,14 +99,26 @@ fn file_sum<F: Read + Drop>(file: F, size: u64) -> Result<[u8; 32], PackFault>
     ensures { IfOk result (λ sum. (new : F) × (bytes : List ℕ) × Consumes (F.remaining file) (F.remaining new) bytes × (length bytes ≡ size) × (sum ≡ sha256 bytes)) }
 {
     let mut source = noted_reader(file);
-    source_sum(&mut source, size)
+    match source_sum(&mut source, size) {
+        Ok(sum) => Ok(sum),
+        Err(SumFault::Short) => Err(PackFault::Short),
+        Err(SumFault::Device) => Err(PackFault::Unread(source.error())),
+    }
+}
+
+/// The reason why there is no SHA-256 of a source.
+#[derive(Clone, Copy)]
+enum SumFault {
+    /// The source failed.
+    Device,
+    /// The source ended before it had all bytes.
+    Short,
 }
 
 /// Returns the SHA-256 of the next `size` bytes of a source.
-fn source_sum<S: Source>(source: &mut Noted<S>, size: u64) -> Result<[u8; 32], PackFault>
-    requires { ⟦<Noted<S> as Source>⟧.failed source.old ≡ false }
-    ensures { IfOk result (λ sum. (bytes : List ℕ) × Consumes (⟦<Noted<S> as Source>⟧.remaining source.old) (⟦<Noted<S> as Source>⟧.remaining source.new) bytes
-        × (length bytes ≡ size) × (sum ≡ sha256 bytes)) }
+fn source_sum<S: Source>(source: &mut S, size: u64) -> Result<[u8; 32], SumFault>
+    requires { S.failed source.old ≡ false }
+    ensures { IfOk result (λ sum. (bytes : List ℕ) × Consumes (S.remaining source.old) (S.remaining source.new) bytes × (length bytes ≡ size) × (sum ≡ sha256 bytes)) }
 {
     let mut hasher = Sha256::new();
     let mut piece = [0; PIECE];
@@ -114,10 +126,10 @@ fn source_sum<S: Source>(source: &mut Noted<S>, size: u64) -> Result<[u8; 32], P
     'pieces: while left > 0 {
         let room = PIECE.min(left);
         let Ok(count) = source.read(&mut piece[..room]) else {
-            return Err(PackFault::Unread(source.error()));
+            return Err(SumFault::Device);
         };
         if count == 0 {
-            return Err(PackFault::Short);
+            return Err(SumFault::Short);
         }
         hasher.update(&piece[..count]);
         left -= count;

@@ -9,13 +9,13 @@ use Rattle.std.specs.Borrow.{Bor}
 use Rattle.command_faults.specs.Faults.{fault_line}
 use Rattle.command_faults.specs.Streams.{Streams}
 use Rattle.command_faults.specs.declared.fault.Fault.TheVariants.{Output}
-use Rattle.command_reads.specs.declared.looks.OutputForm.{OutputForm}
+use Rattle.command_words.specs.declared.invocation.GuessForm.{GuessForm}
 use Rattle.host_files.specs.declared.image_file.Stamp.{Stamp}
-use Rattle.unixvol.specs.Identify.{AreIdentified, IsLine, RunsIdentify}
+use Rattle.unixvol.specs.Identify.{AreIdentified, IsLine, RunsIdentify, front_of}
 use Rattle.unixvol.specs.Runs.{IsEnd}
 
 -- after the lines of some files, the line of one more
-pub one_more : {F : Type 0} (remaining : F → Option (List ℕ)) (stamped : F → Stamp → Type 0) (stood : Stamp → Type 0) (form : OutputForm) (paths : List (List ℕ)) (path lines line : List ℕ) (read one : ℕ)
+pub one_more : {F : Type 0} (remaining : F → Option (List ℕ)) (stamped : F → Stamp → Type 0) (stood : Stamp → Type 0) (form : GuessForm) (paths : List (List ℕ)) (path lines line : List ℕ) (read one : ℕ)
     → AreIdentified remaining stamped stood form paths lines read → IsLine remaining stamped stood form path line one
     → AreIdentified remaining stamped stood form (paths ++ path ∷ []) (lines ++ line) (max read one)
 one_more remaining stamped stood form [] path lines line read one are is =
@@ -42,14 +42,20 @@ paths_more images k d within =
     take_more (map path_of images) k d.now (omega (arith, within, length-map images path_of))
     ∙ ap (λ path. take k (map path_of images) ++ path ∷ []) (get_or-map path_of images k d d.now within)
 
--- the lines of the first `k` files are printed, with the greatest of their statuses
-pub record ArePrinted {F : Type 0} (remaining : F → Option (List ℕ)) (stamped : F → Stamp → Type 0) (stood : Stamp → Type 0) (form : OutputForm) (images : List (Bor (List ℕ))) (k : ℕ) (old new : Option (List ℕ)) (status : ℕ) : Type 0 where
+-- the lines of the first `k` files are printed after the front, with the greatest of their statuses
+pub record ArePrinted {F : Type 0} (remaining : F → Option (List ℕ)) (stamped : F → Stamp → Type 0) (stood : Stamp → Type 0) (form : GuessForm) (images : List (Bor (List ℕ))) (k : ℕ) (old new : Option (List ℕ)) (status : ℕ) : Type 0 where
   pub lines : List ℕ
   pub are : AreIdentified remaining stamped stood form (take k (map path_of images)) lines status
-  pub whole : Appends old new lines
+  pub whole : Appends old new (front_of form ++ lines)
+
+-- if the front is printed, those of no file are
+pub printed_none : {F : Type 0} (remaining : F → Option (List ℕ)) (stamped : F → Stamp → Type 0) (stood : Stamp → Type 0) (form : GuessForm) (images : List (Bor (List ℕ))) (a b : Option (List ℕ))
+    → Appends a b (front_of form) → ArePrinted remaining stamped stood form images 0 a b 0
+printed_none remaining stamped stood form images a b out =
+    record { lines = []; are = (refl, refl); whole = subst (Appends a b) (sym (append-nil (front_of form))) out }
 
 -- after one more file, those of `k + 1` files are
-pub printed_more : {F : Type 0} (remaining : F → Option (List ℕ)) (stamped : F → Stamp → Type 0) (stood : Stamp → Type 0) (form : OutputForm) (images : List (Bor (List ℕ))) (k : ℕ) (d : Bor (List ℕ)) (a b c : Option (List ℕ)) (status one : ℕ)
+pub printed_more : {F : Type 0} (remaining : F → Option (List ℕ)) (stamped : F → Stamp → Type 0) (stood : Stamp → Type 0) (form : GuessForm) (images : List (Bor (List ℕ))) (k : ℕ) (d : Bor (List ℕ)) (a b c : Option (List ℕ)) (status one : ℕ)
     → k < length images → ArePrinted remaining stamped stood form images k a b status
     → (line : List ℕ) × IsLine remaining stamped stood form (get_or images k d).now line one × Appends b c line
     → ArePrinted remaining stamped stood form images (k + 1) a c (max status one)
@@ -57,7 +63,7 @@ printed_more remaining stamped stood form images k d a b c status one within had
   lines = had.lines ++ line;
   are = subst (λ paths. AreIdentified remaining stamped stood form paths (had.lines ++ line) (max status one)) (sym (paths_more images k d within))
       (one_more remaining stamped stood form (take k (map path_of images)) (get_or images k d).now had.lines line status one had.are is);
-  whole = Appends-trans a b c had.lines line had.whole out;
+  whole = subst (Appends a c) (append_assoc (front_of form) had.lines line) (Appends-trans a b c (front_of form ++ had.lines) line had.whole out);
 }
 
 -- the first bytes of two lists, behind the first one
@@ -67,8 +73,13 @@ take_past xs ys n =
     ∙ (ap (λ t. t ++ take n (drop (length xs) (xs ++ ys))) (take_at xs ys (length xs) refl)
     ∙ ap (λ t. xs ++ take n t) (drop_at xs ys (length xs) refl))
 
+-- if a part of some bytes follows others, so much of both is a part of them
+cut_behind : (a b c : Option (List ℕ)) (xs ys : List ℕ) (count : ℕ) → Appends a b xs → AppendsFront b c ys count → AppendsFront a c (xs ++ ys) (length xs + count)
+cut_behind a b c xs ys count had cut =
+    (omega (arith, length-append xs ys, cut.0), subst (Appends a c) (sym (take_past xs ys count)) (Appends-trans a b c xs (take count ys) had cut.1))
+
 -- if standard output fails at the line of one more file, the run breaks off
-pub breaks_off : {F : Type 0} (remaining : F → Option (List ℕ)) (stamped : F → Stamp → Type 0) (stood : Stamp → Type 0) (form : OutputForm) (images : List (Bor (List ℕ))) (k : ℕ) (d : Bor (List ℕ)) (streams : Streams) (b : Option (List ℕ))
+pub breaks_off : {F : Type 0} (remaining : F → Option (List ℕ)) (stamped : F → Stamp → Type 0) (stood : Stamp → Type 0) (form : GuessForm) (images : List (Bor (List ℕ))) (k : ℕ) (d : Bor (List ℕ)) (streams : Streams) (b : Option (List ℕ))
     (status : ℕ) (line : List ℕ) (count one : ℕ) → k < length images → ArePrinted remaining stamped stood form images k streams.old b status
     → IsLine remaining stamped stood form (get_or images k d).now line one → AppendsFront b streams.new line count → streams.failed ≡ true
     → streams.said (fault_line Output) → RunsIdentify remaining stamped stood streams form (map path_of images) 3
@@ -82,19 +93,35 @@ breaks_off remaining stamped stood form images k d streams b status line count o
       record {
         status = refl;
         front = (
-          length had.lines + count,
-          (
-            omega (arith, length-append had.lines line, cut.0),
-            subst (Appends streams.old streams.new) (sym (take_past had.lines line count)) (Appends-trans streams.old b streams.new had.lines (take count line) had.whole cut.1),
-          ),
+          length (front_of form ++ had.lines) + count,
+          subst (λ text. AppendsFront streams.old streams.new text (length (front_of form ++ had.lines) + count)) (append_assoc (front_of form) had.lines line)
+              (cut_behind streams.old b streams.new (front_of form ++ had.lines) line count had.whole cut),
         );
         broken = broken;
         said = said;
       },
     )
 
+-- if standard output fails before the first line, the run breaks off
+pub breaks_first : {F : Type 0} (remaining : F → Option (List ℕ)) (stamped : F → Stamp → Type 0) (stood : Stamp → Type 0) (form : GuessForm) (paths : List (List ℕ)) (streams : Streams) (count : ℕ)
+    → AppendsFront streams.old streams.new (front_of form) count → streams.failed ≡ true → streams.said (fault_line Output)
+    → RunsIdentify remaining stamped stood streams form paths 3
+breaks_first remaining stamped stood form paths streams count cut broken said =
+    inr (
+      0,
+      [],
+      0,
+      (refl, refl),
+      record {
+        status = refl;
+        front = (count, subst (λ text. AppendsFront streams.old streams.new text count) (sym (append-nil (front_of form))) cut);
+        broken = broken;
+        said = said;
+      },
+    )
+
 -- if the lines of all files are printed, the run is over
-pub printed_all : {F : Type 0} (remaining : F → Option (List ℕ)) (stamped : F → Stamp → Type 0) (stood : Stamp → Type 0) (form : OutputForm) (images : List (Bor (List ℕ))) (k : ℕ) (streams : Streams) (status : ℕ) → length images ≤ k
+pub printed_all : {F : Type 0} (remaining : F → Option (List ℕ)) (stamped : F → Stamp → Type 0) (stood : Stamp → Type 0) (form : GuessForm) (images : List (Bor (List ℕ))) (k : ℕ) (streams : Streams) (status : ℕ) → length images ≤ k
     → ArePrinted remaining stamped stood form images k streams.old streams.new status → streams.failed ≡ streams.had_failed → streams.said []
     → RunsIdentify remaining stamped stood streams form (map path_of images) status
 printed_all remaining stamped stood form images k streams status all had working said =
@@ -107,13 +134,13 @@ printed_all remaining stamped stood form images k streams status all had working
     )
 
 -- the status of a line is at most 4
-line_few : {F : Type 0} (remaining : F → Option (List ℕ)) (stamped : F → Stamp → Type 0) (stood : Stamp → Type 0) (form : OutputForm) (path line : List ℕ) (one : ℕ) → IsLine remaining stamped stood form path line one → one ≤ 4
+line_few : {F : Type 0} (remaining : F → Option (List ℕ)) (stamped : F → Stamp → Type 0) (stood : Stamp → Type 0) (form : GuessForm) (path line : List ℕ) (one : ℕ) → IsLine remaining stamped stood form path line one → one ≤ 4
 line_few remaining stamped stood form path line one (inl told) = omega (arith, told.0)
 line_few remaining stamped stood form path line one (inr (inl three, none)) = omega (arith, three)
 line_few remaining stamped stood form path line one (inr (inr four, none)) = omega (arith, four)
 
 -- so is the greatest of them
-lines_few : {F : Type 0} (remaining : F → Option (List ℕ)) (stamped : F → Stamp → Type 0) (stood : Stamp → Type 0) (form : OutputForm) (paths : List (List ℕ)) (lines : List ℕ) (read : ℕ) → AreIdentified remaining stamped stood form paths lines read → read ≤ 4
+lines_few : {F : Type 0} (remaining : F → Option (List ℕ)) (stamped : F → Stamp → Type 0) (stood : Stamp → Type 0) (form : GuessForm) (paths : List (List ℕ)) (lines : List ℕ) (read : ℕ) → AreIdentified remaining stamped stood form paths lines read → read ≤ 4
 lines_few remaining stamped stood form [] lines read are = omega (arith, are.1)
 lines_few remaining stamped stood form (path ∷ more) lines read (line, one, rest, others, is, are, whole, greatest) =
     let few = line_few remaining stamped stood form path line one is in
@@ -121,7 +148,7 @@ lines_few remaining stamped stood form (path ∷ more) lines read (line, one, re
     omega (arith, greatest, few, rest_few)
 
 -- a run of `identify` ends as that of a command that shows part of an image
-pub ends_identified : {F : Type 0} (remaining : F → Option (List ℕ)) (stamped : F → Stamp → Type 0) (stood : Stamp → Type 0) (form : OutputForm) (streams : Streams) (paths : List (List ℕ)) (status : ℕ)
+pub ends_identified : {F : Type 0} (remaining : F → Option (List ℕ)) (stamped : F → Stamp → Type 0) (stood : Stamp → Type 0) (form : GuessForm) (streams : Streams) (paths : List (List ℕ)) (status : ℕ)
     → RunsIdentify remaining stamped stood streams form paths status → IsEnd streams status
 ends_identified remaining stamped stood form streams paths status (inl (lines, read, are, printed)) =
     let few = lines_few remaining stamped stood form paths lines read are in

@@ -1,12 +1,19 @@
 //! `identify`, which guesses what images are, file after file: each has its line, or the lines of its pack, before the next is read.
-ghost use Rattle.std.specs.Prelude.{◌≡◌, true, List, ℕ, map, Ok, IfErr, IfOk, OnErr, string_bytes};
+ghost use Rattle.std.specs.Prelude.{◌≡◌, true, List, ℕ, map, IfErr, IfOk, OnErr};
 ghost use Rattle.std.specs.Io.KnownBytes.{Appends};
+ghost use Rattle.std.specs.List.{flat_map};
 ghost use Rattle.std.specs.Process.{exit_status};
 ghost use Rattle.command_faults.specs.Streams.{ErrorStream, Hears, streams};
-ghost use Rattle.pdp_words.specs.Devices.{AppendsFront};
-ghost use Rattle.unixvol.specs.Identify.{IdentifiesToEnd, IsImageSeen, IsLine, IsSeen, IsTold, IsUntold, RunsIdentify, size_of};
-ghost use Rattle.pack_files.specs.PackFiles.{GivesPack};
+ghost use Rattle.host_files.specs.declared.image_file.Stamp.{Stamp};
+ghost use Rattle.identify_lines.specs.GuessJson.{seen_json};
+ghost use Rattle.identify_lines.specs.Lines.{seen_lines};
 ghost use Rattle.identify_lines.specs.declared.seen.Seen.{Seen};
+ghost use Rattle.pack_files.specs.PackFiles.{GivesPack};
+ghost use Rattle.pdp_words.specs.Devices.{AppendsFront};
+ghost use Rattle.vol_catalogue.specs.Rows.{row_of};
+ghost use Rattle.vol_catalogue.specs.declared.rows.FileFacts.{FileFacts};
+ghost use Rattle.vol_catalogue.specs.declared.rows.ListedVolume.{ListedVolume};
+ghost use Rattle.unixvol.specs.Identify.{IdentifiesToEnd, IsCatalogued, IsImageSeen, IsLine, IsSeen, IsTold, IsUntold, RunsIdentify, front_of, size_of};
 ghost use Rattle.unixvol.specs.Runs.{IsStatusOfFileOrMemory};
 
 use crate::explain::{
@@ -16,14 +23,14 @@ use crate::guesses::read_to_guess;
 use crate::host::Surroundings;
 use command_faults::status::DONE;
 use command_faults::{Ending, Fault};
-use command_reads::OutputForm;
+use command_line::GuessForm;
 use host_files::{FileKind, ImageFiles, Stamp, noted_writer};
 use identify_lines::{Seen, seen_json, seen_lines, unread_json};
-use pack_files::{PackFault, judged_pack};
+use pack_files::{PackFault, catalogued_file, judged_pack};
 use pdp_words::{IntoWrite, SaveFault, Sink, write_all};
-use std::alloc::AllocError;
 use std::io::Write;
 use std::process::ExitCode;
+use vol_catalogue::{header, rows};
 use vol_identify::{Identified, JudgedPart, identify};
 
 /// Prints a line for each of these files, in this format, and returns the exit code: the greatest of their statuses. A file that can't be read, or for
@@ -32,7 +39,7 @@ pub fn run_to_end<R: ImageFiles + Eprint + AllocGlobal, O: Write + Drop, E: Writ
     host: &Surroundings<'_, R>,
     output: O,
     errors: E,
-    form: OutputForm,
+    form: GuessForm,
     images: &[&str],
 ) -> ExitCode
     ensures { IdentifiesToEnd R.File.remaining R.had R.stood (O.contents output) (E.contents errors) form (map (λ image. image.now) images.now) (exit_status result) }
@@ -48,12 +55,15 @@ pub fn run_to_end<R: ImageFiles + Eprint + AllocGlobal, O: Write + Drop, E: Writ
 fn print_lines<R: ImageFiles + Eprint + AllocGlobal, O: Sink>(
     host: &Surroundings<'_, R>,
     output: &mut O,
-    form: OutputForm,
+    form: GuessForm,
     images: &[&str],
 ) -> Ending
     ensures { (errors : ErrorStream) → Hears errors result.fault
         → RunsIdentify R.File.remaining R.had R.stood (streams O.contents O.failed output.old output.new errors) form (map (λ image. image.now) images.now) result.status }
 {
+    if write_all(output, front_of(form)).is_err() {
+        return Ending::from(Fault::Output);
+    }
     let mut status = DONE;
     'images: for image in images {
         match print_line(host, output, form, image) {
@@ -67,12 +77,22 @@ fn print_lines<R: ImageFiles + Eprint + AllocGlobal, O: Sink>(
     }
 }
 
+/// Returns what is printed before the first line.
+fn front_of(form: GuessForm) -> &'static [u8]
+    ensures { result.now ≡ front_of form }
+{
+    match form {
+        GuessForm::Lines | GuessForm::Json => b"",
+        GuessForm::Catalogue => header(),
+    }
+}
+
 /// Prints the line of a file, or the lines of its pack, and returns its status. If it can't be read, prints the fault too. Fails only if standard output
 /// does.
 fn print_line<R: ImageFiles + Eprint + AllocGlobal, O: Sink>(
     host: &Surroundings<'_, R>,
     output: &mut O,
-    form: OutputForm,
+    form: GuessForm,
     path: &str,
 ) -> Result<u8, SaveFault>
     ensures printed { IfOk result (λ status. (line : List ℕ) × IsLine R.File.remaining R.had R.stood form path.now line status
@@ -81,7 +101,7 @@ fn print_line<R: ImageFiles + Eprint + AllocGlobal, O: Sink>(
         × AppendsFront (O.contents output.old) (O.contents output.new) line count × (O.failed output.new ≡ true)) }
 {
     let told = told_of(host, form, path);
-    write_all(output, told.line.as_bytes())?;
+    write_all(output, &told.line)?;
     Ok(told.status)
 }
 
@@ -89,7 +109,7 @@ fn print_line<R: ImageFiles + Eprint + AllocGlobal, O: Sink>(
 #[derive(Drop)]
 struct ToldFile {
     /// The line or lines.
-    line: String,
+    line: Vec<u8>,
     /// The status.
     status: u8,
 }
@@ -97,10 +117,10 @@ struct ToldFile {
 /// Returns the line of a file, or the lines of its pack. If it can't be read, prints the fault too.
 fn told_of<R: ImageFiles + Eprint + AllocGlobal>(
     host: &Surroundings<'_, R>,
-    form: OutputForm,
+    form: GuessForm,
     path: &str,
 ) -> ToldFile
-    ensures { IsLine R.File.remaining R.had R.stood form path.now (string_bytes result.line) result.status }
+    ensures { IsLine R.File.remaining R.had R.stood form path.now result.line.items result.status }
 {
     match line_text(host, form, path) {
         Ok(line) => ToldFile { line, status: DONE },
@@ -111,62 +131,112 @@ fn told_of<R: ImageFiles + Eprint + AllocGlobal>(
 /// Returns the line of a file that wasn't read, with this status, or the status of memory if there is too little for the line.
 fn untold<R: Eprint + AllocGlobal>(
     host: &Surroundings<'_, R>,
-    form: OutputForm,
+    form: GuessForm,
     path: &str,
     status: u8,
 ) -> ToldFile
     requires { IsStatusOfFileOrMemory status }
     ensures status { IsStatusOfFileOrMemory result.status }
-    ensures line { IsUntold form path.now result.status (string_bytes result.line) }
+    ensures line { IsUntold form path.now result.status result.line.items }
 {
     let alloc = host.rt.alloc();
     match form {
-        OutputForm::Text => ToldFile {
-            line: String::new(alloc),
+        GuessForm::Lines | GuessForm::Catalogue => ToldFile {
+            line: Vec::new(alloc),
             status,
         },
-        OutputForm::Json => match unread_json(alloc, path, status) {
-            Ok(line) => ToldFile { line, status },
+        GuessForm::Json => match unread_json(alloc, path, status) {
+            Ok(line) => ToldFile {
+                line: line.into_bytes(),
+                status,
+            },
             Err(_) => ToldFile {
-                line: String::new(alloc),
+                line: Vec::new(alloc),
                 status: explain_no_memory_for(host, path),
             },
         },
     }
 }
 
-/// Returns the line of what a file seems to be, or the lines of its pack. If it can't be read, prints the fault and returns the status.
+/// Returns the line or lines of a file. If it can't be read, prints the fault and returns the status.
 fn line_text<R: ImageFiles + Eprint + AllocGlobal>(
     host: &Surroundings<'_, R>,
-    form: OutputForm,
+    form: GuessForm,
     path: &str,
-) -> Result<String, u8>
-    ensures line { IfOk result (λ line. (seen : Seen) × IsSeen R.File.remaining R.had R.stood seen × IsTold R.stood form path.now seen (string_bytes line)) }
+) -> Result<Vec<u8>, u8>
+    ensures line { IfOk result (λ line. IsTold R.File.remaining R.had R.stood form path.now line.items) }
     ensures fault { IfErr result IsStatusOfFileOrMemory }
 {
-    let seen = see(host, path)?;
     match form {
-        OutputForm::Text => made_line(host, path, seen_lines(host.rt.alloc(), path, &seen)),
-        OutputForm::Json => {
-            let stamp = stamp_at(host, path)?;
-            let line = seen_json(host.rt.alloc(), path, size_of(stamp), &seen);
-            made_line(host, path, line)
-        }
+        GuessForm::Lines => guess_lines(host, path),
+        GuessForm::Json => guess_json(host, path),
+        GuessForm::Catalogue => catalogue_rows(host, path),
     }
 }
 
-/// Returns a line that was made, or prints that memory ran out for a file and returns the status.
-fn made_line<R: Eprint + AllocGlobal>(
+/// Returns the line of what a file seems to be, or the lines of its pack. If it can't be read, prints the fault and returns the status.
+fn guess_lines<R: ImageFiles + Eprint + AllocGlobal>(
     host: &Surroundings<'_, R>,
     path: &str,
-    made: Result<String, AllocError>,
-) -> Result<String, u8>
-    ensures line { IfOk result (λ line. made.entry ≡ Ok line) }
+) -> Result<Vec<u8>, u8>
+    ensures line { IfOk result (λ line. (seen : Seen) × IsSeen R.File.remaining R.had R.stood seen × (line.items ≡ seen_lines path.now seen)) }
     ensures fault { IfErr result IsStatusOfFileOrMemory }
 {
-    match made {
-        Ok(line) => Ok(line),
+    let seen = see(host, path)?;
+    match seen_lines(host.rt.alloc(), path, &seen) {
+        Ok(lines) => Ok(lines.into_bytes()),
         Err(_) => Err(explain_no_memory_for(host, path)),
+    }
+}
+
+/// Returns the JSON of what a file seems to be, on a line. If it can't be read, prints the fault and returns the status.
+fn guess_json<R: ImageFiles + Eprint + AllocGlobal>(
+    host: &Surroundings<'_, R>,
+    path: &str,
+) -> Result<Vec<u8>, u8>
+    ensures line { IfOk result (λ line. (seen : Seen) × IsSeen R.File.remaining R.had R.stood seen × (stamp : Stamp) × R.stood stamp
+        × (line.items ≡ seen_json path.now (size_of stamp) seen)) }
+    ensures fault { IfErr result IsStatusOfFileOrMemory }
+{
+    let seen = see(host, path)?;
+    let stamp = stamp_at(host, path)?;
+    match seen_json(host.rt.alloc(), path, size_of(stamp), &seen) {
+        Ok(line) => Ok(line.into_bytes()),
+        Err(_) => Err(explain_no_memory_for(host, path)),
+    }
+}
+
+/// Returns the rows of the volumes of a file. If it can't be read, prints the fault and returns the status.
+fn catalogue_rows<R: ImageFiles + Eprint + AllocGlobal>(
+    host: &Surroundings<'_, R>,
+    path: &str,
+) -> Result<Vec<u8>, u8>
+    ensures rows { IfOk result (λ rows. (file : FileFacts) × (volumes : List ListedVolume) × IsCatalogued R.File.remaining R.had file volumes
+        × (rows.items ≡ flat_map (row_of path.now file) volumes)) }
+    ensures fault { IfErr result IsStatusOfFileOrMemory }
+{
+    let found = match catalogued_file(host.rt, path) {
+        Ok(found) => found,
+        Err(fault) => return Err(explain_pack_fault(host, path, fault)),
+    };
+    match rows(host.rt.alloc(), path, found.file, &found.volumes) {
+        Ok(rows) => Ok(rows),
+        Err(_) => Err(explain_no_memory_for(host, path)),
+    }
+}
+
+/// Prints that a file can't be searched for volumes, and returns the status.
+fn explain_pack_fault<R: Eprint + AllocGlobal>(
+    host: &Surroundings<'_, R>,
+    path: &str,
+    fault: PackFault,
+) -> u8
+    ensures { IsStatusOfFileOrMemory result }
+{
+    match fault {
+        PackFault::Unread(why) => explain_unread(host, NamedFile::File(path), reason_of(why)),
+        PackFault::Short => explain_unread(host, NamedFile::File(path), reason_of(None)),
+        PackFault::NoMemory => explain_no_memory_for(host, path),
     }
 }
 
@@ -247,12 +317,6 @@ fn pack_of<R: ImageFiles + Eprint + AllocGlobal>(
 {
     match judged_pack(host.rt, path) {
         Ok(pack) => Ok(pack),
-        Err(PackFault::Unread(why)) => {
-            Err(explain_unread(host, NamedFile::File(path), reason_of(why)))
-        }
-        Err(PackFault::Short) => {
-            Err(explain_unread(host, NamedFile::File(path), reason_of(None)))
-        }
-        Err(PackFault::NoMemory) => Err(explain_no_memory_for(host, path)),
+        Err(fault) => Err(explain_pack_fault(host, path, fault)),
     }
 }

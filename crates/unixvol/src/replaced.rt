@@ -1,7 +1,4 @@
 //! The contents of a file before it is replaced.
-ghost use Rattle.std.specs.Prelude.{◌≤◌};
-ghost use Rattle.vol_layout.specs.Geometry.{Fits};
-
 use crate::host::Surroundings;
 use crate::meanings::shown;
 use command_faults::status::DONE;
@@ -9,8 +6,8 @@ use host_files::{FileKind, ImageFiles, UpTo, noted_reader, read_up_to};
 use pdp_words::Image;
 use std::alloc::AllocError;
 use std::fs;
+use vol_catalogue::file_count;
 use vol_findings::edition_number;
-use vol_layout::i_list::kind;
 use vol_layout::{Edition, Geometry};
 use vol_volume::judge;
 
@@ -89,29 +86,6 @@ fn volume_in<R: AllocGlobal>(
         is_sound,
         files,
     }))
-}
-
-/// Returns the number of regular files in a volume.
-fn file_count(image: &Image, geometry: &Geometry) -> u16
-    requires { Fits geometry.now image.now }
-    ensures { result ≤ geometry.now.last_inode }
-{
-    let mut count = 0;
-    for before in 0..geometry.last_inode {
-        if is_file(image, geometry, before + 1) {
-            count += 1;
-        }
-    }
-    count
-}
-
-/// True if i-node `i` is a regular file.
-fn is_file(image: &Image, geometry: &Geometry, i: u16) -> bool
-    requires fits { Fits geometry.now image.now }
-    requires first { 1 ≤ i }
-    requires last { i ≤ geometry.now.last_inode }
-{
-    matches!(kind(image, geometry, i), vol_layout::Kind::Regular)
 }
 
 /// Prints the old contents of a file, if the status says that the file was replaced, and if the contents are available.

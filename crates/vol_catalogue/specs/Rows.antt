@@ -10,9 +10,7 @@ use Rattle.vol_catalogue.specs.declared.rows.ListedVolume.{ListedVolume}
 
 -- the first row, which names the columns (RFC 4180)
 abbrev pub header_row : List ℕ
-header_row =
-    row_text default_writer (codes "file" ∷ codes "bytes" ∷ codes "sha256" ∷ codes "block" ∷ codes "edition" ∷ codes "blocks" ∷ codes "free_blocks" ∷ codes "files"
-    ∷ codes "verdict" ∷ codes "time" ∷ [])
+header_row = codes "file,bytes,sha256,block,edition,blocks,free_blocks,files,verdict,time\n"
 
 -- the verdict on a volume: `sound`, or the first rule that it breaks (this project)
 abbrev pub verdict_text : Option ℕ → List ℕ

@@ -53,11 +53,20 @@ null) and command, in which a shell's quotes are round a path that needs them. A
 zeros, which is true if all its bytes are. A file without a line has an object with fault, file and format: the
 fault is `cannot read` or `12 NoMemory`.
 
+With --csv a catalogue is printed, as a table of comma-separated values (RFC 4180, with a newline after each row): a
+row of headings, then one for each volume of each image: file, bytes, sha256 (of the whole file), block, edition,
+blocks, free_blocks (up to the first fault of the free list), files, verdict (`sound`, or `rule R` for the first that
+it breaks) and time (of its last change, in universal time). free_blocks, files and time are empty if rule 1 or 2 is
+broken. An image without a volume has no row. All must be regular files: each is read to its end twice, and then
+each volume once more; one volume at a time is in memory.
+
 Status, the greatest if there are several:
   0  all images were read
   2  the command line is wrong
   3  `unixvol: cannot read IMAGE`: the others were read; or `unixvol: cannot write -`: standard output failed, and
      the images after that line weren't read
   4  `unixvol: 12 NoMemory: IMAGE`: the others were read";
+
+pub const CSV: &str = "Print a catalogue of volumes, as comma-separated values; not with --json";
 
 pub const IMAGES: &str = "The disk images, one or more";

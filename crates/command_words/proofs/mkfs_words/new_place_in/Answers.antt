@@ -1,7 +1,7 @@
 -- A place in a file is one in a file that exists, at a block whose word is a number.
 use Rattle.std.proofs.Common.{sym}
 use Rattle.command_words.proofs.Faults.{hands_on}
-use Rattle.command_words.proofs.MkfsWords.{in_new_file, no_block}
+use Rattle.command_words.proofs.ExcludedWords.{in_new_file, no_block}
 use Rattle.command_words.proofs.mkfs_words.new_place_in.Goals as goal
 
 pub returns-in_err-not_new-in-Some-clause-refused : goal.returns-in_err-not_new-in-Some-clause-refused

@@ -1,6 +1,6 @@
 -- If the numbers or the place of a new volume aren't valid, the words of `mkfs` mean nothing.
 use Rattle.command_words.proofs.Faults.{hands_on}
-use Rattle.command_words.proofs.MkfsWords.{place_wrong}
+use Rattle.command_words.proofs.ExcludedWords.{place_wrong}
 use Rattle.command_words.proofs.Values.{no_value}
 use Rattle.command_words.specs.declared.verbs.Verb.TheVariants as verbs
 use Rattle.command_words.proofs.mkfs_words.read_mkfs.Goals as goal

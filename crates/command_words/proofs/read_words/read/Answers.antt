@@ -134,5 +134,4 @@ returns-in-Serve-clause-refused g c =
     rw c.in-Serve.is (refuses_value c.args.clock verbs.Serve (g.G.Given.words c.args.given.now) c.read_serve.result c.read_serve.ensures.refused)
 
 pub returns-in-Identify-clause-refused : goal.returns-in-Identify-clause-refused
-returns-in-Identify-clause-refused g c =
-    rw c.in-Identify.is (refuses_value c.args.clock verbs.Identify (g.G.Given.words c.args.given.now) c.read_identify.result c.read_identify.ensures.refused)
+returns-in-Identify-clause-refused g c = rw c.in-Identify.is (c.read_identify.ensures.refused c.args.clock)

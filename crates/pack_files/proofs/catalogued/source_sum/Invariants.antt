@@ -6,9 +6,9 @@ use Rattle.pack_files.proofs.catalogued.source_sum.Given as goal
 
 abbrev pub invariant-pieces : goal.invariant-pieces
 invariant-pieces g l = record {
-  read : (bytes : List ℕ) × Consumes (g.S.Source.remaining l.initial.source.device) (g.S.Source.remaining l.source.device) bytes
+  read : (bytes : List ℕ) × Consumes (g.S.Source.remaining l.initial.source) (g.S.Source.remaining l.source) bytes
       × Holds256 l.hasher bytes × (length bytes + l.left ≡ l.size);
-  working : g.S.Source.failed l.source.device ≡ false;
+  working : g.S.Source.failed l.source ≡ false;
 }
 
 abbrev pub decreases-pieces : goal.decreases-pieces

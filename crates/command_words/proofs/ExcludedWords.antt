@@ -1,0 +1,126 @@
+-- Words that ask for what excludes each other: `mkfs` for a place in a file that must not exist, `identify` for JSON and a catalogue.
+use Rattle.std.proofs.Common.{◌≡◌, ◌⊎◌, ◌∙◌, ℕ, Option, None, Bool, true, false, true≢false, Some, List, codes, slice_get, sym, ap, subst, refl, inl, inr}
+use Rattle.std.specs.Borrow.{Bor}
+use Rattle.std.specs.Global.{Vec}
+use Rattle.command_words.specs.Decimal.{IsNumberUpTo}
+use Rattle.command_words.specs.Invocations.{AreTwoFormsGiven, AsksForNothing, IsGiven, IsGuessFormGiven, IsLeftOut, IsNewPlaceGiven, IsNewPlaceWrong, Words, is_set, verb_of}
+use Rattle.command_words.specs.Verbs.{arguments_of}
+use Rattle.command_words.proofs.Moments.{first_number}
+use Rattle.command_words.proofs.Values.{no_value}
+use Rattle.command_words.specs.declared.invocation.Copying.TheVariants as copies
+use Rattle.command_words.specs.declared.invocation.Invocation.{Invocation}
+use Rattle.command_words.specs.declared.invocation.Invocation.TheVariants as invocations
+use Rattle.command_words.specs.declared.invocation.GuessForm.{GuessForm}
+use Rattle.command_words.specs.declared.invocation.GuessForm.TheVariants as forms
+use Rattle.command_words.specs.declared.invocation.NewPlace.{NewPlace}
+use Rattle.command_words.specs.declared.invocation.NewPlace.TheVariants as places
+use Rattle.vol_mkfs.specs.declared.blank.NewVolume.{NewVolume}
+use Rattle.command_words.specs.declared.invocation.Work.TheVariants as works
+use Rattle.command_words.specs.declared.verbs.Verb.{Verb}
+use Rattle.command_words.specs.declared.verbs.Verb.TheVariants as verbs
+use Rattle.command_reads.specs.declared.looks.Look.TheVariants as looks
+use Rattle.vol_check.specs.declared.checker.Checker.TheVariants as checkers
+use Rattle.command_changes.specs.declared.changes.Change.TheVariants as changes
+
+-- true if the command is `mkfs`
+is_mkfs : Verb → Bool
+is_mkfs verbs.Mkfs = true
+is_mkfs _ = false
+
+-- true if the command is `identify`
+is_identify : Verb → Bool
+is_identify verbs.Identify = true
+is_identify _ = false
+
+-- an invocation is one of `mkfs` or one of `identify`, or its command is neither
+abbrev IsChosen : Invocation → Type 0
+IsChosen invocation =
+    ((place : NewPlace) × (volume : NewVolume) × (invocation ≡ invocations.Mkfs place volume))
+    ⊎ (((images : Vec (Bor (List ℕ))) × (form : GuessForm) × (invocation ≡ invocations.Identify images form))
+    ⊎ ((is_mkfs (verb_of invocation) ≡ false) × (is_identify (verb_of invocation) ≡ false)))
+
+chosen : (invocation : Invocation) → IsChosen invocation
+unfolding is_mkfs is_identify
+chosen (invocations.Look volume (looks.List path listing)) = inr (inr (refl, refl))
+chosen (invocations.Look volume (looks.Slots path)) = inr (inr (refl, refl))
+chosen (invocations.Get volume path) = inr (inr (refl, refl))
+chosen (invocations.Change volume (changes.Put p file keep now)) = inr (inr (refl, refl))
+chosen (invocations.Change volume (changes.Import p options now)) = inr (inr (refl, refl))
+chosen (invocations.Change volume (changes.Rm p now)) = inr (inr (refl, refl))
+chosen (invocations.Change volume (changes.RmAll p now)) = inr (inr (refl, refl))
+chosen (invocations.Change volume (changes.Rmdir p now)) = inr (inr (refl, refl))
+chosen (invocations.Change volume (changes.Mkdir p now)) = inr (inr (refl, refl))
+chosen (invocations.Change volume (changes.MkdirAll p now)) = inr (inr (refl, refl))
+chosen (invocations.Change volume (changes.Ln from to now)) = inr (inr (refl, refl))
+chosen (invocations.Change volume (changes.Mv from to now)) = inr (inr (refl, refl))
+chosen (invocations.Change volume (changes.Chmod p perm now)) = inr (inr (refl, refl))
+chosen (invocations.Change volume (changes.Chown p uid gid now)) = inr (inr (refl, refl))
+chosen (invocations.Change volume (changes.Touch p now)) = inr (inr (refl, refl))
+chosen (invocations.Change volume changes.Salvage) = inr (inr (refl, refl))
+chosen (invocations.Copy volume (copies.Put directory files keep now)) = inr (inr (refl, refl))
+chosen (invocations.Copy volume (copies.Get folder paths keeps)) = inr (inr (refl, refl))
+chosen (invocations.Work volume (works.Check checkers.Blocks workers form)) = inr (inr (refl, refl))
+chosen (invocations.Work volume (works.Check checkers.Entries workers form)) = inr (inr (refl, refl))
+chosen (invocations.Work volume (works.Check checkers.Names workers form)) = inr (inr (refl, refl))
+chosen (invocations.Work volume (works.Play scripts journal)) = inr (inr (refl, refl))
+chosen (invocations.Look volume (looks.Export path options)) = inr (inr (refl, refl))
+chosen (invocations.Look volume (looks.Sums path form lost)) = inr (inr (refl, refl))
+chosen (invocations.Look volume (looks.Inode node form)) = inr (inr (refl, refl))
+chosen (invocations.Look volume (looks.Super form)) = inr (inr (refl, refl))
+chosen (invocations.Look volume (looks.Free form)) = inr (inr (refl, refl))
+chosen (invocations.Look volume (looks.Block block)) = inr (inr (refl, refl))
+chosen (invocations.Look volume (looks.Dump target radix)) = inr (inr (refl, refl))
+chosen (invocations.Look volume (looks.Df form)) = inr (inr (refl, refl))
+chosen (invocations.Look volume (looks.Find path name lost)) = inr (inr (refl, refl))
+chosen (invocations.Look volume (looks.Map picture)) = inr (inr (refl, refl))
+chosen (invocations.Look volume (looks.Check graded form)) = inr (inr (refl, refl))
+chosen (invocations.Cat volume node) = inr (inr (refl, refl))
+chosen (invocations.Mkfs place volume) = inl (place, volume, refl)
+chosen (invocations.Migrate old at new migration) = inr (inr (refl, refl))
+chosen (invocations.Salvage volume copy) = inr (inr (refl, refl))
+chosen (invocations.Resize volume blocks is_trial) = inr (inr (refl, refl))
+chosen (invocations.Serve volume serving) = inr (inr (refl, refl))
+chosen (invocations.Diff volume other all) = inr (inr (refl, refl))
+chosen (invocations.Identify images form) = inr (inl (images, form, refl))
+
+-- words for an invocation of `mkfs` in a file that must not exist have no block of a file
+makes : (given : Words) (place : NewPlace) → IsNewPlaceGiven given place → is_set (given (codes "new")) ≡ true → IsLeftOut given (codes "at")
+makes given (places.File file) is new = is.1
+makes given (places.Part image at) is new = absurd (true≢false (sym new ∙ is.2))
+
+-- words for a format of guesses don't ask for JSON and a catalogue
+guesses_one : (given : Words) (form : GuessForm) → IsGuessFormGiven given form → AreTwoFormsGiven given → ⊥
+guesses_one given forms.Lines is both = true≢false (sym both.0 ∙ is.0)
+guesses_one given forms.Json is both = true≢false (sym both.1 ∙ is.1)
+guesses_one given forms.Catalogue is both = true≢false (sym both.0 ∙ is.0)
+
+-- if the word for a block isn't a number, the words for the place aren't valid
+pub no_block : (given : Words) (word : List ℕ) → Some word ≡ slice_get (given (codes "at")) 0 → (IsNumberUpTo 4294967295 word → ⊥) → IsNewPlaceWrong given
+no_block given word first none = inl (λ if_any. none (first_number 4294967295 (given (codes "at")) word first if_any))
+
+-- if there is a word for a block, and the file must not exist, the words for the place aren't valid
+pub in_new_file : (given : Words) (word : List ℕ) → Some word ≡ slice_get (given (codes "at")) 0 → is_set (given (codes "new")) ≡ true → IsNewPlaceWrong given
+in_new_file given word first new = inr (new, λ left. let none : Some word ≡ None = first ∙ left in absurd (cc))
+
+-- if the words for the place of a new volume aren't valid, `mkfs` has no invocation
+pub place_wrong : (clock : Option ℕ) (given : Words) → IsNewPlaceWrong given → AsksForNothing clock verbs.Mkfs given
+unfolding AsksForNothing is_mkfs
+place_wrong clock given (inl wrong) = no_value clock verbs.Mkfs given (inr (inr (inr (inr (inr (inr (inr (inr (inl wrong)))))))))
+place_wrong clock given (inr both) = λ invocation asks. elim (chosen invocation) [
+  | inl of ↦ both.1 (makes given of.0 (subst (IsGiven clock given) of.2 asks.1).0 both.0)
+  | inr other ↦ elim other [
+    | inl of ↦ absurd (true≢false (ap is_mkfs (asks.0 ∙ ap verb_of of.2)))
+    | inr neither ↦ absurd (true≢false (ap is_mkfs asks.0 ∙ neither.0))
+  ]
+]
+
+-- if the words ask for JSON and a catalogue, `identify` has no invocation
+pub two_forms : (clock : Option ℕ) (given : Words) → AreTwoFormsGiven given → AsksForNothing clock verbs.Identify given
+unfolding AsksForNothing is_identify
+two_forms clock given both = λ invocation asks. elim (chosen invocation) [
+  | inl of ↦ absurd (true≢false (ap is_identify (asks.0 ∙ ap verb_of of.2)))
+  | inr other ↦ elim other [
+    | inl of ↦ guesses_one given of.1 (subst (IsGiven clock given) of.2 asks.1).1 both
+    | inr neither ↦ absurd (true≢false (ap is_identify asks.0 ∙ neither.1))
+  ]
+]

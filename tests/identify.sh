@@ -115,6 +115,34 @@ printf '%s\n' 'unixvol: cannot read missing' 'unixvol: cannot read .' > line
 runs identify missing six.img . text
 wants 'two that cannot be read' 3 lines line
 
+# The same as JSON: an object on a line for each, also for one that can't be read.
+{
+    echo '{"bytes":4096,"file":"six.img","format":1,"guess":"volume","parts":[{"block":0,"blocks":8,"command":"unixvol ls 6 six.img","edition":6,"rule":null,"sound":true}],"read":4096}'
+    echo '{"fault":"cannot read","file":"missing","format":1}'
+    echo '{"bytes":6,"file":"text","format":1,"guess":"unknown","parts":[],"read":6}'
+} > lines.json
+echo 'unixvol: cannot read missing' > line
+runs identify --json six.img missing text
+wants 'images as JSON' 3 lines.json line
+# guessed FILE TEXT: the JSON of FILE has this text
+guessed() {
+    runs identify --json "$1"
+    has "the JSON of $1" "0 $2" "$(cat status) $(sed 's/.*"format":1,//; s/}$//' output)"
+}
+dd if=seven.img of=swapped.img conv=swab status=none
+guessed swapped.img '"guess":"swapped","parts":[{"block":0,"blocks":8,"edition":7}],"read":4096'
+head -c 2100 seven.img > cut.img
+guessed cut.img '"guess":"cut","parts":[{"block":0,"blocks":8,"edition":7}],"read":2100'
+guessed packed '"guess":"zip","parts":[],"read":4096'
+guessed zeros '"guess":"empty","parts":[],"read":5000'
+guessed linux.img '"guess":"ext2","parts":[],"read":4096'
+guessed broken.img '"guess":"unknown","parts":[],"read":4096'
+changed seven.img broken.img 1090 03
+guessed broken.img '"guess":"volume","parts":[{"block":0,"blocks":8,"command":"unixvol check 7 broken.img","edition":7,"rule":12,"sound":false}],"read":4096'
+{ head -c 512 /dev/zero | tr '\0' y && cat seven.img; } > pack.img
+cat pack.img | "$program" identify --json /dev/stdin > output 2> error
+has 'the JSON of a pipe' '0 {"bytes":null,"file":"/dev/stdin","format":1,"guess":"inside","parts":[{"block":1,"blocks":8,"edition":7}],"read":4608}' "$? $(cat output error)"
+
 # A guess takes no more memory than its file needs, and each line comes before the next file is read.
 by=', by its first 268435456 bytes'
 looks /dev/zero "looks empty: it has no bytes but zeros$by"

@@ -171,11 +171,90 @@ for number in x '' -1 +1 4294967296 1,2 1.0 0x10; do
     runs ls 7 pack "--at=$number"
     has "the status of --at=$number" 2 "$(cat status)"
 done
-for command in 'mkfs 7 pack 100' 'identify pack'; do
-    read -r -a given <<< "$command"
-    misread "error: unexpected argument '--at' found" "${given[@]}" --at 18000
-done
+misread "error: unexpected argument '--at' found" identify pack --at 18000
 saves 'a pack after commands that were refused' pack before
+
+# `mkfs --at` makes a volume in its place in a pack, and every other byte of the pack stays.
+made=$((seventh - 1000))
+"$program" mkfs 7 wanted 900 20 0 0 1000
+cp --sparse=always pack made
+cp before placed
+placed wanted $made placed
+prints none mkfs 7 made 900 20 0 0 1000 --at $made
+saves 'a volume that was made in a pack' made placed
+has 'the room of a pack in which a volume was made' yes "$([ "$(stored made)" -le $((room + 2048)) ] && echo yes || stored made)"
+prints none check 7 made --at $made
+# A volume that begins there is replaced, also by one that ends where the next begins.
+prints none mkfs 7 made 1000 20 0 0 1001 --at $made
+"$program" mkfs 7 wanted 1000 20 0 0 1001
+placed wanted $made placed
+saves 'a volume that was made in the place of another' made placed
+prints none mkfs 6 made 3000 100 0 0 1000 --at 0
+"$program" mkfs 6 wanted 3000 100 0 0 1000
+placed wanted 0 placed
+saves 'a volume that was made at the beginning of a pack' made placed
+# overwrites BLOCK COUNT WHY: no volume is made there
+overwrites() {
+    printf '%s\n' 'unixvol: cannot write made' "unixvol: made: $3" > line
+    runs --explain mkfs 7 made "$2" --at "$1"
+    wants "mkfs of $2 blocks at $1" 3 none line
+}
+overwrites 100 50 'it would overwrite blocks of the volume at block 0, which has 3000'
+overwrites 2999 100 'it would overwrite blocks of the volume at block 0, which has 3000'
+overwrites 4000 $((made - 3999)) "it would overwrite blocks of the volume at block $made, which has 1000"
+overwrites $made 1001 "it would overwrite blocks of the volume at block $seventh, which has 8000"
+overwrites $((sixth + 1500)) $((blocks - sixth - 1499)) "it has only $blocks blocks"
+overwrites 4294967295 100 "it has only $blocks blocks"
+saves 'a pack in which no volume was made' made placed
+refuses 3 'unixvol: cannot write absent' mkfs 7 absent 100 --at 0
+has 'a file in which a volume was to be made' no "$([ -e absent ] && echo yes || echo no)"
+refuses 3 'unixvol: cannot write /dev/null' mkfs 7 /dev/null 100 --at 0
+refuses 1 'unixvol: bounds' mkfs 7 made 3 --at 4000
+misread "error: the argument '--at' cannot be used with '--new'" mkfs --new 7 made 100 --at 4000
+misread "error: invalid value 'x' for '<at>'" mkfs 7 made 100 --at x
+saves 'a pack after refused words of mkfs' made placed
+rm made placed
+
+# What `identify --json` and `--csv` say of a pack.
+"$program" mkfs 7 one 200 10 0 0 1000
+"$program" mkfs 6 two 100 5 0 0 1000
+"$program" put 6 two /motd script 1001
+body small $((512 * 400 + 7))
+placed one 0 small
+placed two 250 small
+printf '\005' | dd of=small bs=1 seek=$((512 * 250 + 1026)) conv=notrunc status=none
+{
+    printf '{"bytes":204807,"file":"small","format":1,"guess":"pack","parts":['
+    printf '{"block":0,"blocks":200,"command":"unixvol ls 7 small","edition":7,"rule":null,"sound":true},'
+    printf '{"block":200,"blocks":50,"zeros":true},'
+    printf '{"block":250,"blocks":100,"command":"unixvol check 6 small --at 250","edition":6,"rule":12,"sound":false},'
+    printf '{"block":350,"blocks":50,"zeros":true}],"read":null}\n'
+} > line
+prints line identify --json small
+name="a 'b',\"c\".img"
+cp small "$name"
+"$program" identify --json "$name" > output 2> error
+has 'the commands of an image whose name a shell would split' "0 unixvol ls 7 'a '\\''b'\\'',\"c\".img'" \
+    "$? $(python3 -c 'import json; print(json.load(open("output"))["parts"][0]["command"])')"
+has 'the name of such an image' "$name" "$(python3 -c 'import json; print(json.load(open("output"))["file"])')"
+sum=$(sha256sum < small)
+{
+    echo 'file,bytes,sha256,block,edition,blocks,free_blocks,files,verdict,time'
+    for row in small "\"a 'b',\"\"c\"\".img\""; do
+        echo "$row,204807,${sum%% *},0,7,200,187,0,sound,1970-01-01 00:16:40"
+        echo "$row,204807,${sum%% *},250,6,100,91,1,rule 12,1970-01-01 00:16:41"
+    done
+} > lines
+prints lines identify --csv small script "$name"
+echo 'unixvol: cannot read absent' > error.wanted
+head -n 3 lines > line
+runs identify --csv absent small
+wants 'a catalogue with a file that is missing' 3 line error.wanted
+printf '%s\n' 'unixvol: cannot read /dev/null' 'unixvol: /dev/null: it is no regular file, and a catalogue reads it more than once' > error.wanted
+head -n 1 lines > line
+runs --explain identify --csv /dev/null
+wants 'a catalogue of a device' 3 line error.wanted
+misread "error: the argument '--csv' cannot be used with '--json'" identify --csv --json small
 
 # A save that fails leaves the old pack.
 (ulimit -f 4000; trap '' XFSZ; runs mkdir 7 pack /e 3000 --at $seventh)

@@ -78,10 +78,10 @@ manual_page() {
     cat "$sections"
 }
 
-# kind WORD: the kind of a word of the command line: an edition, a file, a path in the volume, or anything
+# kind WORD [COMMAND]: the kind of a word of the command line: an edition, that of a volume to make, a file, a path in the volume, or anything
 kind() {
     case $1 in
-        EDITION) echo edition ;;
+        EDITION) if [ "${2:-}" = mkfs ]; then echo new_edition; else echo edition; fi ;;
         IMAGE | FILE | SCRIPT | OLD | NEW | FOLDER | COPY) echo file ;;
         PATH | FROM | TO | DIR) echo path ;;
         *) echo any ;;
@@ -94,7 +94,7 @@ words() {
     while read -r name; do
         dots=
         [[ $name == *... ]] && dots=...
-        echo "$(kind "$(tr -d '<>[].' <<< "$name")")$dots"
+        echo "$(kind "$(tr -d '<>[].' <<< "$name")" "$1")$dots"
     done < <(section Arguments "$1" | awk '{ print $1 }')
 }
 
@@ -199,7 +199,8 @@ END
         expected=${expected%% *}
     fi
     case ${expected%...} in
-        edition) mapfile -t COMPREPLY < <(compgen -W '6 7' -- "$current") ;;
+        edition) mapfile -t COMPREPLY < <(compgen -W '6 7 any' -- "$current") ;;
+        new_edition) mapfile -t COMPREPLY < <(compgen -W '6 7' -- "$current") ;;
         file) mapfile -t COMPREPLY < <(compgen -f -- "$current") ;;
         path) _unixvol_paths "${given[0]}" "${given[1]}" "$current" ;;
     esac
@@ -212,7 +213,8 @@ END
 # completer KIND: zsh's way to complete a word of this kind
 completer() {
     case $1 in
-        edition) echo '(6 7)' ;;
+        edition) echo '(6 7 any)' ;;
+        new_edition) echo '(6 7)' ;;
         file) echo _files ;;
         path) echo _unixvol_paths ;;
         *) echo ' ' ;;
@@ -246,7 +248,7 @@ word_arguments() {
             place='*'
         fi
         name=$(tr -d '<>[].' <<< "$name")
-        echo "'$place:$name -- $(quoted <<< "$text"):$(completer "$(kind "$name")")'"
+        echo "'$place:$name -- $(quoted <<< "$text"):$(completer "$(kind "$name" "$1")")'"
     done < <(section Arguments "$1" | sed -E -e 's/^ +//' -e 's/  +/\t/')
 }
 

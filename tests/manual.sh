@@ -48,7 +48,8 @@ source "$manual/unixvol.bash"
 cp "$samples/linux_made.v7" disk.img
 mkdir away
 completes 'mkfs mkdir' mk
-completes '6 7' ls ''
+completes '6 7 any' ls ''
+completes '6 7' mkfs ''
 completes 'disk.img' ls 7 disk
 completes '/etc/motd' get 7 disk.img /etc/m
 completes 'etc/empty etc/motd etc/passwd' get 7 disk.img etc/

@@ -61,9 +61,9 @@ fn print_lines<R: ImageFiles + Eprint + AllocGlobal, O: Sink>(
     ensures { (errors : ErrorStream) → Hears errors result.fault
         → RunsIdentify R.File.remaining R.had R.stood (streams O.contents O.failed output.old output.new errors) form (map (λ image. image.now) images.now) result.status }
 {
-    if write_all(output, front_of(form)).is_err() {
+    let Ok(()) = write_all(output, front_of(form)) else {
         return Ending::from(Fault::Output);
-    }
+    };
     let mut status = DONE;
     'images: for image in images {
         match print_line(host, output, form, image) {

@@ -42,7 +42,7 @@ const number = (bytes, at, length) => (length === 1 ? bytes[at] : length === 2 ?
 
 const KINDS = {
   6: (mode) => (mode & 0o100000 ? ['file', 'character', 'directory', 'block'][(mode & 0o60000) >> 13] : 'odd'),
-  7: (mode) => ({ 0o10: 'file', 0o4: 'directory', 0o2: 'character', 0o3: 'character', 0o6: 'block', 0o7: 'block' })[mode >> 12] ?? 'odd',
+  7: (mode) => ({ 0o10: 'file', 0o4: 'directory', 0o2: 'character', 0o3: 'multiplexor', 0o6: 'block', 0o7: 'multiplexor' })[mode >> 12] ?? 'odd',
 };
 
 /** Reads an i-node out of the bytes of an i-list, for the tree of a damaged volume. */

@@ -74,7 +74,7 @@ function showHead() {
   if (!image) return;
   $('image').replaceChildren(...state.images.map((it) => el('option', { value: it.name, selected: it === image }, it.name)));
   $('edition').value = image.edition;
-  const use = image.use ? `${counted(image.use.blocks, 'block')}, ${image.use['free blocks'].toLocaleString('en')} free; ` : '';
+  const use = image.use ? `${counted(image.use.blocks, 'block')}, ${image.use.free_blocks.toLocaleString('en')} free; ` : '';
   const what = image.isReadable ? 'What can be read is shown; commands that change a volume refuse this one.' : 'Nothing of it can be read as files.';
   $('state').className = image.isSound ? 'good' : 'bad';
   $('state').textContent = image.isSound ? `${use}✓ sound` : `${use}✗ ${verdict(image)}. ${what}`;

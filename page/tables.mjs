@@ -15,7 +15,7 @@ export function verdict(image) {
 }
 
 const column = (image) => {
-  const { blocks = '', 'free blocks': free = '' } = image.use ?? {};
+  const { blocks = '', free_blocks: free = '' } = image.use ?? {};
   return [image.name, image.isVolume ? image.edition : '', verdict(image), blocks, free, image.size];
 };
 const HEADS = ['Image', 'Edition', 'State', 'Blocks', 'Free', 'Bytes'];

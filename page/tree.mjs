@@ -33,16 +33,18 @@ export async function readTree(image) {
   return root;
 }
 
-const listed = async (image) => JSON.parse((await run(['ls', '-R', '--json', ...at(image)])).text);
+const listed = async (image) => JSON.parse((await run(['ls', '-R', '--json', ...at(image)])).text).entries.map(asEntry);
+
+const asEntry = ({ ino, mtime, permissions, ...it }) => ({ ...it, inode: ino, modified: mtime, permissions: parseInt(permissions, 8) });
 
 /** The entries of a damaged volume: their paths as `ncheck` has them, and their i-nodes. Those that no way leads to from the root are below `...`. */
 async function salvaged(image, root) {
   const ended = await run(['ncheck', '--json', ...at(image), 1]);
   const entries = ended.text ? JSON.parse(ended.text).lines : [];
-  const { bytes } = await ask('slice', { name: image.name, at: 1024, length: INODE_BYTES[image.edition] * image.use['i-nodes'] });
+  const { bytes } = await ask('slice', { name: image.name, at: 1024, length: INODE_BYTES[image.edition] * image.use.inodes });
   Object.assign(root, readInode(image.edition, bytes, root.inode));
   if (entries.some((it) => it.path.startsWith('...'))) grow(root, { path: '/...', kind: 'directory', inode: 0 });
-  const found = entries.map((it) => ({ ...readInode(image.edition, bytes, it['i-node']), inode: it['i-node'], path: it.path.replace(/^\.\.\.\/?/, '/.../') }));
+  const found = entries.map((it) => ({ ...readInode(image.edition, bytes, it.ino), inode: it.ino, path: it.path.replace(/^\.\.\.\/?/, '/.../') }));
   return found.sort((a, b) => (a.path < b.path ? -1 : 1));
 }
 

@@ -72,8 +72,8 @@ function fields(it, names) {
   const from = inodeAt(state.image.edition, state.inode);
   const block = Math.floor(from / 512);
   return table('Fields', [], [
-    ['mode', `0${it.mode.toString(8)}: ${it.kind}, ${modeText(it.kind, it.permissions)}`],
-    ['links', String(it.nlink)],
+    ['mode', `${it.mode}: ${it.kind}, ${modeText(it.kind, parseInt(it.permissions, 8))}`],
+    ['links', String(it.links)],
     ['user', String(it.uid)],
     ['group', String(it.gid)],
     ['size', it.size === undefined ? '' : counted(it.size, 'byte')],
@@ -93,7 +93,7 @@ async function shows(path) {
 }
 
 export async function showInode(panel) {
-  const most = state.image.use?.['i-nodes'] ?? 65535;
+  const most = state.image.use?.inodes ?? 65535;
   panel.append(el('h2', {}, 'I-node'), chooser('I-node', state.inode, 1, most, (inode) => go('inode', { inode })));
   const ended = await run(['inode', '--json', ...at(), state.inode]);
   if (!ended.text) return panel.append(printed(ended));
@@ -121,14 +121,14 @@ export async function showVolume(panel) {
   if (!ended.text) return panel.append(printed(ended));
   const it = JSON.parse(ended.text);
   const { use } = state.image;
-  const uses = [['blocks', 'free blocks'], ['data blocks', 'free blocks'], ['i-nodes', 'free i-nodes']];
-  const rows = uses.map(([all, free]) => [all, ...[use[all], use[`used ${all}`], use[free]].map((one) => one.toLocaleString('en'))]);
-  const inodes = it.inode.flatMap((one) => [link(String(one), () => go('inode', { inode: one })), ' ']);
+  const uses = [['blocks', 'blocks', 'free_blocks'], ['data blocks', 'data_blocks', 'free_blocks'], ['i-nodes', 'inodes', 'free_inodes']];
+  const rows = uses.map(([name, all, free]) => [name, ...[use[all], use[`used_${all}`], use[free]].map((one) => one.toLocaleString('en'))]);
+  const inodes = it.cache.flatMap((one) => [link(String(one), () => go('inode', { inode: one })), ' ']);
   panel.append(
     table('How full it is', ['', 'All', 'Used', 'Free'], rows),
     table('The super-block', [], SUPER.map((name) => [name, name === 'time' ? time(it.time) : String(it[name])])),
     el('p', {}, link('its bytes', () => go('bytes', { block: 1, byte: 512 }))),
-    el('details', {}, el('summary', {}, `i-numbers kept as free: ${it.inode.length}`), el('p', { className: 'code' }, inodes)),
+    el('details', {}, el('summary', {}, `i-numbers kept as free: ${it.cache.length}`), el('p', { className: 'code' }, inodes)),
     await freeList(),
   );
 }
@@ -138,10 +138,10 @@ async function freeList() {
   if (!ended.text) return printed(ended);
   const it = JSON.parse(ended.text);
   const box = el('section', {}, el('h3', {}, 'The free list, link by link'));
-  if (it.fault) box.append(el('p', { className: 'bad' }, `It ends at a fault: ${it.fault.fault}, number ${it.fault.number}.`));
+  if (it.free_fault) box.append(el('p', { className: 'bad' }, `It ends at a fault: ${it.free_fault.fault}, number ${it.free_fault.number}.`));
   const more = (from) => {
-    box.append(...it.links.slice(from, from + LINKS).map(freeLink));
-    if (it.links.length > from + LINKS) box.append(button(`Show more of ${it.links.length} links`, (event) => (event.target.remove(), more(from + LINKS))));
+    box.append(...it.chain.slice(from, from + LINKS).map(freeLink));
+    if (it.chain.length > from + LINKS) box.append(button(`Show more of ${it.chain.length} links`, (event) => (event.target.remove(), more(from + LINKS))));
   };
   more(0);
   return box;

@@ -112,8 +112,8 @@ wants 'ncheck of directories in a ring, without entries' 0 none none
 
 # A root of 16,522 blocks that are one block: the lines of 298,304 names are kept, but not their JSON.
 ringed many 40755 8459264 2 1 0100030000000b0000000b0000000b00
-"$program" ncheck 7 many 1 | awk -v ORS= 'BEGIN { print "{\"faults\":false,\"lines\":[" }
-    { print (NR > 1 ? "," : "") "{\"i-node\":" $1 ",\"line\":\"name\",\"path\":\"/\\\\003\"}" } END { print "]}\n" }' > wanted
+"$program" ncheck 7 many 1 | awk -v ORS= 'BEGIN { print "{\"faulty\":false,\"format\":1,\"lines\":[" }
+    { print (NR > 1 ? "," : "") "{\"ino\":" $1 ",\"line\":\"name\",\"path\":\"/\\\\003\"}" } END { print "]}\n" }' > wanted
 (in_memory 100000 runs_within 60 ncheck --json 7 many 1)
 wants 'ncheck --json of a root that names one block everywhere' 0 wanted none
 

@@ -201,7 +201,7 @@ refuses 1 'unixvol: 2 NoEntry' cat 7 "$linux" /x
 refuses 1 'unixvol: 20 NotDirectory' cat 7 "$linux" /etc/motd/x
 
 runs inode 7 "$linux" --json 92
-has 'an i-node as JSON' "92 file $(field 10) $block" "$(python3 -c 'import json, sys; it = json.load(sys.stdin); print(it["i-node"], it["kind"], it["size"], it["addr"][0])' < output)"
+has 'an i-node as JSON' "92 file $(field 10) $block" "$(python3 -c 'import json, sys; it = json.load(sys.stdin); print(it["ino"], it["kind"], it["size"], it["addr"][0])' < output)"
 refuses 1 'unixvol: 2 NoEntry' inode 7 "$linux" 97
 refuses 1 'unixvol: 2 NoEntry' inode 7 "$linux" 0
 runs inode 7 "$linux" /etc/motd
@@ -215,7 +215,7 @@ blocks=$(grep -c '^block' output)
 (in_memory 64000 "$program" inode --json 7 many.v7 2 2> error; echo $? > status) | tr '{' '\n' \
     | awk '/^"block":/ { extents++ } NR == 2 { print } END { print extents; print }' > output
 printf '%s\n' "\"addr\":[11$(printf ',11%.0s' {1..12})],\"atime\":0,\"ctime\":0,\"extents\":[" "$blocks" \
-    '"block":11,"count":1,"inside":true,"level":0,"logical":2113673}],"gid":0,"i-node":2,"kind":"file","mode":33188,"mtime":0,"nlink":1,"permissions":420,"size":1082201088,"uid":0}' > wanted
+    '"block":11,"count":1,"inside":true,"level":0,"logical":2113673}],"format":1,"gid":0,"ino":2,"kind":"file","links":1,"mode":"0100644","mtime":0,"permissions":"0644","size":1082201088,"uid":0}' > wanted
 wants 'inode --json of a file that names one block everywhere' 0 wanted none
 refuses 1 'unixvol: 20 NotDirectory' inode 7 "$linux" /etc/motd/x
 
@@ -423,6 +423,39 @@ has 'the status, the lines and the errors of a map on a terminal' '0 16 0' "$(ca
 on_terminal 80 export 6 archived.v6 /
 echo 'unixvol: cannot write -' > line
 wants 'export to a terminal' 3 none line
+
+# The keys of each command's JSON are those that docs/JSON.md lists for it. Together the images have each kind of line, fault and place.
+for command in ls sums 'inode 1' super df free check 'icheck 1' 'dcheck 1' 'ncheck 1'; do
+    read -r name word <<< "$command"
+    for image in special.v7 twice_free.v6 "$samples"/lessons/*.v?; do
+        "$program" "$name" --json "${image##*.v}" "$image" $word 2> error < /dev/null
+    done > printed
+    has "the keys of $name --json" '' "$(python3 "$data/keys.py" "$samples/../docs/JSON.md" "$name" < printed)"
+done
+
+# Multiplexor files, which the seventh edition has: `c` is one of type 030000, and `k` one of type 070000.
+changed special.v7 multiplexed.v7 $((1024 + 12 * 64)) 'A4 31'
+put multiplexed.v7 $((1024 + 11 * 64)) 'A4 71'
+runs ls --json 7 multiplexed.v7
+has 'the kinds in a listing of multiplexor files' 'multiplexor 3 9 multiplexor 200 1' "$(python3 -c '
+import json, sys
+print(*(it[key] for it in json.load(sys.stdin)["entries"] if it["path"] in ("/c", "/k") for key in ("kind", "major", "minor")))' < output)"
+for node in 12 13; do
+    runs inode --json 7 multiplexed.v7 $node
+    has "the kind of multiplexor file $node" '"kind":"multiplexor"' "$(grep -o '"kind":"[a-z]*"' output)"
+done
+for node in '28 block' '29 character' '32 file' '30 directory' '2 free'; do
+    runs inode --json 6 special.v6 "${node% *}"
+    has "the kind of i-node $node" "\"kind\":\"${node#* }\"" "$(grep -o '"kind":"[a-z]*"' output)"
+done
+# The paths of a manifest begin as PATH is given, as those of `find` do.
+for path in '' / /d d d/; do
+    "$program" find 6 tree.v6 $path > wanted
+    runs sums --json 6 tree.v6 $path
+    python3 -c 'import json, sys; print(*(it["path"] for it in json.load(sys.stdin)["entries"]), sep="\n")' < output | sed 's/\\011/\t/' > text
+    mv text output
+    wants "the paths of sums --json of '$path'" 0 wanted none
+done
 
 # A full device, whatever command prints.
 for command in 'check 6 directory.v6' 'check --json 6 directory.v6' 'sums 6 tree.v6' 'sums --json 6 tree.v6' 'ls -l 6 special.v6' 'ls -R --json 6 tree.v6' 'inode 6 three.v6 32' 'super --json 6 bare.v6' 'df 6 bare.v6' 'free 6 bare.v6' 'block 6 three.v6 8' 'find 6 tree.v6' 'map 6 three.v6' 'map --svg 6 three.v6'; do

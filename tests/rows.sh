@@ -163,10 +163,21 @@ wants() {
     fi
 }
 
-# runs WORD..: runs the program
+# runs WORD..: runs the program. If it prints JSON, each key has to be one of docs/JSON.md
 runs() {
     "$program" "$@" > output 2> error < /dev/null
     echo $? > status
+    [[ " $* " != *' --json '* ]] || keys_are_known "$@"
+}
+
+# keys_are_known WORD..: each key in the JSON that these words printed is in the table of docs/JSON.md
+keys_are_known() {
+    local unknown
+    if [ ! -e "$folder/.keys" ]; then
+        sed -n '/^| `/s/^| \([^|]*\)|.*/\1/p' "$samples/../docs/JSON.md" | grep -o '`[^`]*`' | tr '`' '"' | sed 's/$/:/' | sort -u > "$folder/.keys"
+    fi
+    unknown=$(grep -ao '"[^"\]*":' output | sort -u | comm -23 - "$folder/.keys")
+    if [ -z "$unknown" ]; then passes; else fails "$*: these keys aren't in docs/JSON.md: $unknown"; fi
 }
 
 # runs_within SECONDS WORD..: runs the program, and ends it after SECONDS seconds
@@ -363,11 +374,11 @@ finds() {
 as_lines() {
     python3 -c 'import json, re, sys
 text = {
-    "rule": "rule {rule}", "bad": "bad {i-node} {count} {least}", "dup": "dup {block} {places} {free:d}", "lost": "lost {block}",
-    "free": "{fault} {number}", "total": "{name} {count}", "links": "{i-node} {entries} {links}", "name": "{i-node} {path}",
+    "rule": "rule {rule}", "bad": "bad {ino} {count} {least}", "dup": "dup {block} {places} {is_free:d}", "lost": "lost {block}",
+    "free": "{fault} {number}", "total": "{total} {count}", "links": "{ino} {entry_count} {links}", "name": "{ino} {path}",
 }
 report = json.load(sys.stdin)
-assert list(report) == ["faults", "lines"] and report["faults"] == (sys.argv[1] == "1")
+assert list(report) == ["faulty", "format", "lines"] and report["format"] == 1 and report["faulty"] == (sys.argv[1] == "1")
 for it in report["lines"]:
     line = text[it["line"]].format(**it).encode()
     sys.stdout.buffer.write(re.sub(rb"\\([0-7]{3}|\\)", lambda m: bytes([int(m[1], 8)]) if len(m[1]) == 3 else m[1], line) + b"\n")' "$1"

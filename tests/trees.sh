@@ -244,9 +244,9 @@ for edition in 6 7; do
     runs ls -d "$edition" disk.img /cmd/a.c
     has 'a file that is listed' 'a.c 1' "$(awk '{ print $2 }' output | sed 's,.*/,,') $(wc -l < output)"
     runs ls --json "$edition" disk.img /cmd
-    has 'a listing as JSON' '5000 2505' "$(python3 -c '
+    has 'a listing as JSON' '5000 04711' "$(python3 -c '
 import json, sys
-for it in json.load(sys.stdin):
+for it in json.load(sys.stdin)["entries"]:
     if it["path"].endswith("fourteen-bytes"):
         print(it["size"], it["permissions"])' < output)"
     runs ls -R "$edition" disk.img

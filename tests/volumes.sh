@@ -393,8 +393,8 @@ put fields 1056 "$(printf '%02X' {1..32})"
 runs inode --json 6 fields 2
 sed -i 's/"extents":\[\],//' output
 echo "{\"addr\":[$((0x0A09)),$((0x0C0B)),$((0x0E0D)),$((0x100F)),$((0x1211)),$((0x1413)),$((0x1615)),$((0x1817))],\
-\"atime\":$((0x1A191C1B)),\"ctime\":null,\"gid\":5,\"i-node\":2,\"kind\":\"odd\",\"mode\":$((0x0201)),\"mtime\":$((0x1E1D201F)),\"nlink\":3,\
-\"permissions\":$((0x0201)),\"size\":$((0x060807)),\"uid\":4}" > line
+\"atime\":$((0x1A191C1B)),\"ctime\":null,\"format\":1,\"gid\":5,\"ino\":2,\"kind\":\"odd\",\"links\":3,\"mode\":\"01001\",\"mtime\":$((0x1E1D201F)),\
+\"permissions\":\"01001\",\"size\":$((0x060807)),\"uid\":4}" > line
 wants 'the fields of the sixth edition' 0 line none
 image fields 2560
 put fields 512 '03 00 00 00 05 00'
@@ -402,8 +402,8 @@ put fields 1088 "$(printf '%02X' {1..64})"
 runs inode --json 7 fields 2
 sed -i 's/"extents":\[\],//' output
 echo "{\"addr\":[$((0x0D0F0E)),$((0x101211)),$((0x131514)),$((0x161817)),$((0x191B1A)),$((0x1C1E1D)),$((0x1F2120)),$((0x222423)),$((0x252726)),\
-$((0x282A29)),$((0x2B2D2C)),$((0x2E302F)),$((0x313332))],\"atime\":$((0x36353837)),\"ctime\":$((0x3E3D403F)),\"gid\":$((0x0807)),\"i-node\":2,\
-\"kind\":\"odd\",\"mode\":$((0x0201)),\"mtime\":$((0x3A393C3B)),\"nlink\":$((0x0403)),\"permissions\":$((0x0201)),\"size\":$((0x0A090C0B)),\
+$((0x282A29)),$((0x2B2D2C)),$((0x2E302F)),$((0x313332))],\"atime\":$((0x36353837)),\"ctime\":$((0x3E3D403F)),\"format\":1,\"gid\":$((0x0807)),\"ino\":2,\
+\"kind\":\"odd\",\"links\":$((0x0403)),\"mode\":\"01001\",\"mtime\":$((0x3A393C3B)),\"permissions\":\"01001\",\"size\":$((0x0A090C0B)),\
 \"uid\":$((0x0605))}" > line
 wants 'the fields of the seventh edition' 0 line none
 

@@ -255,7 +255,7 @@ ls 7 disk | 2 .;2 ..;16 d;
 ls -l 7 disk /d | 16 drwxr-xr-x 2 0 0 48 1970-01-01 00:16:40 .;2 drwxrwxrwx 3 0 0 48 1970-01-01 00:16:40 ..;15 -rw-r--r-- 1 0 0 1 1970-01-01 00:16:40 f;
 ls 7 -lR disk | /:;2 drwxrwxrwx 3 0 0 48 1970-01-01 00:16:40 .;2 drwxrwxrwx 3 0 0 48 1970-01-01 00:16:40 ..;16 drwxr-xr-x 2 0 0 48 1970-01-01 00:16:40 d;;/d:;16 drwxr-xr-x 2 0 0 48 1970-01-01 00:16:40 .;2 drwxrwxrwx 3 0 0 48 1970-01-01 00:16:40 ..;15 -rw-r--r-- 1 0 0 1 1970-01-01 00:16:40 f;
 ls 7 disk --recursive /d | /d:;16 .;2 ..;15 f;
-ls --long --json 7 disk /d | [{"gid":0,"inode":16,"kind":"directory","links":2,"modified":1000,"path":"/d/.","permissions":493,"size":48,"uid":0},{"gid":0,"inode":2,"kind":"directory","links":3,"modified":1000,"path":"/d/..","permissions":511,"size":48,"uid":0},{"gid":0,"inode":15,"kind":"file","links":1,"modified":1000,"path":"/d/f","permissions":420,"size":1,"uid":0}];
+ls --long --json 7 disk /d | {"entries":[{"gid":0,"ino":16,"kind":"directory","links":2,"mtime":1000,"path":"/d/.","permissions":"0755","size":48,"uid":0},{"gid":0,"ino":2,"kind":"directory","links":3,"mtime":1000,"path":"/d/..","permissions":"0777","size":48,"uid":0},{"gid":0,"ino":15,"kind":"file","links":1,"mtime":1000,"path":"/d/f","permissions":"0644","size":1,"uid":0}],"format":1};
 END
 
 # Commands that show part of an image, and the beginning of their output. I-node 17 of `disk` is a file of five bytes in block 5.
@@ -272,9 +272,9 @@ while IFS='|' read -r words wanted; do
     has "$words" "0 $wanted" "$(cat status) $(tr '\n' ';' < output | head -c ${#wanted})"
 done << 'END'
 inode 7 disk 017 | i-node 17;mode 0100644 file 0644;nlink 1;uid 0;gid 0;size 5;addr 5 0
-inode 7 disk 017 --json | {"addr":[5,0,0,0,0,0,0,0,0,0,0,0,0],"atime":0,"ctime":0,"extents":[{"block":5,"count":1,"inside":true,"level":0,"logical":0}],"gid":0,"i-node":17,"kind":"file","mode":33188,
+inode 7 disk 017 --json | {"addr":[5,0,0,0,0,0,0,0,0,0,0,0,0],"atime":0,"ctime":0,"extents":[{"block":5,"count":1,"inside":true,"level":0,"logical":0}],"format":1,"gid":0,"ino":17,"kind":"file","links":1,"mode":"0100644",
 super 7 disk | isize 5;fsize 6;nfree 0;
-super 7 disk --json | {"data blocks":1,"fault":null,"flock":0,"fmod":0,"free":[],"free blocks":0,"free i-nodes":22,"fsize":6,"i-nodes":24,
+super 7 disk --json | {"cache":[],"data_blocks":1,"flock":0,"fmod":0,"format":1,"free":[],"free_blocks":0,"free_fault":null,"free_inodes":22,"fsize":6,"ilock":0,"inodes":24,
 map 7 disk | 6 blocks, 1 in each cell;
 map 7 disk -- | 6 blocks, 1 in each cell;
 map 7 --svg disk | <svg xmlns='http://www.w3.org/2000/svg'

@@ -1,8 +1,19 @@
-# Prints for each row of the files `i_nodes` and `supers` its values as JSON, as docs/FORMATS.md defines it, on one
+# Prints for each row of the files `i_nodes` and `supers` its values as JSON, as docs/JSON.md defines it, on one
 # line.
 import json
 import re
 import sys
+
+
+NAMES = {"i-node": "ino", "nlink": "links"}
+SPECIAL = {1: "character", 3: "block"}
+
+
+def kind(mode, word):
+    """Returns the word for a kind; that of a special file is by the type in its mode."""
+    if word != "special":
+        return word
+    return "multiplexor" if int(mode, 8) >> 12 in (3, 7) else SPECIAL[int(mode, 8) >> 13 & 3]
 
 
 def whole(words):
@@ -20,32 +31,33 @@ def extent(line):
 
 def inode(lines):
     """Returns the object of an i-node."""
-    found = {"ctime": None, "extents": []}
+    found = {"ctime": None, "extents": [], "format": 1}
     for line in lines:
         name, *words = line.split(" ")
         if name == "mode":
-            found.update(mode=int(words[0], 8), kind=words[1], permissions=int(words[2], 8))
+            found.update(mode=words[0], kind=kind(words[0], words[1]), permissions=words[2])
         elif name == "addr":
             found[name] = whole(words)
         elif name == "block":
             found["extents"].append(extent(line))
         else:
-            found[name] = int(words[0])
+            found[NAMES.get(name, name)] = int(words[0])
     return found
 
 
 def super_block(lines):
     """Returns the object of a super-block."""
-    found = {"fault": None, "free": [], "inode": []}
+    found = {"format": 1, "free": [], "free_fault": None, "cache": []}
     for line in lines:
         name, *words = line.split(" ")
         if counts := re.match(r"(data blocks|i-nodes) (\d+), free (\d+)$", line):
-            found[counts[1]] = int(counts[2])
-            found["free blocks" if name == "data" else "free i-nodes"] = int(counts[3])
+            found["data_blocks" if name == "data" else "inodes"] = int(counts[2])
+            found["free_blocks" if name == "data" else "free_inodes"] = int(counts[3])
         elif name == "free":
-            found["fault"] = {"fault": f"{name} {words[0]}", "number": int(words[1])}
+            found["free_fault"] = {"fault": f"{name} {words[0]}", "number": int(words[1])}
         elif name.endswith("]"):
             name, index = name[:-1].split("[")
+            name = "cache" if name == "inode" else name
             if int(index) != len(found[name]):
                 sys.exit(f"{line}: not the next index")
             found[name] += whole(words)

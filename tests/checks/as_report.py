@@ -2,23 +2,25 @@
 import json
 import sys
 
+WORDS = {"ino": "i-node", "entry_count": "entries"}
+
 report = json.load(sys.stdin)
-if list(report) != ["edition", "other edition", "rules", "sound"]:
+if list(report) != ["edition", "format", "other_edition", "rules", "sound"]:
     sys.exit(f"the keys of a report: {list(report)}")
 if report["sound"] != all(rule["holds"] is True for rule in report["rules"]):
     sys.exit("the report says of a volume that breaks a rule that it is sound, or the reverse")
 for rule in report["rules"]:
-    if list(rule) != ["at", "finding", "holds", "requires", "rule"]:
+    if list(rule) != ["at", "finding", "holds", "needs", "rule"]:
         sys.exit(f"the keys of a rule: {list(rule)}")
     outcome = {True: "holds", False: rule["finding"], None: "not asked"}[rule["holds"]]
     at = rule["at"] or {}
-    names = [name for name in ["i-node", "directory", "slot", "number", "block", "entries", "links"] if name in at]
+    names = [name for name in ["ino", "directory", "slot", "number", "block", "entry_count", "links"] if name in at]
     if len(names) != len(at):
         sys.exit(f"the keys of a place: {list(at)}")
     if names == ["number"]:
         outcome += f": {at['number']}"
     elif names:
-        outcome += ": " + ", ".join(f"{name} {at[name]}" for name in names)
-    print(f"{rule['rule']} {rule['requires']}: {outcome}")
-if report["other edition"]:
-    print(f"note: rules 1 and 2 hold for edition {report['other edition']}")
+        outcome += ": " + ", ".join(f"{WORDS.get(name, name)} {at[name]}" for name in names)
+    print(f"{rule['rule']} {rule['needs']}: {outcome}")
+if report["other_edition"]:
+    print(f"note: rules 1 and 2 hold for edition {report['other_edition']}")

@@ -44,10 +44,10 @@ def of_json(nodes):
     """Prints the manifest that JSON has."""
     for node in nodes:
         size = (node["major"], node["minor"]) if "major" in node else node["size"]
-        print(line(node["sha256"], node["kind"], node["permissions"], node["uid"], node["gid"], size, node["modified"], node["path"]))
+        print(line(node["sha256"], node["kind"], int(node["permissions"], 8), node["uid"], node["gid"], size, node["mtime"], node["path"][1:]))
 
 
 if sys.argv[1] == "--json":
-    of_json(json.load(sys.stdin))
+    of_json(json.load(sys.stdin)["entries"])
 else:
-    of_archive(tarfile.open(sys.argv[1], encoding="latin-1"), {node["path"]: node["size"] for node in json.load(open(sys.argv[2]))})
+    of_archive(tarfile.open(sys.argv[1], encoding="latin-1"), {node["path"]: node["size"] for node in json.load(open(sys.argv[2]))["entries"]})

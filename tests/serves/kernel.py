@@ -179,9 +179,9 @@ class Image:
 
 def compare_attributes(label, edition, node, found):
     """What stat(2) would tell is what `inode` prints."""
-    check(f"{label}: permissions", node["permissions"], found.mode & 0o7777)
-    check(f"{label}: kind", format_of(edition, node["mode"]), found.mode & 0o170000)
-    check(f"{label}: links", node["nlink"], found.nlink)
+    check(f"{label}: permissions", int(node["permissions"], 8), found.mode & 0o7777)
+    check(f"{label}: kind", format_of(edition, int(node["mode"], 8)), found.mode & 0o170000)
+    check(f"{label}: links", node["links"], found.nlink)
     check(f"{label}: owner", (node["uid"], node["gid"]), (found.uid, found.gid))
     check(f"{label}: times", (node["atime"], node["mtime"]), (found.atime, found.mtime))
     if node["kind"] in ("directory", "file"):
@@ -193,9 +193,10 @@ def compare_tree(program, edition, image):
     kernel, files = Kernel(program, edition, image), Image(program, edition, image)
     kernel.begin()
     names_by_ls = {}
-    for row in json.loads(printed(program, "ls", "-R", "--json", edition, image) or b"[]"):
+    listing = printed(program, "ls", "-R", "--json", edition, image)
+    for row in json.loads(listing)["entries"] if listing else []:
         directory, _, name = row["path"].rpartition("/")
-        names_by_ls.setdefault(directory, []).append((row["inode"], name))
+        names_by_ls.setdefault(directory, []).append((row["ino"], name))
     seen, todo, count = set(), [(ROOT, "", kernel.attributes(ROOT))], 0
     check("the i-number of the root", 1 if edition == "6" else 2, todo[0][2].ino)
     while todo:

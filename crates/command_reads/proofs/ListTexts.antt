@@ -1,9 +1,10 @@
 -- The pieces in which lists and objects of JSON are written.
 use Rattle.std.proofs.Common.{◌≡◌, ◌∙◌, ap, sym, refl, ℕ, ◌+◌, ◌-◌, ◌≤◌, Bool, true, false, if◌then◌else◌, List, [], ◌∷◌, ◌++◌, codes, map, take, drop, length, length-append, append_assoc, subst, arith}
-use Rattle.std.specs.Prelude.{slice_range, String, Result, Ok, Err, IfOk}
+use Rattle.std.specs.Prelude.{decimal, slice_range, String, Result, Ok, Err, IfOk}
 use Rattle.std.specs.String.{string_bytes}
 use Rattle.std.specs.declared.alloc.Global.{Global}
 use Rattle.std.specs.List.{flat_map}
+use Rattle.std.proofs.lemmas.Fmt.{decimal_digit}
 use Rattle.std.proofs.lemmas.Grind.{flat_map-append}
 use Rattle.std.proofs.lemmas.List.{take-append-drop, take_at}
 use Rattle.std.proofs.Math.Seq.{take-add}
@@ -57,21 +58,29 @@ few_around f xs from few =
 after_items : (items : List ℕ) → items ++ codes "]}\n" ≡ ((items ++ 93 ∷ []) ++ 125 ∷ []) ++ codes "\n"
 after_items items = sym (append_assoc (items ++ 93 ∷ []) (125 ∷ []) (codes "\n") ∙ append_assoc items (93 ∷ []) (125 ∷ codes "\n"))
 
+-- the text of a report, from that of its format and of its lines on
+abbrev report_of : Bool → List ℕ → List ℕ → List ℕ
+report_of faulty format lines =
+    123 ∷ (compact_text (string (codes "faulty")) ++ 58 ∷ (compact_text (boolean faulty)
+    ++ (44 ∷ (compact_text (string (codes "format")) ++ 58 ∷ (format
+    ++ (44 ∷ (compact_text (string (codes "lines")) ++ 58 ∷ (91 ∷ (lines ++ 125 ∷ [])))))))))
+
 -- a report is written in three pieces
-in_three : (faults : Bool) (items : List ℕ)
-    → (if faults then codes "{\"faults\":true,\"lines\":[" else codes "{\"faults\":false,\"lines\":[") ++ (items ++ codes "]}\n")
-    ≡ (123 ∷ (compact_text (string (codes "faults")) ++ 58 ∷ (compact_text (boolean faults)
-    ++ (44 ∷ (compact_text (string (codes "lines")) ++ 58 ∷ (91 ∷ ((items ++ 93 ∷ []) ++ 125 ∷ []))))))) ++ codes "\n"
+in_three : (faulty : Bool) (items : List ℕ)
+    → (if faulty then codes "{\"faulty\":true,\"format\":1,\"lines\":[" else codes "{\"faulty\":false,\"format\":1,\"lines\":[") ++ (items ++ codes "]}\n")
+    ≡ report_of faulty (codes "1") (items ++ 93 ∷ []) ++ codes "\n"
 unfolding serde_json_on_literals
-in_three true items = ap (λ rest. codes "{\"faults\":true,\"lines\":[" ++ rest) (after_items items)
-in_three false items = ap (λ rest. codes "{\"faults\":false,\"lines\":[" ++ rest) (after_items items)
+in_three true items = ap (λ rest. codes "{\"faulty\":true,\"format\":1,\"lines\":[" ++ rest) (after_items items)
+in_three false items = ap (λ rest. codes "{\"faulty\":false,\"format\":1,\"lines\":[" ++ rest) (after_items items)
 
 -- the pieces of a checker's report are its text
 pub report_pieces : (report : List Line) → report_front report ++ (listed_text line_data report ++ codes "]}\n") ≡ checker_json report
 report_pieces report =
-    in_three (has_faults report) (listed_text line_data report)
-    ∙ ap (λ items. (123 ∷ (compact_text (string (codes "faults")) ++ 58 ∷ (compact_text (boolean (has_faults report))
-    ++ (44 ∷ (compact_text (string (codes "lines")) ++ 58 ∷ (91 ∷ (items ++ 125 ∷ []))))))) ++ codes "\n") (sym (items_listed line_data report))
+    let faulty = has_faults report in
+    let lines = listed_text line_data report in
+    in_three faulty lines
+    ∙ (ap (λ format. report_of faulty format (lines ++ 93 ∷ []) ++ codes "\n") (sym (decimal_digit 1 (omega arith)))
+    ∙ ap (λ items. report_of faulty (decimal 1) items ++ codes "\n") (sym (items_listed line_data report)))
 
 -- the text of a member and of the others, with more text after them
 after_member : (comma key value rest more : List ℕ)

@@ -26,12 +26,13 @@ link_data link =
     (member (codes "free") (counts link.numbers.items)
     (member (codes "nfree") (count link.count) no_members)))
 
--- the chain of the free list: the fault that ends it, the number of free blocks, and its links (this project)
+-- the chain of the free list: its links, the number of free blocks, and the fault that ends it (this project)
 abbrev pub chain_data : ChainReport → Data
 chain_data report =
-    object (member (codes "fault") (fault_data report.fault)
-    (member (codes "free blocks") (count report.free_blocks)
-    (member (codes "links") (array (items_of (map link_data report.links.items))) no_members)))
+    object (member (codes "chain") (array (items_of (map link_data report.links.items)))
+    (member (codes "format") (count 1)
+    (member (codes "free_blocks") (count report.free_blocks)
+    (member (codes "free_fault") (fault_data report.fault) no_members))))
 
 -- the chain as JSON, on one line (RFC 8259)
 abbrev pub chain_json : ChainReport → List ℕ

@@ -1,12 +1,15 @@
 -- The report on an i-node.
-use Rattle.std.specs.Prelude.{ℕ, false, List, ◌∷◌, ◌++◌, map, take, codes, ◌≡◌, Result, Ok, Err}
+use Rattle.std.specs.Prelude.{ℕ, ◌/◌, false, List, ◌∷◌, ◌++◌, map, take, codes, ◌≡◌, Result, Ok, Err}
 use Rattle.serde_json.specs.Data.{Data, string, array, object, member, no_members, Members}
 use Rattle.serde_json.specs.View.{items_of}
 use Rattle.serde_json.specs.Written.{compact_text}
 use Rattle.vol_layout.specs.Inode.{address_count, kind_of, permissions_of}
+use Rattle.vol_layout.specs.declared.mode.Kind.{Kind}
+use Rattle.vol_layout.specs.declared.mode.Kind.TheVariants as kinds
 use Rattle.vol_inspect.specs.Texts.{kind_name, inode_text}
 use Rattle.vol_inspect.specs.declared.inode_report.InodeReport.{InodeReport}
-use Rattle.vol_listing.specs.Json.{count}
+use Rattle.vol_listing.specs.Json.{count, octal}
+use Rattle.vol_listing.specs.Rows.{special_word}
 use Rattle.command_reads.specs.Json.{between_braces, counts, count_or_null, extent_data}
 use Rattle.vol_inspect.specs.Inspect.{InspectsInode}
 use Rattle.vol_inspect.specs.declared.fault.InspectFault.{InspectFault}
@@ -21,6 +24,18 @@ use Rattle.command_reads.specs.declared.looks.NodeName.{NodeName}
 use Rattle.command_reads.specs.declared.node.NodeFault.{NodeFault}
 use Rattle.command_reads.specs.declared.looks.OutputForm.TheVariants as forms
 
+-- the word for a kind of i-node; that of a special file is by its type (this project)
+abbrev pub word_of : Kind → ℕ → List ℕ
+word_of kinds.Free type = kind_name kinds.Free
+word_of kinds.Regular type = kind_name kinds.Regular
+word_of kinds.Directory type = kind_name kinds.Directory
+word_of kinds.Special type = special_word type
+word_of kinds.Odd type = kind_name kinds.Odd
+
+-- the word for the kind of an i-node with this mode, whose highest four bits are its type (stat.h)
+abbrev pub kind_word : Edition → ℕ → List ℕ
+kind_word edition mode = word_of (kind_of edition mode) (mode / 4096)
+
 -- an i-node: its fields by their names in the manual, its kind and its permissions, and its extents; the sixth edition has no time of change (this project)
 unfoldable pub inode_data : InodeReport → Data
 inode_data report =
@@ -28,15 +43,16 @@ inode_data report =
     (member (codes "atime") (count report.node.accessed)
     (member (codes "ctime") (count_or_null report.node.changed)
     (member (codes "extents") (array (items_of (map extent_data report.extents.items)))
+    (member (codes "format") (count 1)
     (member (codes "gid") (count report.node.gid)
-    (member (codes "i-node") (count report.number)
-    (member (codes "kind") (string (kind_name (kind_of report.edition report.node.mode.bits)))
-    (member (codes "mode") (count report.node.mode.bits)
+    (member (codes "ino") (count report.number)
+    (member (codes "kind") (string (kind_word report.edition report.node.mode.bits))
+    (member (codes "links") (count report.node.links)
+    (member (codes "mode") (octal report.node.mode.bits)
     (member (codes "mtime") (count report.node.modified)
-    (member (codes "nlink") (count report.node.links)
-    (member (codes "permissions") (count (permissions_of report.node.mode.bits))
+    (member (codes "permissions") (octal (permissions_of report.node.mode.bits))
     (member (codes "size") (count report.node.size)
-    (member (codes "uid") (count report.node.uid) no_members)))))))))))))
+    (member (codes "uid") (count report.node.uid) no_members))))))))))))))
 
 -- an i-node as JSON, on one line (RFC 8259)
 abbrev pub inode_json : InodeReport → List ℕ
@@ -52,15 +68,16 @@ members_front report =
 -- the members of an i-node that come after its extents (manual section 5, file system)
 unfoldable pub members_back : InodeReport → Members
 members_back report =
-    member (codes "gid") (count report.node.gid)
-    (member (codes "i-node") (count report.number)
-    (member (codes "kind") (string (kind_name (kind_of report.edition report.node.mode.bits)))
-    (member (codes "mode") (count report.node.mode.bits)
+    member (codes "format") (count 1)
+    (member (codes "gid") (count report.node.gid)
+    (member (codes "ino") (count report.number)
+    (member (codes "kind") (string (kind_word report.edition report.node.mode.bits))
+    (member (codes "links") (count report.node.links)
+    (member (codes "mode") (octal report.node.mode.bits)
     (member (codes "mtime") (count report.node.modified)
-    (member (codes "nlink") (count report.node.links)
-    (member (codes "permissions") (count (permissions_of report.node.mode.bits))
+    (member (codes "permissions") (octal (permissions_of report.node.mode.bits))
     (member (codes "size") (count report.node.size)
-    (member (codes "uid") (count report.node.uid) no_members))))))))
+    (member (codes "uid") (count report.node.uid) no_members)))))))))
 
 -- the text of the report in front of its extents (RFC 8259)
 unfoldable pub inode_front : InodeReport → List ℕ

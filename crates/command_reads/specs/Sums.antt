@@ -5,6 +5,7 @@ use Rattle.vol_archive.specs.declared.export_tree.StartFault.{StartFault}
 use Rattle.vol_archive.specs.declared.met_entries.MetEntry.{MetEntry}
 use Rattle.vol_dir.specs.Tree.{Tree, tree}
 use Rattle.vol_layout.specs.declared.edition.Edition.{Edition}
+use Rattle.vol_listing.specs.Listings.{shown_path}
 use Rattle.vol_listing.specs.Sums.{sums_json, sums_text}
 use Rattle.command_faults.specs.Faults.{no_memory}
 use Rattle.command_faults.specs.Streams.{Streams}
@@ -20,10 +21,10 @@ use Rattle.command_reads.specs.declared.looks.OutputForm.TheVariants as forms
 abbrev pub as_exported : Bool → ExportOptions
 as_exported lost = record { lost = lost; graded = false; losses = record { cut = false; damaged = false } }
 
--- the manifest of the entries that the walk found, in this format (sha256sum; this project)
-abbrev pub sums_in : Tree → List MetEntry → OutputForm → List ℕ
-sums_in tree founds forms.Text = sums_text tree founds
-sums_in tree founds forms.Json = sums_json tree founds
+-- the manifest of the entries that the walk found below the directory at path `top`, in this format (sha256sum; this project)
+abbrev pub sums_in : Tree → List ℕ → List MetEntry → OutputForm → List ℕ
+sums_in tree top founds forms.Text = sums_text tree founds
+sums_in tree top founds forms.Json = sums_json tree top founds
 
 -- a text is the manifest of the directory at a path, with the same entries as an export, and these lines are the remarks of that export (this
 -- project)
@@ -32,7 +33,7 @@ pub record IsManifest (edition : Edition) (image path : List ℕ) (form : Output
   pub begins : begun lost edition image path ≡ Ok start
   pub founds : List MetEntry
   pub walk : AreFound lost start.geometry image start.inode founds
-  pub words : text ≡ sums_in (tree start.geometry image) founds form
+  pub words : text ≡ sums_in (tree start.geometry image) (shown_path path) founds form
   pub short : Bool
   pub told : TellsAll edition image start.geometry founds (as_exported lost) lines short
 

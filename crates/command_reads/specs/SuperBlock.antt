@@ -29,36 +29,38 @@ fault_data (Some fault) = object (member (codes "fault") (string (fault_word fau
 -- the super-block: its fields by their names in filsys.h, and the counts (this project)
 unfoldable pub super_data : SuperReport → Data
 super_data report =
-    object (member (codes "data blocks") (count (report.geometry.zone_end - report.geometry.zone_start))
-    (member (codes "fault") (fault_data report.fault)
+    object (member (codes "cache") (counts report.cache.items)
+    (member (codes "data_blocks") (count (report.geometry.zone_end - report.geometry.zone_start))
     (member (codes "flock") (count (slice_index report.flags 0))
     (member (codes "fmod") (count (slice_index report.flags 2))
+    (member (codes "format") (count 1)
     (member (codes "free") (counts report.free.items)
-    (member (codes "free blocks") (count report.free_blocks)
-    (member (codes "free i-nodes") (count report.free_inodes)
+    (member (codes "free_blocks") (count report.free_blocks)
+    (member (codes "free_fault") (fault_data report.fault)
+    (member (codes "free_inodes") (count report.free_inodes)
     (member (codes "fsize") (count report.block_count)
-    (member (codes "i-nodes") (count report.geometry.last_inode)
     (member (codes "ilock") (count (slice_index report.flags 1))
-    (member (codes "inode") (counts report.cache.items)
+    (member (codes "inodes") (count report.geometry.last_inode)
     (member (codes "isize") (count report.list_size)
     (member (codes "nfree") (count report.free_count)
     (member (codes "ninode") (count report.cache_count)
     (member (codes "ronly") (count (slice_index report.flags 3))
-    (member (codes "time") (count report.time) no_members))))))))))))))))
+    (member (codes "time") (count report.time) no_members)))))))))))))))))
 
 -- the space of a volume: the numbers of blocks, of data blocks and of i-nodes, how many are free, how many are used, and the fault of the free list (df)
 unfoldable pub space_data : SuperReport → Data
 space_data report =
     let data_blocks = report.geometry.zone_end - report.geometry.zone_start in
     object (member (codes "blocks") (count report.geometry.zone_end)
-    (member (codes "data blocks") (count data_blocks)
-    (member (codes "fault") (fault_data report.fault)
-    (member (codes "free blocks") (count report.free_blocks)
-    (member (codes "free i-nodes") (count report.free_inodes)
-    (member (codes "i-nodes") (count report.geometry.last_inode)
-    (member (codes "used blocks") (count (in_use report.geometry.zone_end report.free_blocks))
-    (member (codes "used data blocks") (count (in_use data_blocks report.free_blocks))
-    (member (codes "used i-nodes") (count (in_use report.geometry.last_inode report.free_inodes)) no_members)))))))))
+    (member (codes "data_blocks") (count data_blocks)
+    (member (codes "format") (count 1)
+    (member (codes "free_blocks") (count report.free_blocks)
+    (member (codes "free_fault") (fault_data report.fault)
+    (member (codes "free_inodes") (count report.free_inodes)
+    (member (codes "inodes") (count report.geometry.last_inode)
+    (member (codes "used_blocks") (count (in_use report.geometry.zone_end report.free_blocks))
+    (member (codes "used_data_blocks") (count (in_use data_blocks report.free_blocks))
+    (member (codes "used_inodes") (count (in_use report.geometry.last_inode report.free_inodes)) no_members))))))))))
 
 -- part of the report on the super-block, as data (this project)
 abbrev pub part_data : SuperPart → SuperReport → Data
@@ -70,14 +72,15 @@ abbrev pub part_text : SuperPart → SuperReport → List ℕ
 part_text parts.Fields report = super_text report
 part_text parts.Space report = space_text report
 
--- the members of an object, with the sizes of a volume, and its time added (this project)
+-- the members of an object, with the number of the format, the sizes of a volume, and its time added (this project)
 unfoldable pub with_sizes : SuperReport → Members → Members
 with_sizes report members =
     put (codes "time") (count report.time)
-    (put (codes "i-nodes") (count report.geometry.last_inode)
-    (put (codes "data blocks") (count (report.geometry.zone_end - report.geometry.zone_start))
+    (put (codes "inodes") (count report.geometry.last_inode)
+    (put (codes "data_blocks") (count (report.geometry.zone_end - report.geometry.zone_start))
     (put (codes "fsize") (count report.block_count)
-    (put (codes "isize") (count report.list_size) members))))
+    (put (codes "isize") (count report.list_size)
+    (put (codes "format") (count 1) members)))))
 
 -- the members of an object, with the flags of a super-block added (this project)
 unfoldable pub with_flags : SuperReport → Members → Members
@@ -90,16 +93,16 @@ with_flags report members =
 -- the members of an object, with the free list added (this project)
 unfoldable pub with_free : SuperReport → Members → Members
 with_free report members =
-    put (codes "fault") (fault_data report.fault)
-    (put (codes "free blocks") (count report.free_blocks)
+    put (codes "free_fault") (fault_data report.fault)
+    (put (codes "free_blocks") (count report.free_blocks)
     (put (codes "free") (counts report.free.items)
     (put (codes "nfree") (count report.free_count) members)))
 
 -- the members of an object, with the i-number cache and the number of free i-nodes added (this project)
 unfoldable pub with_cache : SuperReport → Members → Members
 with_cache report members =
-    put (codes "free i-nodes") (count report.free_inodes)
-    (put (codes "inode") (counts report.cache.items)
+    put (codes "free_inodes") (count report.free_inodes)
+    (put (codes "cache") (counts report.cache.items)
     (put (codes "ninode") (count report.cache_count) members))
 
 -- part of the report on the super-block in this format: JSON is on one line (RFC 8259)

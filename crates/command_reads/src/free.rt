@@ -15,7 +15,7 @@ use serde_json::{Value, json};
 use std::alloc::{AllocError, Global};
 use vol_inspect::{ChainReport, inspect_chain};
 use vol_layout::Edition;
-use vol_listing::json::line;
+use vol_listing::json::{FORMAT, line};
 
 /// Shows the chain of the free list of an image in which rules 1 and 2 hold, link by link, as
 /// [`show_super`](crate::super_block::show_super) shows the super-block.
@@ -79,6 +79,11 @@ fn chain_value(alloc: Global, report: &ChainReport) -> Result<Value, AllocError>
     ensures { IfOk result (λ value. view value ≡ chain_data report.now) }
 {
     let fault = fault_value(alloc, report.fault)?;
-    let links = list(alloc, &report.links)?;
-    json!(in alloc; {"fault": fault, "free blocks": report.free_blocks, "links": links})
+    let chain = list(alloc, &report.links)?;
+    json!(in alloc; {
+        "chain": chain,
+        "format": FORMAT,
+        "free_blocks": report.free_blocks,
+        "free_fault": fault
+    })
 }

@@ -6,7 +6,7 @@ ghost use Rattle.serde_json.specs.Written.{compact_text};
 ghost use Rattle.vol_archive.specs.Write.{Writes};
 ghost use Rattle.vol_inspect.specs.Texts.{inode_text};
 ghost use Rattle.command_faults.specs.Streams.{streams, ErrorStream, Hears};
-ghost use Rattle.command_reads.specs.Inode.{inode_back, inode_front, inode_json, members_back, members_front, IsInodeText, IsInodeFault, ShowsInode, ShowsNumber};
+ghost use Rattle.command_reads.specs.Inode.{inode_back, inode_front, inode_json, kind_word, members_back, members_front, IsInodeText, IsInodeFault, ShowsInode, ShowsNumber};
 ghost use Rattle.command_reads.specs.Json.{count_or_null, extent_data, listed_text};
 
 use crate::faults::uninspected;
@@ -22,7 +22,9 @@ use serde_json::{Value, json};
 use std::alloc::{AllocError, Global};
 use vol_archive::WriteFault;
 use vol_inspect::{InodeReport, inspect_inode, kind_name};
-use vol_layout::Edition;
+use vol_layout::{Edition, Kind, Mode};
+use vol_listing::json::{FORMAT, octal};
+use vol_listing::special_word;
 
 /// Shows an i-node of an image. The image must keep rules 1 and 2, and may be any bytes otherwise. The status is 0; 1 if the image breaks one of
 /// these rules, has no i-node with this number, or the path leads to none; 3 if `output` failed, 4 if memory ran out. Nothing is printed until the
@@ -209,18 +211,30 @@ fn back_value(alloc: Global, report: &InodeReport) -> Result<Value, AllocError>
     ensures { IfOk result (λ value. view value ≡ object (members_back report.now)) }
 {
     let node = &report.node;
-    let mode = node.mode;
+    let mode = octal(alloc, node.mode.bits)?;
+    let permissions = octal(alloc, node.mode.permissions())?;
     json!(in alloc; {
+        "format": FORMAT,
         "gid": node.gid,
-        "i-node": report.number,
-        "kind": kind_name(mode.kind(report.edition)),
-        "mode": mode.bits,
+        "ino": report.number,
+        "kind": kind_word(report.edition, node.mode),
+        "links": node.links,
+        "mode": mode,
         "mtime": node.modified,
-        "nlink": node.links,
-        "permissions": mode.permissions(),
+        "permissions": permissions,
         "size": node.size,
         "uid": node.uid
     })
+}
+
+/// Returns the word for the kind of an i-node with this mode; that of a special file says of which type it is.
+fn kind_word(edition: Edition, mode: Mode) -> &'static str
+    ensures { result.now ≡ kind_word edition mode.bits }
+{
+    match mode.kind(edition) {
+        Kind::Special => special_word(mode.bits / 4096),
+        kind => kind_name(kind),
+    }
 }
 
 /// Returns a number, or null if there is none.

@@ -2,6 +2,7 @@
 ghost use Rattle.std.specs.Prelude.{◌≡◌, IfErr, IfOk};
 ghost use Rattle.vol_dir.specs.Tree.{tree};
 ghost use Rattle.vol_layout.specs.Geometry.{Fits};
+ghost use Rattle.vol_listing.specs.Listings.{shown_path};
 ghost use Rattle.command_faults.specs.Streams.{ErrorStream, Hears, streams};
 ghost use Rattle.command_reads.specs.Sums.{IsManifest, IsManifestFault, Sums, sums_in};
 
@@ -14,7 +15,7 @@ use pdp_words::{Image, Sink};
 use std::alloc::{AllocError, Global};
 use vol_archive::MetEntry;
 use vol_layout::{Edition, Geometry};
-use vol_listing::{sums_json, sums_text};
+use vol_listing::{shown_path, sums_json, sums_text};
 
 /// Prints a manifest of everything below the directory at a path: each node in the order of an archive, with its path, its attributes, and the
 /// SHA-256 of a regular file's bytes. With `lost`, also has the i-nodes that no entry names, as an export has. The image must keep rules 1 and 2, and may be any bytes otherwise. The status is 0 for a sound image whose
@@ -68,23 +69,25 @@ fn make_manifest(
         },
     };
     let remarks = tell_all(alloc, edition, image, &start.geometry, &rescue, options)?;
-    let text = sums_in(alloc, image, &start.geometry, &rescue.founds, form)?;
+    let top = shown_path(alloc, path.as_bytes())?;
+    let text = sums_in(alloc, image, &start.geometry, &top, &rescue.founds, form)?;
     Ok(RemarkedText { text, remarks })
 }
 
-/// Returns the text of a manifest in this format.
+/// Returns the text of a manifest of the directory at path `top` in this format.
 fn sums_in(
     alloc: Global,
     image: &Image,
     geometry: &Geometry,
+    top: &[u8],
     founds: &[MetEntry],
     form: OutputForm,
 ) -> Result<Vec<u8>, AllocError>
     requires { Fits geometry.now image.now }
-    ensures { IfOk result (λ text. text.items ≡ sums_in (tree geometry.now image.now) founds.now form) }
+    ensures { IfOk result (λ text. text.items ≡ sums_in (tree geometry.now image.now) top.now founds.now form) }
 {
     match form {
         OutputForm::Text => sums_text(alloc, image, geometry, founds),
-        OutputForm::Json => Ok(sums_json(alloc, image, geometry, founds)?.into_bytes()),
+        OutputForm::Json => Ok(sums_json(alloc, image, geometry, top, founds)?.into_bytes()),
     }
 }

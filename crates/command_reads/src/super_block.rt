@@ -15,7 +15,7 @@ use std::alloc::{AllocError, Global};
 use vol_free::FreeFault;
 use vol_inspect::{SuperReport, in_use, inspect_super};
 use vol_layout::Edition;
-use vol_listing::json::{line, put_count};
+use vol_listing::json::{FORMAT, line, put_count};
 
 /// The part of the report on a super-block that a command shows.
 #[derive(Clone, Copy)]
@@ -125,14 +125,15 @@ fn space_value(alloc: Global, report: &SuperReport) -> Result<Value, AllocError>
     let used_inodes = in_use(inodes, free_inodes);
     json!(in alloc; {
         "blocks": blocks,
-        "data blocks": data_blocks,
-        "fault": fault,
-        "free blocks": free_blocks,
-        "free i-nodes": free_inodes,
-        "i-nodes": inodes,
-        "used blocks": used_blocks,
-        "used data blocks": used_data_blocks,
-        "used i-nodes": used_inodes
+        "data_blocks": data_blocks,
+        "format": FORMAT,
+        "free_blocks": free_blocks,
+        "free_fault": fault,
+        "free_inodes": free_inodes,
+        "inodes": inodes,
+        "used_blocks": used_blocks,
+        "used_data_blocks": used_data_blocks,
+        "used_inodes": used_inodes
     })
 }
 
@@ -149,7 +150,7 @@ fn super_value(alloc: Global, report: &SuperReport) -> Result<Value, AllocError>
     Ok(Value::Object(object))
 }
 
-/// Puts the sizes of a volume, and its time, into an object.
+/// Puts the number of the format, the sizes of a volume, and its time into an object.
 #[tactic(auto, unfolding(crate::specs::SuperBlock::with_sizes))]
 fn put_sizes(
     alloc: Global,
@@ -160,13 +161,14 @@ fn put_sizes(
     ensures { OnOk result (members_view object.new.entries ≡ with_sizes report.now (members_view object.old.entries)) }
 {
     let blocks = report.geometry.zone_end - report.geometry.zone_start;
+    put_count(alloc, object, "format", FORMAT)?;
     put_count(alloc, object, "isize", u64::from(report.list_size))?;
     put_count(alloc, object, "fsize", u64::from(report.block_count))?;
-    put_count(alloc, object, "data blocks", u64::from(blocks))?;
+    put_count(alloc, object, "data_blocks", u64::from(blocks))?;
     put_count(
         alloc,
         object,
-        "i-nodes",
+        "inodes",
         u64::from(report.geometry.last_inode),
     )?;
     put_count(alloc, object, "time", u64::from(report.time))
@@ -200,8 +202,8 @@ fn put_free(
     let fault = fault_value(alloc, report.fault)?;
     put_count(alloc, object, "nfree", u64::from(report.free_count))?;
     put(object, alloc, "free", free)?;
-    put_count(alloc, object, "free blocks", report.free_blocks as u64)?;
-    put(object, alloc, "fault", fault)
+    put_count(alloc, object, "free_blocks", report.free_blocks as u64)?;
+    put(object, alloc, "free_fault", fault)
 }
 
 /// Puts the i-number cache and the number of free i-nodes into an object.
@@ -215,8 +217,8 @@ fn put_cache(
 {
     let cache = list(alloc, &report.cache)?;
     put_count(alloc, object, "ninode", u64::from(report.cache_count))?;
-    put(object, alloc, "inode", cache)?;
-    put_count(alloc, object, "free i-nodes", u64::from(report.free_inodes))
+    put(object, alloc, "cache", cache)?;
+    put_count(alloc, object, "free_inodes", u64::from(report.free_inodes))
 }
 
 /// Returns the fault that ended the walk over the free list as a JSON value.

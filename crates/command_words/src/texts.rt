@@ -184,8 +184,8 @@ alone.
 With -l the i-number is followed by the kind and the permissions, as in -rw-r--r--, the number of links, the user,
 the group, the size in bytes or the two numbers of a device, and the time of modification in UTC. With -R the
 directories below are listed too, each after a line with its path and a colon. With -d a directory is listed like
-a file, instead of the names in it, and -R has no effect. With --json the output is one array, with an object for
-each name. A byte of a name or path that isn't printable ASCII is shown as a backslash and three octal digits: in
+a file, instead of the names in it, and -R has no effect. With --json the output is one object, whose \"entries\" has
+an object for each name. A byte of a name or path that isn't printable ASCII is shown as a backslash and three octal digits: in
 text only on a terminal, in JSON always.
 
 With --slots, each 16-byte slot of the directory has a line, in order: the slot's number from 0 on, the i-number and the
@@ -309,9 +309,9 @@ with the i-number, the block, or the directory and its slot. A rule is not check
 doesn't hold; its line says so. If rule 1 or 2 fails and the image could be of the other edition, a last line says
 so. Nothing is changed.
 
-With --json, one object is printed on one line: \"edition\", \"other edition\" (the one that fits instead, or null),
-\"sound\", and \"rules\", an object for each rule: \"rule\", \"requires\", \"holds\" (null if it isn't checked), \"finding\"
-(what breaks it first) and \"at\" (its place).
+With --json, one object is printed on one line: \"edition\", \"other_edition\" (the one that fits instead, or null),
+\"sound\", and \"rules\", an object for each rule: \"rule\", \"needs\" (what it requires), \"holds\" (null if it isn't
+checked), \"finding\" (what breaks it first) and \"at\" (its place).
 
 Status:
   0  all rules hold: the volume is sound
@@ -604,9 +604,9 @@ not be sound, and nothing is changed.
   files N, directories N, special N, odd N      i-nodes of each kind; the mode of an odd one isn't the edition's
   used N, free N, missing N                     blocks that are in use, in the free list, and lost
 
-With --json the output is one object: `faults` is true if the status is 1, and `lines` has an object for each line,
-with its kind and its numbers, as in {\"block\":7,\"free\":false,\"line\":\"dup\",\"places\":2}. The others are
-{\"count\":1,\"i-node\":7,\"least\":99,\"line\":\"bad\"}, {\"block\":7,\"line\":\"lost\"}, {\"count\":5,\"line\":\"total\",\"name\":\"files\"}
+With --json the output is one object: \"faulty\" is true if the status is 1, and \"lines\" has an object for each line,
+with its kind and its numbers, as in {\"block\":7,\"is_free\":false,\"line\":\"dup\",\"places\":2}. The others are
+{\"count\":1,\"ino\":7,\"least\":99,\"line\":\"bad\"}, {\"block\":7,\"line\":\"lost\"}, {\"count\":5,\"line\":\"total\",\"total\":\"files\"}
 and {\"fault\":\"free repeat\",\"line\":\"free\",\"number\":9}.
 
 Status:
@@ -631,8 +631,8 @@ not be sound, and nothing is changed.
   INO ENTRIES LINKS    ENTRIES directory entries, including `.` and `..`, name the i-number, but its link count is
                        LINKS (0 if the i-node is free); or both are 0 and the i-node isn't free
 
-With --json the output is one object, as that of icheck, with {\"entries\":1,\"i-node\":7,\"line\":\"links\",\"links\":2} and the
-like.
+With --json the output is one object, as that of icheck, with {\"entry_count\":1,\"ino\":7,\"line\":\"links\",\"links\":2}
+and the like.
 
 Status:
   0  nothing is wrong
@@ -655,7 +655,7 @@ need not be sound, and nothing is changed.
   INO ...PATH    the entry's directory can't be reached from the root: its path begins where the way up ends, at a
                  directory that no entry names, or that was met before
 
-With --json the output is one object, as that of icheck, with {\"i-node\":7,\"line\":\"name\",\"path\":\"/etc\"} and the like.
+With --json the output is one object, as that of icheck, with {\"ino\":7,\"line\":\"name\",\"path\":\"/etc\"} and the like.
 Paths are escaped.
 
 Status:

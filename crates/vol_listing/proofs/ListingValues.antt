@@ -12,6 +12,7 @@ use Rattle.serde_json.specs.Written.{has_float, items_have_float, members_have_f
 use Rattle.vol_dir.specs.Tree.{Tree}
 use Rattle.vol_change.specs.Nodes.{node_at}
 use Rattle.vol_listing.specs.Depths.{opens}
+use Rattle.vol_listing.specs.Json.{listed}
 use Rattle.vol_listing.specs.ListingJson.{all_data, device_members, entries_data, entry_data, row_data, with_device, with_file, with_numbers}
 use Rattle.vol_listing.specs.Places.{joined, names_under}
 use Rattle.vol_listing.specs.Rows.{row_of}
@@ -57,10 +58,10 @@ escaped_utf8 bytes bound = IsUtf8-from_ascii (flat_map escaped_byte bytes) (byte
 
 -- in the object of a special file the members of its device come after the links and before the time
 device_in_order : (sort : Sort) (gid inode kind links modified path permissions size uid : Data)
-    → with_device sort (member (codes "gid") gid (member (codes "inode") inode (member (codes "kind") kind (member (codes "links") links
-    (member (codes "modified") modified (member (codes "path") path (member (codes "permissions") permissions (member (codes "size") size (member (codes "uid") uid no_members)))))))))
-    ≡ member (codes "gid") gid (member (codes "inode") inode (member (codes "kind") kind (member (codes "links") links (device_members sort
-    (member (codes "modified") modified (member (codes "path") path (member (codes "permissions") permissions (member (codes "size") size (member (codes "uid") uid no_members)))))))))
+    → with_device sort (member (codes "gid") gid (member (codes "ino") inode (member (codes "kind") kind (member (codes "links") links
+    (member (codes "mtime") modified (member (codes "path") path (member (codes "permissions") permissions (member (codes "size") size (member (codes "uid") uid no_members)))))))))
+    ≡ member (codes "gid") gid (member (codes "ino") inode (member (codes "kind") kind (member (codes "links") links (device_members sort
+    (member (codes "mtime") modified (member (codes "path") path (member (codes "permissions") permissions (member (codes "size") size (member (codes "uid") uid no_members)))))))))
 device_in_order sorts.Regular gid inode kind links modified path permissions size uid = refl
 device_in_order sorts.Directory gid inode kind links modified path permissions size uid = refl
 device_in_order (sorts.Character device) gid inode kind links modified path permissions size uid = refl
@@ -86,6 +87,10 @@ row_whole path row = device_whole row.sort _ refl
 -- none of these values has a fraction
 abbrev AreWhole : List Data → Type 0
 AreWhole ds = items_have_float (items_of ds) ≡ false
+
+-- if some entries have no fraction, the object with them has none
+pub listed_whole : (ds : List Data) → items_have_float (items_of ds) ≡ false → has_float (listed ds) ≡ false
+listed_whole ds whole = rw whole refl
 
 -- if a value and a list of values have no fraction, the list with the value before it has none
 whole_more : (d : Data) (ds : List Data) → has_float d ≡ false → AreWhole ds → AreWhole (d ∷ ds)
@@ -144,15 +149,15 @@ unfolding summed_data
 summed_whole sum row path = summed_by sum row.sort path row
 
 -- the objects of a manifest have no fraction
-met_whole : (tree : Tree) (found : MetEntry) → AreWhole (met_data tree found)
-met_whole tree found =
-    let node = summed_data (sum_at tree found.inode) (row_of found.inode (node_at tree found.inode)) found.path in
+met_whole : (tree : Tree) (top : List ℕ) (found : MetEntry) → AreWhole (met_data tree top found)
+met_whole tree top found =
+    let node = summed_data (sum_at tree found.inode) (row_of found.inode (node_at tree found.inode)) (joined top found.path) in
     elim (is_left found.role) as (λ b. AreWhole (if b then [] else node ∷ [])) [
       | true ↦ refl
-      | false ↦ whole_more node [] (summed_whole (sum_at tree found.inode) (row_of found.inode (node_at tree found.inode)) found.path) refl
+      | false ↦ whole_more node [] (summed_whole (sum_at tree found.inode) (row_of found.inode (node_at tree found.inode)) (joined top found.path)) refl
     ]
 
-pub sums_whole : (tree : Tree) (founds : List MetEntry) → AreWhole (sums_data tree founds)
-sums_whole tree [] = refl
-sums_whole tree (found ∷ founds) =
-    whole_append (met_data tree found) (sums_data tree founds) (met_whole tree found) (sums_whole tree founds)
+pub sums_whole : (tree : Tree) (top : List ℕ) (founds : List MetEntry) → AreWhole (sums_data tree top founds)
+sums_whole tree top [] = refl
+sums_whole tree top (found ∷ founds) =
+    whole_append (met_data tree top found) (sums_data tree top founds) (met_whole tree top found) (sums_whole tree top founds)

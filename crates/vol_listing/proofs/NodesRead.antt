@@ -58,22 +58,22 @@ module _ (geometry : Geometry) (image : List ℕ) (i : ℕ) where
   row_none kind number is (inr odd) = row_odd number (sym odd ∙ is)
 
   pub row_regular : (node : Inode) → is_number geometry i ≡ true → kinds.Regular ≡ kind_at geometry image i → node ≡ inode_of geometry.edition image i
-      → row_with i node sorts.Regular ≡ row_of i (node_at (tree geometry image) i)
-  row_regular node number is stored = ap (λ n. row_with i n sorts.Regular) stored ∙ ap (row_of i) (sym (node_is kinds.Regular number is))
+      → row_with i node sorts.Regular 0 ≡ row_of i (node_at (tree geometry image) i)
+  row_regular node number is stored = ap (λ n. row_with i n sorts.Regular 0) stored ∙ ap (row_of i) (sym (node_is kinds.Regular number is))
 
   pub row_directory : (node : Inode) → is_number geometry i ≡ true → kinds.Directory ≡ kind_at geometry image i → node ≡ inode_of geometry.edition image i
-      → row_with i node sorts.Directory ≡ row_of i (node_at (tree geometry image) i)
-  row_directory node number is stored = ap (λ n. row_with i n sorts.Directory) stored ∙ ap (row_of i) (sym (node_is kinds.Directory number is))
+      → row_with i node sorts.Directory 0 ≡ row_of i (node_at (tree geometry image) i)
+  row_directory node number is stored = ap (λ n. row_with i n sorts.Directory 0) stored ∙ ap (row_of i) (sym (node_is kinds.Directory number is))
 
   pub row_special : (node : Inode) (sort : Sort) → is_number geometry i ≡ true → kinds.Special ≡ kind_at geometry image i → node ≡ inode_of geometry.edition image i
       → sort ≡ special_sort (node.mode.bits / 4096) (slice_index node.addresses 0 % 65536)
-      → row_with i node sort ≡ row_of i (node_at (tree geometry image) i)
+      → row_with i node sort (node.mode.bits / 4096) ≡ row_of i (node_at (tree geometry image) i)
   row_special node sort number is stored sorted =
       let mode = inode_mode geometry.edition image (inode_place geometry.edition i) in
       let device = slice_index (inode_of geometry.edition image i).addresses 0 % 65536 in
-      ap (row_with i node) sorted
-      ∙ (ap (λ (n : Inode). row_with i n (special_sort (n.mode.bits / 4096) (slice_index n.addresses 0 % 65536))) stored
-      ∙ (ap (λ bits. row_with i (inode_of geometry.edition image i) (special_sort (bits / 4096) device)) mode
+      ap (λ s. row_with i node s (node.mode.bits / 4096)) sorted
+      ∙ (ap (λ (n : Inode). row_with i n (special_sort (n.mode.bits / 4096) (slice_index n.addresses 0 % 65536)) (n.mode.bits / 4096)) stored
+      ∙ (ap (λ bits. row_with i (inode_of geometry.edition image i) (special_sort (bits / 4096) device) (bits / 4096)) mode
       ∙ ap (row_of i) (sym (node_is kinds.Special number is))))
 
   -- an i-number outside the volume is no directory

@@ -1,15 +1,13 @@
 -- Listings as JSON.
 use Rattle.std.specs.Prelude.{ℕ, ◌/◌, ◌%◌, if◌then◌else◌, List, [], ◌∷◌, ◌++◌, codes, map}
 use Rattle.std.specs.List.{flat_map}
-use Rattle.serde_json.specs.Data.{Data, Members, string, array, object, member, no_members, put}
-use Rattle.serde_json.specs.View.{items_of}
-use Rattle.serde_json.specs.Written.{compact_text}
+use Rattle.serde_json.specs.Data.{Data, Members, string, object, member, no_members, put}
 use Rattle.vol_dir.specs.Tree.{Tree}
 use Rattle.vol_change.specs.Nodes.{node_at}
 use Rattle.vol_listing.specs.Depths.{opens}
-use Rattle.vol_listing.specs.Json.{count}
+use Rattle.vol_listing.specs.Json.{count, entries_text, octal}
 use Rattle.vol_listing.specs.Places.{joined, names_under}
-use Rattle.vol_listing.specs.Rows.{row_of}
+use Rattle.vol_listing.specs.Rows.{row_of, special_word}
 use Rattle.escaped_text.specs.Escape.{escaped}
 use Rattle.vol_listing.specs.declared.options.Depth.{Depth}
 use Rattle.vol_listing.specs.declared.places.ListedNode.{ListedNode}
@@ -17,12 +15,12 @@ use Rattle.vol_listing.specs.declared.rows.Row.{Row}
 use Rattle.vol_listing.specs.declared.rows.Sort.{Sort}
 use Rattle.vol_listing.specs.declared.rows.Sort.TheVariants as sorts
 
--- the word for a kind of node (this project)
-abbrev pub sort_word : Sort → List ℕ
-sort_word sorts.Regular = codes "file"
-sort_word sorts.Directory = codes "directory"
-sort_word (sorts.Character device) = codes "character"
-sort_word (sorts.Block device) = codes "block"
+-- the word for a kind of node, of a special file with this type (this project)
+abbrev pub sort_word : ℕ → Sort → List ℕ
+sort_word type sorts.Regular = codes "file"
+sort_word type sorts.Directory = codes "directory"
+sort_word type (sorts.Character device) = special_word type
+sort_word type (sorts.Block device) = special_word type
 
 -- the members of an object, with the device of a special file added, as the high and low byte of its number (stat.h)
 abbrev pub device_members : Sort → Members → Members
@@ -35,13 +33,13 @@ device_members (sorts.Block device) others = member (codes "major") (count (devi
 unfoldable pub row_data : List ℕ → Row → Data
 row_data path row =
     object (member (codes "gid") (count row.gid)
-    (member (codes "inode") (count row.number)
-    (member (codes "kind") (string (sort_word row.sort))
+    (member (codes "ino") (count row.number)
+    (member (codes "kind") (string (sort_word row.type_bits row.sort))
     (member (codes "links") (count row.links)
     (device_members row.sort
-    (member (codes "modified") (count row.modified)
+    (member (codes "mtime") (count row.modified)
     (member (codes "path") (string (escaped path))
-    (member (codes "permissions") (count row.permissions)
+    (member (codes "permissions") (octal row.permissions)
     (member (codes "size") (count row.size)
     (member (codes "uid") (count row.uid) no_members))))))))))
 
@@ -61,9 +59,9 @@ all_data tree depth place places =
     then entries_data tree place ++ flat_map (entries_data tree) places
     else row_data place.path (row_of place.inode (node_at tree place.inode)) ∷ []
 
--- a listing as one array of objects, on one line (RFC 8259)
+-- a listing as one object with an entry for each name, on one line (this project)
 abbrev pub json_text : Tree → Depth → ListedNode → List ListedNode → List ℕ
-json_text tree depth place places = compact_text (array (items_of (all_data tree depth place places))) ++ codes "\n"
+json_text tree depth place places = entries_text (all_data tree depth place places)
 
 -- the members of an object, with the numbers that every node has added (this project)
 unfoldable pub with_numbers : Row → Members → Members
@@ -71,15 +69,15 @@ with_numbers row members =
     put (codes "uid") (count row.uid)
     (put (codes "gid") (count row.gid)
     (put (codes "links") (count row.links)
-    (put (codes "inode") (count row.number) members)))
+    (put (codes "ino") (count row.number) members)))
 
 -- the members of an object, with the path and the file's kind, permissions, size and time of change added (this project)
 unfoldable pub with_file : List ℕ → Row → Members → Members
 with_file path row members =
-    put (codes "modified") (count row.modified)
+    put (codes "mtime") (count row.modified)
     (put (codes "size") (count row.size)
-    (put (codes "permissions") (count row.permissions)
-    (put (codes "kind") (string (sort_word row.sort))
+    (put (codes "permissions") (octal row.permissions)
+    (put (codes "kind") (string (sort_word row.type_bits row.sort))
     (put (codes "path") (string (escaped path)) members))))
 
 -- the members of an object, with the device of a special file added (this project)

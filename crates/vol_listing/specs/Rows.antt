@@ -1,5 +1,5 @@
 -- The rows of a listing.
-use Rattle.std.specs.Prelude.{ℕ, ◌/◌, ◌%◌, ◌==◌, if◌then◌else◌, slice_index}
+use Rattle.std.specs.Prelude.{ℕ, ◌/◌, ◌%◌, ◌==◌, ◌||◌, if◌then◌else◌, List, codes, slice_index}
 use Rattle.vol_layout.specs.Inode.{permissions_of}
 use Rattle.vol_layout.specs.declared.i_node.Inode.{Inode}
 use Rattle.vol_dir.specs.Tree.{Content, Body, Directory, Device, Node}
@@ -17,11 +17,23 @@ sort_of (Body bytes) = sorts.Regular
 sort_of (Directory names) = sorts.Directory
 sort_of (Device type addresses) = special_sort type (slice_index addresses 0 % 65536)
 
+-- the word for a special file, by its type: 030000 and 070000 are the multiplexor types, which the seventh edition alone has (stat.h)
+abbrev pub special_word : ℕ → List ℕ
+special_word type =
+    if type == 3 || type == 7 then codes "multiplexor" else if type / 2 % 4 == 3 then codes "block" else codes "character"
+
+-- the type of a special file, the highest four bits of its mode; 0 for anything else (stat.h)
+abbrev pub type_of : Content → ℕ
+type_of (Body bytes) = 0
+type_of (Directory names) = 0
+type_of (Device type addresses) = type
+
 -- the row of node i (ls -l)
 abbrev pub row_of : ℕ → Node → Row
 row_of i node = record {
   number = i;
   sort = sort_of node.content;
+  type_bits = type_of node.content;
   permissions = node.permissions;
   links = node.links;
   uid = node.uid;
@@ -30,11 +42,12 @@ row_of i node = record {
   modified = node.modified;
 }
 
--- the row of an i-node with this number and kind (ls -l)
-abbrev pub row_with : ℕ → Inode → Sort → Row
-row_with i node sort = record {
+-- the row of an i-node with this number, kind and type (ls -l)
+abbrev pub row_with : ℕ → Inode → Sort → ℕ → Row
+row_with i node sort type = record {
   number = i;
   sort = sort;
+  type_bits = type;
   permissions = permissions_of node.mode.bits;
   links = node.links;
   uid = node.uid;

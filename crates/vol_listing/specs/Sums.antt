@@ -3,9 +3,7 @@ use Rattle.std.specs.Prelude.{ℕ, Bool, true, false, if◌then◌else◌, List,
 use Rattle.std.specs.List.{flat_map}
 use Rattle.std.specs.Option.{option_map_or}
 use Rattle.hex.specs.Hex.{encode_lower}
-use Rattle.serde_json.specs.Data.{Data, null, string, array, object, no_members, put}
-use Rattle.serde_json.specs.View.{items_of}
-use Rattle.serde_json.specs.Written.{compact_text}
+use Rattle.serde_json.specs.Data.{Data, null, string, object, no_members, put}
 use Rattle.sha2.specs.Sha256.{sha256}
 use Rattle.escaped_text.specs.Escape.{escaped}
 use Rattle.vol_archive.specs.declared.met_entries.MetEntry.{MetEntry}
@@ -15,8 +13,10 @@ use Rattle.vol_change.specs.Nodes.{node_at}
 use Rattle.vol_dir.specs.Tree.{Content, Body, Directory, Device, Node, Tree}
 use Rattle.vol_listing.specs.Dates.{moment_text}
 use Rattle.vol_listing.specs.Digits.{padded_number}
+use Rattle.vol_listing.specs.Json.{entries_text}
 use Rattle.vol_listing.specs.ListingJson.{with_device, with_file, with_numbers}
 use Rattle.vol_listing.specs.LongLines.{column, mode_text, size_text}
+use Rattle.vol_listing.specs.Places.{joined}
 use Rattle.vol_listing.specs.Rows.{row_of}
 use Rattle.vol_listing.specs.declared.rows.Row.{Row}
 
@@ -74,16 +74,16 @@ sum_data (Some sum) = string (encode_lower sum)
 unfoldable pub summed_data : Option (List ℕ) → Row → List ℕ → Data
 summed_data sum row path = object (put (codes "sha256") (sum_data sum) (with_device row.sort (with_file path row (with_numbers row no_members))))
 
--- the object of an entry that the walk found, unless it is left out (this project)
-abbrev pub met_data : Tree → MetEntry → List Data
-met_data tree found =
+-- the object of an entry that the walk found below the directory at path `top`, unless it is left out (this project)
+abbrev pub met_data : Tree → List ℕ → MetEntry → List Data
+met_data tree top found =
     if is_left found.role then []
-    else summed_data (sum_at tree found.inode) (row_of found.inode (node_at tree found.inode)) found.path ∷ []
+    else summed_data (sum_at tree found.inode) (row_of found.inode (node_at tree found.inode)) (joined top found.path) ∷ []
 
--- the objects of the entries that the walk found (this project)
-abbrev pub sums_data : Tree → List MetEntry → List Data
-sums_data tree founds = flat_map (met_data tree) founds
+-- the objects of the entries that the walk found below the directory at a path (this project)
+abbrev pub sums_data : Tree → List ℕ → List MetEntry → List Data
+sums_data tree top founds = flat_map (met_data tree top) founds
 
--- the objects of the entries that the walk found, as one array on one line (RFC 8259)
-abbrev pub sums_json : Tree → List MetEntry → List ℕ
-sums_json tree founds = compact_text (array (items_of (sums_data tree founds))) ++ codes "\n"
+-- one object with these entries, on one line (this project)
+abbrev pub sums_json : Tree → List ℕ → List MetEntry → List ℕ
+sums_json tree top founds = entries_text (sums_data tree top founds)

@@ -20,4 +20,5 @@ pub use listing::{list, shown_path};
 pub use long_lines::kind_letters;
 pub use options::{Depth, Lines, ListOptions, Screen};
 pub use places::joined;
+pub use rows::special_word;
 pub use sums::{sums_json, sums_text};

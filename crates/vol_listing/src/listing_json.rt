@@ -9,18 +9,18 @@ ghost use Rattle.vol_listing.specs.ListingJson.{sort_word, row_data, entry_data,
 ghost use Rattle.vol_listing.specs.Places.{IsVolume};
 
 use crate::directories::{names, opens};
-use crate::json::{escaped_text, line, put_count};
+use crate::json::{entries_line, escaped_text, octal, put_count};
 use crate::options::Depth;
 use crate::places::{ListedNode, joined};
-use crate::rows::{Row, Sort, row_at};
+use crate::rows::{Row, Sort, row_at, special_word};
 use pdp_words::Image;
 use serde_json::{Map, Value, put};
 use std::alloc::{AllocError, Global};
 use vol_layout::Geometry;
 use vol_volume::Bytes;
 
-/// Returns one array on one line: an object for each entry of a directory and of the given directories below it. A file, or a directory that is
-/// listed itself, has one object.
+/// Returns one object on one line, with an entry for each name in a directory and in the given directories below it. A file, or a directory that is
+/// listed itself, is one entry.
 pub(crate) fn json_text(
     alloc: Global,
     image: &Image,
@@ -33,10 +33,10 @@ pub(crate) fn json_text(
     ensures { IfOk result (λ text. string_bytes text ≡ json_text (tree geometry.now image.now) depth place.now places.now) }
 {
     let values = all_values(alloc, image, geometry, depth, place, places)?;
-    line(alloc, &Value::Array(values))
+    entries_line(alloc, values)
 }
 
-/// Returns the objects of a listing's array.
+/// Returns the objects of a listing's entries.
 fn all_values(
     alloc: Global,
     image: &Image,
@@ -158,7 +158,7 @@ pub(crate) fn row_object(
 fn put_numbers(alloc: Global, row: Row, object: &mut Map<String, Value>) -> Result<(), AllocError>
     ensures { OnOk result (members_view object.new.entries ≡ with_numbers row (members_view object.old.entries)) }
 {
-    put_count(alloc, object, "inode", u64::from(row.number))?;
+    put_count(alloc, object, "ino", u64::from(row.number))?;
     put_count(alloc, object, "links", u64::from(row.links))?;
     put_count(alloc, object, "gid", u64::from(row.gid))?;
     put_count(alloc, object, "uid", u64::from(row.uid))
@@ -175,12 +175,13 @@ fn put_file(
     ensures { OnOk result (members_view object.new.entries ≡ with_file path.now row (members_view object.old.entries)) }
 {
     let path = escaped_text(alloc, path)?;
-    let kind = String::from_str(alloc, sort_word(row.sort))?;
+    let kind = String::from_str(alloc, sort_word(row.type_bits, row.sort))?;
+    let permissions = octal(alloc, row.permissions)?;
     put(object, alloc, "path", Value::String(path))?;
     put(object, alloc, "kind", Value::String(kind))?;
-    put_count(alloc, object, "permissions", u64::from(row.permissions))?;
+    put(object, alloc, "permissions", permissions)?;
     put_count(alloc, object, "size", u64::from(row.size))?;
-    put_count(alloc, object, "modified", u64::from(row.modified))
+    put_count(alloc, object, "mtime", u64::from(row.modified))
 }
 
 /// Puts the device of a special file into an object.
@@ -196,14 +197,13 @@ fn put_device(alloc: Global, sort: Sort, object: &mut Map<String, Value>) -> Res
     }
 }
 
-/// Returns the word for a kind of node.
-fn sort_word(sort: Sort) -> &'static str
-    ensures { result.now ≡ sort_word sort }
+/// Returns the word for a kind of node, of a special file with this type.
+fn sort_word(type_bits: u16, sort: Sort) -> &'static str
+    ensures { result.now ≡ sort_word type_bits sort }
 {
     match sort {
         Sort::Regular => "file",
         Sort::Directory => "directory",
-        Sort::Character(_) => "character",
-        Sort::Block(_) => "block",
+        Sort::Character(_) | Sort::Block(_) => special_word(type_bits),
     }
 }

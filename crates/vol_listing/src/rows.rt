@@ -3,7 +3,7 @@ ghost use Rattle.std.specs.Prelude.{◌≡◌, ◌/◌, ◌%◌, slice_index};
 ghost use Rattle.vol_layout.specs.Geometry.{Fits};
 ghost use Rattle.vol_dir.specs.Tree.{tree, is_number};
 ghost use Rattle.vol_change.specs.Nodes.{no_node, node_at};
-ghost use Rattle.vol_listing.specs.Rows.{row_of, row_with, special_sort};
+ghost use Rattle.vol_listing.specs.Rows.{row_of, row_with, special_sort, special_word};
 
 use pdp_words::Image;
 use vol_layout::i_list::kind;
@@ -16,6 +16,8 @@ pub(crate) struct Row {
     pub(crate) number: u16,
     /// The kind of node.
     pub(crate) sort: Sort,
+    /// The type of a special file, the highest four bits of its mode; 0 for any other node.
+    pub(crate) type_bits: u16,
     /// The permission bits, the low 12 bits of the mode.
     pub(crate) permissions: u16,
     /// The link count.
@@ -54,9 +56,9 @@ pub(crate) fn row_at(image: &Image, geometry: &Geometry, i: u16) -> Row
     let node = inode(image, geometry, i);
     match kind(image, geometry, i) {
         Kind::Free | Kind::Odd => no_row(i),
-        Kind::Regular => row_with(i, &node, Sort::Regular),
-        Kind::Directory => row_with(i, &node, Sort::Directory),
-        Kind::Special => row_with(i, &node, special_sort(&node)),
+        Kind::Regular => row_with(i, &node, Sort::Regular, 0),
+        Kind::Directory => row_with(i, &node, Sort::Directory, 0),
+        Kind::Special => row_with(i, &node, special_sort(&node), node.mode.bits / 4096),
     }
 }
 
@@ -74,6 +76,7 @@ fn no_row(number: u16) -> Row
     Row {
         number,
         sort: Sort::Regular,
+        type_bits: 0,
         permissions: 0,
         links: 0,
         uid: 0,
@@ -83,13 +86,14 @@ fn no_row(number: u16) -> Row
     }
 }
 
-/// Returns the row of an i-node of some kind.
-fn row_with(number: u16, node: &Inode, sort: Sort) -> Row
-    ensures { result ≡ row_with number node.now sort }
+/// Returns the row of an i-node of some kind and type.
+fn row_with(number: u16, node: &Inode, sort: Sort, type_bits: u16) -> Row
+    ensures { result ≡ row_with number node.now sort type_bits }
 {
     Row {
         number,
         sort,
+        type_bits,
         permissions: node.mode.permissions(),
         links: node.links,
         uid: node.uid,
@@ -115,5 +119,18 @@ pub(crate) fn special_type(mode: Mode, device: u16) -> Sort
         Sort::Block(device)
     } else {
         Sort::Character(device)
+    }
+}
+
+/// Returns the word for a special file of this type, the highest four bits of its mode.
+pub fn special_word(type_bits: u16) -> &'static str
+    ensures { result.now ≡ special_word type_bits }
+{
+    if type_bits == 3 || type_bits == 7 {
+        "multiplexor"
+    } else if type_bits / 2 % 4 == 3 {
+        "block"
+    } else {
+        "character"
     }
 }

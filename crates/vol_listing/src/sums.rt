@@ -9,9 +9,10 @@ ghost use Rattle.vol_listing.specs.LongLines.{column};
 ghost use Rattle.vol_listing.specs.Sums.{attribute_columns, mode_columns, is_left, met_data, met_line, sum_at, sum_data, sum_line, sum_text, summed_data, sums_data, sums_json, sums_text};
 
 use crate::dates::push_moment;
-use crate::json::line;
+use crate::json::entries_line;
 use crate::listing_json::row_object;
 use crate::long_lines::{mode_text, padded, push_column, size_text};
+use crate::places::joined;
 use crate::rows::{Row, is_number, row_at};
 use escaped_text::push_escaped;
 use pdp_words::Image;
@@ -50,20 +51,21 @@ pub fn sums_text(
     Ok(text)
 }
 
-/// Returns the contents of [`sums_text`] as one array of JSON objects, on one line.
+/// Returns the contents of [`sums_text`] as one JSON object, on one line; each path begins with `top`, the path of the directory.
 ///
 /// Takes memory for the objects too.
 pub fn sums_json(
     alloc: Global,
     image: &Image,
     geometry: &Geometry,
+    top: &[u8],
     founds: &[MetEntry],
 ) -> Result<String, AllocError>
     requires { Fits geometry.now image.now }
-    ensures { IfOk result (λ text. string_bytes text ≡ sums_json (tree geometry.now image.now) founds.now) }
+    ensures { IfOk result (λ text. string_bytes text ≡ sums_json (tree geometry.now image.now) top.now founds.now) }
 {
-    let values = sum_values(alloc, image, geometry, founds)?;
-    line(alloc, &Value::Array(values))
+    let values = sum_values(alloc, image, geometry, top, founds)?;
+    entries_line(alloc, values)
 }
 
 /// Appends the line of an entry, unless it is left out.
@@ -157,15 +159,16 @@ fn sum_values(
     alloc: Global,
     image: &Image,
     geometry: &Geometry,
+    top: &[u8],
     founds: &[MetEntry],
 ) -> Result<Vec<Value>, AllocError>
     requires { Fits geometry.now image.now }
-    ensures { IfOk result (λ values. map view values.items ≡ sums_data (tree geometry.now image.now) founds.now) }
+    ensures { IfOk result (λ values. map view values.items ≡ sums_data (tree geometry.now image.now) top.now founds.now) }
 {
     let mut values = Vec::new(alloc);
     let mut buffer = [0; BUFFER];
     'founds: for found in founds {
-        push_value(alloc, image, geometry, found, &mut buffer, &mut values)?;
+        push_value(alloc, image, geometry, top, found, &mut buffer, &mut values)?;
     }
     Ok(values)
 }
@@ -175,19 +178,21 @@ fn push_value(
     alloc: Global,
     image: &Image,
     geometry: &Geometry,
+    top: &[u8],
     found: &MetEntry,
     buffer: &mut [u8; BUFFER],
     values: &mut Vec<Value>,
 ) -> Result<(), AllocError>
     requires { Fits geometry.now image.now }
-    ensures { OnOk result (map view values.new.items ≡ map view values.old.items ++ met_data (tree geometry.now image.now) found.now) }
+    ensures { OnOk result (map view values.new.items ≡ map view values.old.items ++ met_data (tree geometry.now image.now) top.now found.now) }
 {
     if is_left(found.role) {
         return Ok(());
     }
     let sum = sum_at(image, geometry, found.inode, buffer);
     let row = row_at(image, geometry, found.inode);
-    let value = summed_value(alloc, sum, row, found.path.as_slice())?;
+    let path = joined(alloc, top, found.path.as_slice())?;
+    let value = summed_value(alloc, sum, row, &path)?;
     values.push(value)?;
     Ok(())
 }

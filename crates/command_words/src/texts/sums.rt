@@ -7,7 +7,7 @@ pub const MORE: &str = "\
 Examples:
   unixvol sums 7 disk.img > disk.sums
   unixvol sums 7 disk.img | grep -v '^-' | cut -c 1-65,119- > SHA256SUMS
-  unixvol sums --json 7 disk.img /usr | jq -r '.[].path'
+  unixvol sums --json 7 disk.img /usr | jq -r '.entries[].path'
   unixvol sums --lost 7 damaged.img
   diff <(unixvol sums 7 old.img) <(unixvol sums 7 disk.img)
 
@@ -20,8 +20,8 @@ The second example makes a list that `sha256sum -c` reads, in the folder where a
 extracted, if no path is escaped. The last one, for bash, compares two volumes by what is in them. A directory's size
 counts its empty slots, so that of a copy may differ.
 
-With --json, one array is printed on one line, with an object for each node: that of `unixvol ls --json`, and
-\"sha256\", which is null if the node isn't a regular file.
+With --json, one object is printed on one line. Its \"entries\" has an object for each node: that of `unixvol ls --json`,
+and \"sha256\", which is null if the node isn't a regular file. A path then begins with PATH, as in `unixvol find`.
 
 The volume need not be sound. Only rules 1 and 2 are checked: the image's size, and the sizes in its super-block.
 Anything left out, and anything wrong with the volume, has a line on standard error, as with `unixvol export`, and

@@ -7,4 +7,4 @@ use Rattle.vol_listing.proofs.sums.sum_values.Given as goal
 
 -- Invariant: the objects of the entries so far have been added.
 abbrev pub invariant-founds : goal.invariant-founds
-invariant-founds l = map view l.values.items ≡ flat_map (met_data (tree l.geometry l.image)) (take l.found-index l.founds)
+invariant-founds l = map view l.values.items ≡ flat_map (met_data (tree l.geometry l.image) l.top) (take l.found-index l.founds)

@@ -425,10 +425,12 @@ echo 'unixvol: cannot write -' > line
 wants 'export to a terminal' 3 none line
 
 # The keys of each command's JSON are those that docs/JSON.md lists for it. Together the images have each kind of line, fault and place.
-for command in ls sums 'inode 1' super df free check 'icheck 1' 'dcheck 1' 'ncheck 1'; do
-    read -r name word <<< "$command"
+for command in ls find sums 'inode 1' 'block 0 2 5 19' super df free check 'icheck 1' 'dcheck 1' 'ncheck 1'; do
+    read -r name words <<< "$command"
     for image in special.v7 twice_free.v6 "$samples"/lessons/*.v?; do
-        "$program" "$name" --json "${image##*.v}" "$image" $word 2> error < /dev/null
+        for word in ${words:-''}; do
+            "$program" "$name" --json "${image##*.v}" "$image" $word 2> error < /dev/null
+        done
     done > printed
     has "the keys of $name --json" '' "$(python3 "$data/keys.py" "$samples/../docs/JSON.md" "$name" < printed)"
 done

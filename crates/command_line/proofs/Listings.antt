@@ -188,10 +188,10 @@ asks_listing clock given edition image path (invocations.Look volume (looks.Sums
 asks_listing clock given edition image path (invocations.Look volume (looks.Inode number form)) test e_is i_is p_is none is = absurd (true≢false (sym test))
 asks_listing clock given edition image path (invocations.Look volume (looks.Super form)) test e_is i_is p_is none is = absurd (true≢false (sym test))
 asks_listing clock given edition image path (invocations.Look volume (looks.Free form)) test e_is i_is p_is none is = absurd (true≢false (sym test))
-asks_listing clock given edition image path (invocations.Look volume (looks.Block block)) test e_is i_is p_is none is = absurd (true≢false (sym test))
+asks_listing clock given edition image path (invocations.Look volume (looks.Block block form)) test e_is i_is p_is none is = absurd (true≢false (sym test))
 asks_listing clock given edition image path (invocations.Look volume (looks.Dump target radix)) test e_is i_is p_is none is = absurd (true≢false (sym test))
 asks_listing clock given edition image path (invocations.Look volume (looks.Df form)) test e_is i_is p_is none is = absurd (true≢false (sym test))
-asks_listing clock given edition image path (invocations.Look volume (looks.Find p name lost)) test e_is i_is p_is none is = absurd (true≢false (sym test))
+asks_listing clock given edition image path (invocations.Look volume (looks.Find p name lost form)) test e_is i_is p_is none is = absurd (true≢false (sym test))
 asks_listing clock given edition image path (invocations.Look volume (looks.Map picture)) test e_is i_is p_is none is = absurd (true≢false (sym test))
 asks_listing clock given edition image path (invocations.Look volume (looks.Check graded form)) test e_is i_is p_is none is = absurd (true≢false (sym test))
 asks_listing clock given edition image path (invocations.Look volume (looks.Slots p)) test e_is i_is p_is none is =
@@ -264,10 +264,10 @@ listing_asks clock (Some met) edition image path (invocations.Look v (looks.Sums
 listing_asks clock (Some met) edition image path (invocations.Look v (looks.Inode number form)) is listed = absurd listed
 listing_asks clock (Some met) edition image path (invocations.Look v (looks.Super form)) is listed = absurd listed
 listing_asks clock (Some met) edition image path (invocations.Look v (looks.Free form)) is listed = absurd listed
-listing_asks clock (Some met) edition image path (invocations.Look v (looks.Block block)) is listed = absurd listed
+listing_asks clock (Some met) edition image path (invocations.Look v (looks.Block block form)) is listed = absurd listed
 listing_asks clock (Some met) edition image path (invocations.Look v (looks.Dump target radix)) is listed = absurd listed
 listing_asks clock (Some met) edition image path (invocations.Look v (looks.Df form)) is listed = absurd listed
-listing_asks clock (Some met) edition image path (invocations.Look v (looks.Find p name lost)) is listed = absurd listed
+listing_asks clock (Some met) edition image path (invocations.Look v (looks.Find p name lost form)) is listed = absurd listed
 listing_asks clock (Some met) edition image path (invocations.Look v (looks.Map picture)) is listed = absurd listed
 listing_asks clock (Some met) edition image path (invocations.Look v (looks.Check graded form)) is listed = absurd listed
 listing_asks clock (Some met) edition image path (invocations.Look v (looks.Slots p)) is listed = absurd listed

@@ -23,10 +23,11 @@ use Rattle.vol_listing.specs.declared.options.Screen.{Screen}
 abbrev pub Looks : Edition → List ℕ → Screen → Streams → ℕ → Look → Type 0
 Looks edition image screen streams status (looks.Export path options) = Exports edition image path.now options screen streams status
 Looks edition image screen streams status (looks.Sums path form lost) = Sums edition image path.now form lost streams status
-Looks edition image screen streams status (looks.Block block) = ShowsBlock edition image block streams status
+Looks edition image screen streams status (looks.Block block form) = ShowsBlock edition image block form streams status
 Looks edition image screen streams status (looks.Dump target radix) = ShowsDump edition image target radix streams status
 Looks edition image screen streams status (looks.Free form) = ShowsFree edition image form streams status
-Looks edition image screen streams status (looks.Find path name lost) = Finds edition image path.now (option_map (λ word. word.now) name) lost screen streams status
+Looks edition image screen streams status (looks.Find path name lost form) =
+    Finds edition image path.now (option_map (λ word. word.now) name) lost form screen streams status
 Looks edition image screen streams status (looks.Inode node form) = ShowsInode edition image node form streams status
 Looks edition image screen streams status (looks.Super form) = ShowsSuper edition image parts.Fields form streams status
 Looks edition image screen streams status (looks.Df form) = ShowsSuper edition image parts.Space form streams status

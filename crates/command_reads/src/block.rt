@@ -1,18 +1,23 @@
 //! `block`: shows the owners of a block.
 ghost use Rattle.std.specs.Prelude.{◌≡◌, IfErr, IfOk, string_bytes};
+ghost use Rattle.serde_json.specs.View.{view};
 ghost use Rattle.vol_inspect.specs.OwnerTexts.{owners_text};
 ghost use Rattle.command_faults.specs.Streams.{streams, ErrorStream, Hears};
-ghost use Rattle.command_reads.specs.Block.{IsBlockFault, IsBlockText, ShowsBlock};
+ghost use Rattle.command_reads.specs.Block.{IsBlockFault, IsBlockText, ShowsBlock, owners_data, owners_in, owners_json};
 
 use crate::faults::uninspected;
+use crate::json::list;
+use crate::looks::OutputForm;
 use crate::print::finish;
 use command_faults::{Ending, Fault};
 use pdp_words::{Image, Sink};
+use serde_json::{Value, json};
 use std::alloc::{AllocError, Global};
 use vol_inspect::{Owner, inspect_block, push_owners};
 use vol_layout::Edition;
+use vol_listing::json::{FORMAT, line};
 
-/// Shows the owners of a block of an image in which rules 1 and 2 hold, a line each.
+/// Shows the owners of a block of an image in which rules 1 and 2 hold, a line each or as one JSON object.
 ///
 /// Takes the memory of [`inspect_block`], and memory for the text.
 pub(crate) fn show_block<O: Sink>(
@@ -20,25 +25,63 @@ pub(crate) fn show_block<O: Sink>(
     edition: Edition,
     image: Vec<u8>,
     block: u32,
+    form: OutputForm,
     output: &mut O,
 ) -> Ending
     ensures { (errors : ErrorStream) → Hears errors result.fault
-        → ShowsBlock edition image.items block (streams O.contents O.failed output.old output.new errors) result.status }
+        → ShowsBlock edition image.items block form (streams O.contents O.failed output.old output.new errors) result.status }
 {
     let image = Image::from_bytes(image);
-    let text = block_text(alloc, edition, &image, block);
+    let text = block_text(alloc, edition, &image, block, form);
     finish(text, output)
 }
 
 /// Returns the text of the owners of a block.
-fn block_text(alloc: Global, edition: Edition, image: &Image, block: u32) -> Result<String, Fault>
-    ensures text { IfOk result (λ text. IsBlockText edition image.now block (string_bytes text)) }
+fn block_text(
+    alloc: Global,
+    edition: Edition,
+    image: &Image,
+    block: u32,
+    form: OutputForm,
+) -> Result<String, Fault>
+    ensures text { IfOk result (λ text. IsBlockText edition image.now block form (string_bytes text)) }
     ensures fault { IfErr result (λ fault. IsBlockFault edition image.now block fault) }
 {
     match inspect_block(alloc, edition, image, block) {
-        Ok(owners) => Ok(owners_text(alloc, block, &owners)?),
+        Ok(owners) => Ok(owners_in(alloc, block, &owners, form)?),
         Err(fault) => Err(uninspected(fault)),
     }
+}
+
+/// Returns the owners of a block in this format.
+fn owners_in(
+    alloc: Global,
+    block: u32,
+    owners: &[Owner],
+    form: OutputForm,
+) -> Result<String, AllocError>
+    ensures { IfOk result (λ text. string_bytes text ≡ owners_in block owners.now form) }
+{
+    match form {
+        OutputForm::Text => owners_text(alloc, block, owners),
+        OutputForm::Json => owners_json(alloc, block, owners),
+    }
+}
+
+/// Returns the owners of a block as JSON, on one line.
+fn owners_json(alloc: Global, block: u32, owners: &[Owner]) -> Result<String, AllocError>
+    ensures { IfOk result (λ text. string_bytes text ≡ owners_json block owners.now) }
+{
+    let value = owners_value(alloc, block, owners)?;
+    line(alloc, &value)
+}
+
+/// Returns a block and its owners as a JSON value.
+fn owners_value(alloc: Global, block: u32, owners: &[Owner]) -> Result<Value, AllocError>
+    ensures { IfOk result (λ value. view value ≡ owners_data block owners.now) }
+{
+    let uses = list(alloc, owners)?;
+    json!(in alloc; {"block": block, "format": FORMAT, "uses": uses})
 }
 
 /// Returns a line for each owner of a block.

@@ -1,24 +1,28 @@
 //! The command that prints the paths of everything below a directory.
-ghost use Rattle.std.specs.Prelude.{◌≡◌, ◌++◌, true, IfErr, IfOk, OnOk, option_map};
+ghost use Rattle.std.specs.Prelude.{◌≡◌, ◌++◌, map, true, IfErr, IfOk, OnOk, option_map, string_bytes};
 ghost use Rattle.std.specs.List.{flat_map};
+ghost use Rattle.serde_json.specs.View.{view};
 ghost use Rattle.vol_listing.specs.Listings.{shown_path};
 ghost use Rattle.command_faults.specs.Streams.{ErrorStream, Hears, streams};
-ghost use Rattle.command_reads.specs.Find.{AreFound, Finds, found_line, is_wanted};
+ghost use Rattle.command_reads.specs.Find.{AreFound, Finds, found_data, found_in, found_json, found_line, is_wanted, path_data};
 ghost use Rattle.command_reads.specs.Remarks.{limit_lines};
 ghost use Rattle.command_reads.specs.Sums.{IsManifestFault};
 
 use crate::export::{begun, unstarted, walk_all};
+use crate::looks::OutputForm;
 use crate::print::{RemarkedText, print_remarked};
 use crate::remarks::{Remarks, push_limits};
 use command_faults::{Ending, Fault};
 use name_patterns::{is_like, last_name};
 use pdp_words::{Image, Sink};
+use serde_json::{Value, json};
 use std::alloc::{AllocError, Global};
 use vol_archive::MetEntry;
 use vol_layout::Edition;
+use vol_listing::json::{entries_line, escaped_text};
 use vol_listing::{Screen, joined, push_shown, shown_path};
 
-/// Prints the path of everything below the directory at a path, each on a line, in the order of an export. With a `pattern`, prints only paths whose
+/// Prints the path of everything below the directory at a path, each on a line or as an entry of a JSON object, in the order of an export. With a `pattern`, prints only paths whose
 /// last name matches it. With `lost`, also prints the i-nodes that no entry names, as an export has them. The image must keep rules 1 and 2, and may be
 /// any bytes otherwise. The status is 0; 1 if the image breaks one of these rules or the path leads to no directory, 3 if `output` failed, 4 if memory
 /// ran out, 5 if there are paths above 4,096 bytes: the fault has a line for each of them, and what is below them isn't printed. Nothing is printed
@@ -32,11 +36,12 @@ pub(crate) fn find<O: Sink>(
     path: &str,
     pattern: Option<&str>,
     lost: bool,
+    form: OutputForm,
     screen: Screen,
     output: &mut O,
 ) -> Ending
     ensures { (errors : ErrorStream) → Hears errors result.fault
-        → Finds edition image.items path.now (option_map (λ word. word.now) pattern.entry) lost screen (streams O.contents O.failed output.old output.new errors) result.status }
+        → Finds edition image.items path.now (option_map (λ word. word.now) pattern.entry) lost form screen (streams O.contents O.failed output.old output.new errors) result.status }
 {
     let image = Image::from_bytes(image);
     match find_text(
@@ -46,6 +51,7 @@ pub(crate) fn find<O: Sink>(
         path.as_bytes(),
         pattern,
         lost,
+        form,
         screen,
     ) {
         Ok(found) => print_remarked(true, found, output),
@@ -53,7 +59,7 @@ pub(crate) fn find<O: Sink>(
     }
 }
 
-/// Returns the paths of everything below the directory at a path, each on a line, and remarks on those at which the walk stopped.
+/// Returns the paths of everything below the directory at a path, in this format, and remarks on those at which the walk stopped.
 fn find_text(
     alloc: Global,
     edition: Edition,
@@ -61,9 +67,10 @@ fn find_text(
     path: &[u8],
     pattern: Option<&str>,
     lost: bool,
+    form: OutputForm,
     screen: Screen,
 ) -> Result<RemarkedText, Fault>
-    ensures text { IfOk result (λ found. AreFound edition image.now path.now (option_map (λ word. word.now) pattern.entry) lost screen found.text.items
+    ensures text { IfOk result (λ found. AreFound edition image.now path.now (option_map (λ word. word.now) pattern.entry) lost form screen found.text.items
         found.remarks.lines.items) }
     ensures short { IfOk result (λ found. found.remarks.is_short ≡ true) }
     ensures fault { IfErr result (IsManifestFault edition image.now path.now lost) }
@@ -73,7 +80,8 @@ fn find_text(
         Err(fault) => return Err(unstarted(fault)),
     };
     let rescue = walk_all(alloc, image, &start.geometry, start.inode, lost)?;
-    let text = found_lines(alloc, path, &rescue.founds, pattern, screen)?;
+    let top = shown_path(alloc, path)?;
+    let text = found_in(alloc, &top, &rescue.founds, pattern, form, screen)?;
     let remarks = limits(alloc, &rescue.founds)?;
     Ok(RemarkedText { text, remarks })
 }
@@ -92,22 +100,92 @@ fn limits(alloc: Global, founds: &[MetEntry]) -> Result<Remarks, AllocError>
     })
 }
 
-/// Returns the lines of the entries that the walk found below the directory at a path.
+/// Returns the paths of the entries that the walk found below the directory at path `top`, in this format.
+fn found_in(
+    alloc: Global,
+    top: &[u8],
+    founds: &[MetEntry],
+    pattern: Option<&str>,
+    form: OutputForm,
+    screen: Screen,
+) -> Result<Vec<u8>, AllocError>
+    ensures { IfOk result (λ text. text.items ≡ found_in screen (option_map (λ word. word.now) pattern.entry) top.now founds.now form) }
+{
+    match form {
+        OutputForm::Text => found_lines(alloc, top, founds, pattern, screen),
+        OutputForm::Json => Ok(found_json(alloc, top, founds, pattern)?.into_bytes()),
+    }
+}
+
+/// Returns the lines of the entries that the walk found below the directory at path `top`.
 fn found_lines(
     alloc: Global,
-    path: &[u8],
+    top: &[u8],
     founds: &[MetEntry],
     pattern: Option<&str>,
     screen: Screen,
 ) -> Result<Vec<u8>, AllocError>
-    ensures { IfOk result (λ text. text.items ≡ flat_map (found_line screen (option_map (λ word. word.now) pattern.entry) (shown_path path.now)) founds.now) }
+    ensures { IfOk result (λ text. text.items ≡ flat_map (found_line screen (option_map (λ word. word.now) pattern.entry) top.now) founds.now) }
 {
-    let top = shown_path(alloc, path)?;
     let mut text = Vec::new(alloc);
     'founds: for found in founds {
-        push_found(alloc, &top, found, pattern, screen, &mut text)?;
+        push_found(alloc, top, found, pattern, screen, &mut text)?;
     }
     Ok(text)
+}
+
+/// Returns one object with the entries that the walk found below the directory at path `top`, on one line.
+fn found_json(
+    alloc: Global,
+    top: &[u8],
+    founds: &[MetEntry],
+    pattern: Option<&str>,
+) -> Result<String, AllocError>
+    ensures { IfOk result (λ text. string_bytes text ≡ found_json (option_map (λ word. word.now) pattern.entry) top.now founds.now) }
+{
+    let values = found_values(alloc, top, founds, pattern)?;
+    entries_line(alloc, values)
+}
+
+/// Returns the objects of the entries that are wanted.
+fn found_values(
+    alloc: Global,
+    top: &[u8],
+    founds: &[MetEntry],
+    pattern: Option<&str>,
+) -> Result<Vec<Value>, AllocError>
+    ensures { IfOk result (λ values. map view values.items ≡ flat_map (found_data (option_map (λ word. word.now) pattern.entry) top.now) founds.now) }
+{
+    let mut values = Vec::new(alloc);
+    'founds: for found in founds {
+        push_value(alloc, top, found, pattern, &mut values)?;
+    }
+    Ok(values)
+}
+
+/// Appends the object of an entry that the walk found below the directory at path `top`, if it is wanted.
+fn push_value(
+    alloc: Global,
+    top: &[u8],
+    found: &MetEntry,
+    pattern: Option<&str>,
+    values: &mut Vec<Value>,
+) -> Result<(), AllocError>
+    ensures { OnOk result (map view values.new.items ≡ map view values.old.items ++ found_data (option_map (λ word. word.now) pattern.entry) top.now found.now) }
+{
+    if is_wanted(pattern, found.path.as_slice()) {
+        values.push(path_value(alloc, top, found)?)?;
+    }
+    Ok(())
+}
+
+/// Returns the object of an entry that the walk found below the directory at path `top`.
+fn path_value(alloc: Global, top: &[u8], found: &MetEntry) -> Result<Value, AllocError>
+    ensures { IfOk result (λ value. view value ≡ path_data top.now found.now) }
+{
+    let path = joined(alloc, top, found.path.as_slice())?;
+    let path = escaped_text(alloc, &path)?;
+    json!(in alloc; {"ino": found.inode, "path": path})
 }
 
 /// Appends the line of an entry that the walk found below the directory at path `top`, if it is wanted.

@@ -58,12 +58,17 @@ pub fn perform<O: Sink>(
             export(alloc, edition, image, path, options, screen, output)
         }
         Look::Sums { path, form, lost } => sums(alloc, edition, image, path, form, lost, output),
-        Look::Block { block } => show_block(alloc, edition, image, block, output),
+        Look::Block { block, form } => show_block(alloc, edition, image, block, form, output),
         Look::Dump { target, radix } => show_dump(alloc, edition, image, target, radix, output),
         Look::Free { form } => show_free(alloc, edition, image, form, output),
-        Look::Find { path, name, lost } => {
-            find(alloc, edition, image, path, name, lost, screen, output)
-        }
+        Look::Find {
+            path,
+            name,
+            lost,
+            form,
+        } => find(
+            alloc, edition, image, path, name, lost, form, screen, output,
+        ),
         Look::Inode { node, form } => show_inode(alloc, edition, image, node, form, output),
         Look::Super { form } => {
             show_super(alloc, edition, image, SuperPart::Fields, form, output)

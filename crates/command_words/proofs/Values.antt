@@ -132,11 +132,11 @@ values_given clock given (invocations.Look volume (looks.Sums path form lost)) i
 values_given clock given (invocations.Look volume (looks.Inode node form)) is = (edition_value volume.edition volume.is_any _ is.0.0, (tt, (at_value volume.at _ is.0.2, (node_value node _ is.1.0, (tt, tt)))))
 values_given clock given (invocations.Look volume (looks.Super form)) is = (edition_value volume.edition volume.is_any _ is.0.0, (tt, (at_value volume.at _ is.0.2, (tt, tt))))
 values_given clock given (invocations.Look volume (looks.Free form)) is = (edition_value volume.edition volume.is_any _ is.0.0, (tt, (at_value volume.at _ is.0.2, (tt, tt))))
-values_given clock given (invocations.Look volume (looks.Block block)) is = (edition_value volume.edition volume.is_any _ is.0.0, (tt, (at_value volume.at _ is.0.2, (is.1.0, tt))))
+values_given clock given (invocations.Look volume (looks.Block block form)) is = (edition_value volume.edition volume.is_any _ is.0.0, (tt, (at_value volume.at _ is.0.2, (is.1.0.0, (tt, tt)))))
 values_given clock given (invocations.Look volume (looks.Dump target radix)) is =
     (edition_value volume.edition volume.is_any _ is.0.0, (tt, (at_value volume.at _ is.0.2, (place_value target _ _ is.1.0, (tt, (tt, tt))))))
 values_given clock given (invocations.Look volume (looks.Df form)) is = (edition_value volume.edition volume.is_any _ is.0.0, (tt, (at_value volume.at _ is.0.2, (tt, tt))))
-values_given clock given (invocations.Look volume (looks.Find path name lost)) is = (edition_value volume.edition volume.is_any _ is.0.0, (tt, (at_value volume.at _ is.0.2, (tt, (tt, (tt, tt))))))
+values_given clock given (invocations.Look volume (looks.Find path name lost form)) is = (edition_value volume.edition volume.is_any _ is.0.0, (tt, (at_value volume.at _ is.0.2, (tt, (tt, (tt, (tt, tt)))))))
 values_given clock given (invocations.Look volume (looks.Map picture)) is = (edition_value volume.edition volume.is_any _ is.0.0, (tt, (at_value volume.at _ is.0.2, (tt, tt))))
 values_given clock given (invocations.Look volume (looks.Check graded form)) is = (edition_value volume.edition volume.is_any _ is.0.0, (tt, (at_value volume.at _ is.0.2, (tt, (tt, tt)))))
 values_given clock given (invocations.Look volume (looks.List path listing)) is = (edition_value volume.edition volume.is_any _ is.0.0, (tt, (at_value volume.at _ is.0.2, (tt, (tt, (tt, (tt, (tt, (tt, tt)))))))))

@@ -213,10 +213,10 @@ look_verb (looks.Sums path form lost) = verbs.Sums
 look_verb (looks.Inode node form) = verbs.Inode
 look_verb (looks.Super form) = verbs.Super
 look_verb (looks.Free form) = verbs.Free
-look_verb (looks.Block block) = verbs.Block
+look_verb (looks.Block block form) = verbs.Block
 look_verb (looks.Dump target radix) = verbs.Dump
 look_verb (looks.Df form) = verbs.Df
-look_verb (looks.Find path name lost) = verbs.Find
+look_verb (looks.Find path name lost form) = verbs.Find
 look_verb (looks.Map picture) = verbs.Map
 look_verb (looks.Check graded form) = verbs.Check
 look_verb (looks.List path listing) = verbs.Ls
@@ -411,12 +411,12 @@ IsLookGiven given (looks.Sums path form lost) = (path.now ≡ the_word given (co
 IsLookGiven given (looks.Inode node form) = IsNodeGiven (the_word given (codes "INO")) node × IsFormGiven given form
 IsLookGiven given (looks.Super form) = IsFormGiven given form
 IsLookGiven given (looks.Free form) = IsFormGiven given form
-IsLookGiven given (looks.Block block) = IsNumberGiven 4294967295 (the_word given (codes "BLOCK")) block
+IsLookGiven given (looks.Block block form) = IsNumberGiven 4294967295 (the_word given (codes "BLOCK")) block × IsFormGiven given form
 IsLookGiven given (looks.Dump target radix) =
     IsTargetGiven (the_word given (codes "BLOCK")) (is_set (given (codes "inode"))) target × IsRadixGiven given radix
 IsLookGiven given (looks.Df form) = IsFormGiven given form
-IsLookGiven given (looks.Find path name lost) = (path.now ≡ the_word given (codes "PATH"))
-    × (option_map (λ word. word.now) name ≡ slice_get (given (codes "name")) 0) × (lost ≡ is_set (given (codes "lost")))
+IsLookGiven given (looks.Find path name lost form) = (path.now ≡ the_word given (codes "PATH"))
+    × (option_map (λ word. word.now) name ≡ slice_get (given (codes "name")) 0) × (lost ≡ is_set (given (codes "lost"))) × IsFormGiven given form
 IsLookGiven given (looks.Map picture) = IsPictureGiven given picture
 IsLookGiven given (looks.Check graded form) = (graded ≡ is_set (given (codes "status"))) × IsFormGiven given form
 IsLookGiven given (looks.List path listing) = (path.now ≡ the_word given (codes "PATH")) × AreLinesGiven given listing.lines

@@ -677,7 +677,7 @@ pub static LS_WORDS: [Parameter; 9] = [
 pub static GET_WORDS: [Parameter; 7] = [EDITION, IMAGE, AT, REGULAR, MORE_GOT, OUTPUT, KEPT_GOT];
 
 /// The words that `find` takes.
-pub static FIND_WORDS: [Parameter; 6] = [EDITION, IMAGE, AT, SEARCHED, NAME, LOST];
+pub static FIND_WORDS: [Parameter; 7] = [EDITION, IMAGE, AT, SEARCHED, NAME, LOST, JSON];
 
 /// The words that a checker takes.
 pub static CHECKER_WORDS: [Parameter; 5] = [EDITION, IMAGE, AT, WORKERS, JSON];
@@ -777,7 +777,7 @@ pub static SUMS_WORDS: [Parameter; 6] = [EDITION, IMAGE, AT, SUMMED, LOST, JSON]
 pub static INODE_WORDS: [Parameter; 5] = [EDITION, IMAGE, AT, NODE, JSON];
 
 /// The words that `block` takes.
-pub static BLOCK_WORDS: [Parameter; 4] = [EDITION, IMAGE, AT, BLOCK];
+pub static BLOCK_WORDS: [Parameter; 5] = [EDITION, IMAGE, AT, BLOCK, JSON];
 
 /// The words that `dump` takes.
 pub static DUMP_WORDS: [Parameter; 6] = [EDITION, IMAGE, AT, DUMPED, DUMPED_INODE, OCTAL];

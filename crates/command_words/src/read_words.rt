@@ -182,10 +182,14 @@ fn read_find<'a, G: Given<'a>>(given: &G) -> Result<Invocation<'a>, WordFault<'a
     let path = text_in(given, "PATH");
     let name = given.first("name");
     let lost = flag_in(given, "lost");
-    Ok(Invocation::Look {
-        volume,
-        look: Look::Find { path, name, lost },
-    })
+    let form = form_in(given);
+    let look = Look::Find {
+        path,
+        name,
+        lost,
+        form,
+    };
+    Ok(Invocation::Look { volume, look })
 }
 
 /// Reads the words of `export`.
@@ -284,9 +288,10 @@ fn read_block<'a, G: Given<'a>>(given: &G) -> Result<Invocation<'a>, WordFault<'
 {
     let volume = volume_in(given)?;
     let block = long_in(given, "BLOCK")?;
+    let form = form_in(given);
     Ok(Invocation::Look {
         volume,
-        look: Look::Block { block },
+        look: Look::Block { block, form },
     })
 }
 

@@ -206,11 +206,11 @@ ends_sums edition image path form lost streams status (inl (text, lines, is, pri
     ends_telling 4 1 streams text lines status (omega arith) (omega arith) (omega arith) printed
 ends_sums edition image path form lost streams status (inr (fault, is, told)) = ends_told 4 streams fault status (omega arith) told
 
-ends_finds : (edition : Edition) (image path : List ℕ) (pattern : Option (List ℕ)) (lost : Bool) (screen : Screen) (streams : Streams) (status : ℕ)
-    → Finds edition image path pattern lost screen streams status → IsEndWithin 5 streams status
-ends_finds edition image path pattern lost screen streams status (inl (text, lines, is, printed)) =
+ends_finds : (edition : Edition) (image path : List ℕ) (pattern : Option (List ℕ)) (lost : Bool) (form : OutputForm) (screen : Screen) (streams : Streams) (status : ℕ)
+    → Finds edition image path pattern lost form screen streams status → IsEndWithin 5 streams status
+ends_finds edition image path pattern lost form screen streams status (inl (text, lines, is, printed)) =
     ends_telling 5 5 streams text lines status (omega arith) (omega arith) (omega arith) printed
-ends_finds edition image path pattern lost screen streams status (inr (fault, is, told)) = ends_told 5 streams fault status (omega arith) told
+ends_finds edition image path pattern lost form screen streams status (inr (fault, is, told)) = ends_told 5 streams fault status (omega arith) told
 
 ends_looks : (edition : Edition) (image : List ℕ) (screen : Screen) (streams : Streams) (status : ℕ) (look : Look)
     → Looks edition image screen streams status look → IsEndWithin (highest_status look) streams status
@@ -219,10 +219,10 @@ ends_looks edition image screen streams status (looks.Sums path form lost) shows
 ends_looks edition image screen streams status (looks.Inode node form) shows = ends_found edition image form streams status (number_of edition image node) shows
 ends_looks edition image screen streams status (looks.Super form) shows = ends_one _ _ streams status shows
 ends_looks edition image screen streams status (looks.Free form) shows = ends_one _ _ streams status shows
-ends_looks edition image screen streams status (looks.Block block) shows = ends_one _ _ streams status shows
+ends_looks edition image screen streams status (looks.Block block form) shows = ends_one _ _ streams status shows
 ends_looks edition image screen streams status (looks.Dump target radix) shows = ends_one _ _ streams status shows
 ends_looks edition image screen streams status (looks.Df form) shows = ends_one _ _ streams status shows
-ends_looks edition image screen streams status (looks.Find path name lost) shows = ends_finds edition image path.now _ lost screen streams status shows
+ends_looks edition image screen streams status (looks.Find path name lost form) shows = ends_finds edition image path.now _ lost form screen streams status shows
 ends_looks edition image screen streams status (looks.Map picture) shows = ends_one _ _ streams status shows
 ends_looks edition image screen streams status (looks.Check graded form) shows = ends_checks edition image graded form streams status shows
 ends_looks edition image screen streams status (looks.List path listing) shows = ends_one _ _ streams status shows
@@ -235,10 +235,10 @@ highest_few (looks.Sums path form lost) = omega arith
 highest_few (looks.Inode node form) = omega arith
 highest_few (looks.Super form) = omega arith
 highest_few (looks.Free form) = omega arith
-highest_few (looks.Block block) = omega arith
+highest_few (looks.Block block form) = omega arith
 highest_few (looks.Dump target radix) = omega arith
 highest_few (looks.Df form) = omega arith
-highest_few (looks.Find path name lost) = omega arith
+highest_few (looks.Find path name lost form) = omega arith
 highest_few (looks.Map picture) = omega arith
 highest_few (looks.Check graded form) = most_few graded
 highest_few (looks.List path listing) = omega arith

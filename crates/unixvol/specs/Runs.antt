@@ -324,10 +324,10 @@ IsSeen files edition (looks.Sums path form lost) image = files.shown edition ima
 IsSeen files edition (looks.Inode node form) image = files.shown edition image
 IsSeen files edition (looks.Super form) image = files.shown edition image
 IsSeen files edition (looks.Free form) image = files.shown edition image
-IsSeen files edition (looks.Block block) image = files.shown edition image
+IsSeen files edition (looks.Block block form) image = files.shown edition image
 IsSeen files edition (looks.Dump target radix) image = files.shown edition image
 IsSeen files edition (looks.Df form) image = files.shown edition image
-IsSeen files edition (looks.Find path name lost) image = files.shown edition image
+IsSeen files edition (looks.Find path name lost form) image = files.shown edition image
 IsSeen files edition (looks.Map picture) image = files.shown edition image
 
 -- part of an image is shown: nothing is done; or it is shown from an image that was read from a file (this project)
@@ -518,10 +518,10 @@ highest_status (looks.Sums path form lost) = 4
 highest_status (looks.Inode node form) = 4
 highest_status (looks.Super form) = 4
 highest_status (looks.Free form) = 4
-highest_status (looks.Block block) = 4
+highest_status (looks.Block block form) = 4
 highest_status (looks.Dump target radix) = 4
 highest_status (looks.Df form) = 4
-highest_status (looks.Find path name lost) = 5
+highest_status (looks.Find path name lost form) = 5
 highest_status (looks.Map picture) = 4
 highest_status (looks.List path listing) = 4
 highest_status (looks.Slots path) = 4

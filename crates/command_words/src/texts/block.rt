@@ -15,6 +15,10 @@ of the block that address 11 of the i-node points to; both count from 0. An i-no
 once has one line, for the first place. A data block that nothing uses is `lost`, and a block past the last one is
 `outside the volume`. The free list counts up to its first fault.
 
+With --json, one object is printed on one line: \"block\", and \"uses\", an object for each line, whose \"use\" is \"boot\",
+\"super-block\", \"i-list\" (with \"first_ino\" and \"last_ino\"), \"free\" (with \"listed_in\", the block that has its number, and
+\"index\"), \"i-node\" (with \"ino\", \"level\" and \"logical\"), \"lost\" or \"outside\".
+
 The volume need not be sound. Only rules 1 and 2 are checked: the image's size, and the sizes in its super-block.
 
 Status:

@@ -11,6 +11,7 @@ Examples:
   unixvol find 7 disk.img /usr
   unixvol find 7 disk.img --name '*.c'
   unixvol find --lost 7 damaged.img
+  unixvol find --json 7 disk.img | jq -r '.entries[] | select(.ino == 92) | .path'
 
 Each entry of the directory and of all directories below has a line, except `.` and `..`, in ascending order of
 the names' bytes, and a directory before what is in it. Each path begins with PATH. With --name, only paths whose
@@ -20,6 +21,9 @@ byte for itself.
 Entries without an i-node are printed too. What is below a directory isn't printed again if the directory was
 printed before, nor if its path has more than 4096 bytes: such a path has a line on standard error, and the status
 is then 5. On a terminal, bytes that aren't printable ASCII are shown as a backslash and three octal digits.
+
+With --json, one object is printed on one line. Its \"entries\" has an object for each path, with \"ino\", the i-number, and
+\"path\", in which such bytes are always shown so.
 
 With --lost, i-nodes that no entry names, or that are out of reach, are printed too, with everything below them, at
 the paths below PATH that they have in an archive of `unixvol export --lost`: lost+found/#96 is i-node 96. If the

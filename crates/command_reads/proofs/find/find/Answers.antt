@@ -15,11 +15,11 @@ returns-in-Ok g c errors hears =
     let pattern = option_map (λ word. word.now) c.args.pattern in
     let found = c.in-Ok.found in
     let both : Streams = streams g.O.Sink.contents g.O.Sink.failed c.args.output.now c.print_remarked.new.output errors in
-    subst (λ (path : List ℕ). Finds edition c.args.image.items path pattern c.args.lost c.args.screen both c.print_remarked.result.status) c.as_bytes.ensures.value
+    subst (λ (path : List ℕ). Finds edition c.args.image.items path pattern c.args.lost c.args.form c.args.screen both c.print_remarked.result.status) c.as_bytes.ensures.value
     (inl (
       found.text.items,
       found.remarks.lines.items,
-      subst (λ (image : List ℕ). AreFound edition image c.as_bytes.result.now pattern c.args.lost c.args.screen found.text.items found.remarks.lines.items)
+      subst (λ (image : List ℕ). AreFound edition image c.as_bytes.result.now pattern c.args.lost c.args.form c.args.screen found.text.items found.remarks.lines.items)
           c.from_bytes-image.ensures c.in-Ok.ensures.text,
       subst (λ (short : Bool). PrintsTelling (told_status true short) both found.text.items found.remarks.lines.items c.print_remarked.result.status)
           c.in-Ok.ensures.short (c.print_remarked.ensures errors hears),
@@ -30,7 +30,7 @@ returns g c errors hears =
     let edition = c.args.edition in
     let pattern = option_map (λ word. word.now) c.args.pattern in
     let both : Streams = streams g.O.Sink.contents g.O.Sink.failed c.args.output.now c.args.output.now errors in
-    subst (λ (path : List ℕ). Finds edition c.args.image.items path pattern c.args.lost c.args.screen both c.from.result.status) c.as_bytes.ensures.value
+    subst (λ (path : List ℕ). Finds edition c.args.image.items path pattern c.args.lost c.args.form c.args.screen both c.from.result.status) c.as_bytes.ensures.value
     (inr (
       c.in-Err.fault,
       subst (λ (image : List ℕ). IsManifestFault edition image c.as_bytes.result.now c.args.lost c.in-Err.fault) c.from_bytes-image.ensures c.in-Err.ensures.fault,

@@ -288,7 +288,18 @@ has 'a map as SVG' 'http://www.w3.org/2000/svg 250' "$(python3 -c '
 import sys, xml.etree.ElementTree as tree
 root = tree.parse(sys.stdin).getroot()
 print(root.tag[1:].split("}")[0], sum(it.tag.endswith("path") for it in root))' < output)"
-misread "error: unexpected argument '--json'" map --json 7 "$linux"
+misread "error: unexpected argument '--json'" dump --json 7 "$linux" 1
+# The runs of blocks with one use, as JSON, are the cells of the picture.
+runs map --json 7 "$linux"
+has 'a map as JSON' "$(cat cells)" "$(python3 -c '
+import json, sys
+letters = {"boot": "B", "super-block": "S", "i-list": "i", "directory": "d", "file": "f", "pointer": "p", "free": "o", "chain": "c", "lost": "L", "named twice": "T"}
+runs = json.load(sys.stdin)["map"]
+assert all(one["use"] != two["use"] and one["block"] + one["count"] == two["block"] for one, two in zip(runs, runs[1:])) and runs[0]["block"] == 0
+print("".join(letters[it["use"]] * it["count"] for it in runs))' < output)"
+cp output map.json
+runs map --svg --json 7 "$linux"
+wants 'map --svg --json' 0 map.json none
 misread "error: unexpected argument '--svg'" super --svg 7 "$linux"
 misread "error: invalid value '65536' for '<INO>'" inode 7 "$linux" 65536
 misread "error: invalid value 'etc' for '<INO>'" inode 7 "$linux" etc
@@ -425,7 +436,7 @@ echo 'unixvol: cannot write -' > line
 wants 'export to a terminal' 3 none line
 
 # The keys of each command's JSON are those that docs/JSON.md lists for it. Together the images have each kind of line, fault and place.
-for command in ls find sums 'inode 1' 'block 0 2 5 19' super df free check 'icheck 1' 'dcheck 1' 'ncheck 1'; do
+for command in ls find sums 'inode 1' 'block 0 2 5 19' map super df free check 'icheck 1' 'dcheck 1' 'ncheck 1'; do
     read -r name words <<< "$command"
     for image in special.v7 twice_free.v6 "$samples"/lessons/*.v?; do
         for word in ${words:-''}; do
@@ -460,7 +471,7 @@ for path in '' / /d d d/; do
 done
 
 # A full device, whatever command prints.
-for command in 'check 6 directory.v6' 'check --json 6 directory.v6' 'sums 6 tree.v6' 'sums --json 6 tree.v6' 'ls -l 6 special.v6' 'ls -R --json 6 tree.v6' 'inode 6 three.v6 32' 'super --json 6 bare.v6' 'df 6 bare.v6' 'free 6 bare.v6' 'block 6 three.v6 8' 'find 6 tree.v6' 'map 6 three.v6' 'map --svg 6 three.v6'; do
+for command in 'check 6 directory.v6' 'check --json 6 directory.v6' 'sums 6 tree.v6' 'sums --json 6 tree.v6' 'ls -l 6 special.v6' 'ls -R --json 6 tree.v6' 'inode 6 three.v6 32' 'super --json 6 bare.v6' 'df 6 bare.v6' 'free 6 bare.v6' 'block 6 three.v6 8' 'find 6 tree.v6' 'find --json 6 tree.v6' 'block --json 6 three.v6 8' 'map 6 three.v6' 'map --svg 6 three.v6' 'map --json 6 three.v6'; do
     read -r -a words <<< "$command"
     "$program" "${words[@]}" > /dev/full 2> error < /dev/null
     echo $? > status

@@ -193,6 +193,7 @@ asks_listing clock given edition image path (invocations.Look volume (looks.Dump
 asks_listing clock given edition image path (invocations.Look volume (looks.Df form)) test e_is i_is p_is none is = absurd (true≢false (sym test))
 asks_listing clock given edition image path (invocations.Look volume (looks.Find p name lost form)) test e_is i_is p_is none is = absurd (true≢false (sym test))
 asks_listing clock given edition image path (invocations.Look volume (looks.Map picture)) test e_is i_is p_is none is = absurd (true≢false (sym test))
+asks_listing clock given edition image path (invocations.Look volume looks.Uses) test e_is i_is p_is none is = absurd (true≢false (sym test))
 asks_listing clock given edition image path (invocations.Look volume (looks.Check graded form)) test e_is i_is p_is none is = absurd (true≢false (sym test))
 asks_listing clock given edition image path (invocations.Look volume (looks.Slots p)) test e_is i_is p_is none is =
     absurd (true≢false (sym is.1.1 ∙ unset (given (codes "slots")) none.slots))
@@ -269,6 +270,7 @@ listing_asks clock (Some met) edition image path (invocations.Look v (looks.Dump
 listing_asks clock (Some met) edition image path (invocations.Look v (looks.Df form)) is listed = absurd listed
 listing_asks clock (Some met) edition image path (invocations.Look v (looks.Find p name lost form)) is listed = absurd listed
 listing_asks clock (Some met) edition image path (invocations.Look v (looks.Map picture)) is listed = absurd listed
+listing_asks clock (Some met) edition image path (invocations.Look v looks.Uses) is listed = absurd listed
 listing_asks clock (Some met) edition image path (invocations.Look v (looks.Check graded form)) is listed = absurd listed
 listing_asks clock (Some met) edition image path (invocations.Look v (looks.Slots p)) is listed = absurd listed
 listing_asks clock (Some met) edition image path (invocations.Look volume (looks.List directory listing)) is listed =

@@ -18,6 +18,8 @@ use Rattle.vol_reports.specs.Reports.{has_faults}
 use Rattle.vol_reports.specs.declared.line.Line.{Line}
 use Rattle.command_reads.specs.CheckersJson.{checker_json, line_data, report_front}
 use Rattle.command_reads.specs.Inode.{inode_back, inode_data, inode_front, inode_json, members_back, members_front}
+use Rattle.command_reads.specs.MapJson.{run_data, runs_json}
+use Rattle.command_reads.specs.declared.map_json.UseRun.{UseRun}
 use Rattle.vol_listing.specs.Json.{count}
 use Rattle.command_reads.specs.Json.{between_braces, count_or_null, counts, extent_data, item_text, later_text, listed_text}
 
@@ -81,6 +83,23 @@ report_pieces report =
     in_three faulty lines
     ∙ (ap (λ format. report_of faulty format (lines ++ 93 ∷ []) ++ codes "\n") (sym (decimal_digit 1 (omega arith)))
     ∙ ap (λ items. report_of faulty (decimal 1) items ++ codes "\n") (sym (items_listed line_data report)))
+
+-- the text of runs of blocks, from that of the format and of the runs on
+abbrev map_of : List ℕ → List ℕ → List ℕ
+map_of format found =
+    123 ∷ (compact_text (string (codes "format")) ++ 58 ∷ (format ++ (44 ∷ (compact_text (string (codes "map")) ++ 58 ∷ (91 ∷ (found ++ 125 ∷ []))))))
+
+map_in_two : (items : List ℕ) → codes "{\"format\":1,\"map\":[" ++ (items ++ codes "]}\n") ≡ map_of (codes "1") (items ++ 93 ∷ []) ++ codes "\n"
+unfolding serde_json_on_literals
+map_in_two items = ap (λ rest. codes "{\"format\":1,\"map\":[" ++ rest) (after_items items)
+
+-- the pieces in which runs of blocks are written are their text
+pub runs_pieces : (found : List UseRun) → codes "{\"format\":1,\"map\":[" ++ (listed_text run_data found ++ codes "]}\n") ≡ runs_json found
+runs_pieces found =
+    let items = listed_text run_data found in
+    map_in_two items
+    ∙ (ap (λ format. map_of format (items ++ 93 ∷ []) ++ codes "\n") (sym (decimal_digit 1 (omega arith)))
+    ∙ ap (λ items. map_of (decimal 1) items ++ codes "\n") (sym (items_listed run_data found)))
 
 -- the text of a member and of the others, with more text after them
 after_member : (comma key value rest more : List ℕ)

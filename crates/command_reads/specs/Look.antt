@@ -10,6 +10,7 @@ use Rattle.command_reads.specs.Free.{ShowsFree}
 use Rattle.command_reads.specs.Find.{Finds}
 use Rattle.command_reads.specs.Ls.{Lists}
 use Rattle.command_reads.specs.Map.{DrawsMap}
+use Rattle.command_reads.specs.MapJson.{ShowsUses}
 use Rattle.command_reads.specs.Inode.{ShowsInode}
 use Rattle.command_reads.specs.Slots.{ShowsSlots}
 use Rattle.command_reads.specs.Sums.{Sums}
@@ -32,6 +33,7 @@ Looks edition image screen streams status (looks.Inode node form) = ShowsInode e
 Looks edition image screen streams status (looks.Super form) = ShowsSuper edition image parts.Fields form streams status
 Looks edition image screen streams status (looks.Df form) = ShowsSuper edition image parts.Space form streams status
 Looks edition image screen streams status (looks.Map picture) = DrawsMap edition image screen picture streams status
+Looks edition image screen streams status looks.Uses = ShowsUses edition image streams status
 Looks edition image screen streams status (looks.Check graded form) = Checks edition image graded form streams status
 Looks edition image screen streams status (looks.List path listing) = Lists edition image path.now listing screen streams status
 Looks edition image screen streams status (looks.Slots path) = ShowsSlots edition image path.now screen streams status

@@ -12,6 +12,7 @@ use crate::inode::show_inode;
 use crate::looks::Look;
 use crate::ls::list;
 use crate::map::draw_map;
+use crate::map_json::show_uses;
 use crate::slots::show_slots;
 use crate::sums::sums;
 use crate::super_block::{SuperPart, show_super};
@@ -75,6 +76,7 @@ pub fn perform<O: Sink>(
         }
         Look::Df { form } => show_super(alloc, edition, image, SuperPart::Space, form, output),
         Look::Map { picture } => draw_map(alloc, edition, image, picture, screen, output),
+        Look::Uses => show_uses(alloc, edition, image, output),
         Look::Check { graded, form } => check(alloc, edition, image, graded, form, output),
         Look::List { path, listing } => list(alloc, edition, image, path, listing, screen, output),
         Look::Slots { path } => show_slots(alloc, edition, image, path, screen, output),

@@ -53,6 +53,7 @@ lists clock given (invocations.Look volume (looks.Dump target radix)) ls is slot
 lists clock given (invocations.Look volume (looks.Df form)) ls is slots json = absurd (true≢false (sym ls))
 lists clock given (invocations.Look volume (looks.Find path name lost form)) ls is slots json = absurd (true≢false (sym ls))
 lists clock given (invocations.Look volume (looks.Map picture)) ls is slots json = absurd (true≢false (sym ls))
+lists clock given (invocations.Look volume looks.Uses) ls is slots json = absurd (true≢false (sym ls))
 lists clock given (invocations.Look volume (looks.Check graded form)) ls is slots json = absurd (true≢false (sym ls))
 lists clock given (invocations.Cat volume node) ls is slots json = absurd (true≢false (sym ls))
 lists clock given (invocations.Mkfs place volume) ls is slots json = absurd (true≢false (sym ls))

@@ -218,6 +218,7 @@ look_verb (looks.Dump target radix) = verbs.Dump
 look_verb (looks.Df form) = verbs.Df
 look_verb (looks.Find path name lost form) = verbs.Find
 look_verb (looks.Map picture) = verbs.Map
+look_verb looks.Uses = verbs.Map
 look_verb (looks.Check graded form) = verbs.Check
 look_verb (looks.List path listing) = verbs.Ls
 look_verb (looks.Slots path) = verbs.Ls
@@ -417,7 +418,8 @@ IsLookGiven given (looks.Dump target radix) =
 IsLookGiven given (looks.Df form) = IsFormGiven given form
 IsLookGiven given (looks.Find path name lost form) = (path.now ≡ the_word given (codes "PATH"))
     × (option_map (λ word. word.now) name ≡ slice_get (given (codes "name")) 0) × (lost ≡ is_set (given (codes "lost"))) × IsFormGiven given form
-IsLookGiven given (looks.Map picture) = IsPictureGiven given picture
+IsLookGiven given (looks.Map picture) = IsPictureGiven given picture × (is_set (given (codes "json")) ≡ false)
+IsLookGiven given looks.Uses = is_set (given (codes "json")) ≡ true
 IsLookGiven given (looks.Check graded form) = (graded ≡ is_set (given (codes "status"))) × IsFormGiven given form
 IsLookGiven given (looks.List path listing) = (path.now ≡ the_word given (codes "PATH")) × AreLinesGiven given listing.lines
     × IsDepthGiven given listing.depth × (is_set (given (codes "slots")) ≡ false)

@@ -789,4 +789,4 @@ pub static DIFF_WORDS: [Parameter; 6] = [EDITION, IMAGE, BOTH_AT, OTHER, FIELDS,
 pub static SUPER_WORDS: [Parameter; 4] = [EDITION, IMAGE, AT, JSON];
 
 /// The words that `map` takes.
-pub static MAP_WORDS: [Parameter; 4] = [EDITION, IMAGE, AT, SVG];
+pub static MAP_WORDS: [Parameter; 5] = [EDITION, IMAGE, AT, SVG, JSON];

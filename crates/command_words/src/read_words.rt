@@ -339,11 +339,13 @@ fn read_map<'a, G: Given<'a>>(given: &G) -> Result<Invocation<'a>, WordFault<'a>
     ensures refused { IfErr result (TellsOf (IsOneWrong None (G.words given.now) (arguments_of verbs.Map))) }
 {
     let volume = volume_in(given)?;
-    let picture = picture_in(given);
-    Ok(Invocation::Look {
-        volume,
-        look: Look::Map { picture },
-    })
+    let look = if flag_in(given, "json") {
+        Look::Uses
+    } else {
+        let picture = picture_in(given);
+        Look::Map { picture }
+    };
+    Ok(Invocation::Look { volume, look })
 }
 
 /// Reads the words of `check`.

@@ -276,6 +276,7 @@ pub const MAP_MORE: &str = "\
 Examples:
   unixvol map 7 disk.img
   unixvol map --svg 7 disk.img > disk.svg
+  unixvol map --json 7 disk.img | jq '.map[] | select(.use == \"lost\")'
 
 Each block is drawn as a letter, with a legend below. In a large volume one letter stands for several blocks, and
 shows the first of these uses that one of them has: named twice, lost, super-block, boot, i-list, directory,
@@ -283,6 +284,9 @@ pointer (an indirect block), file, chain (a block that continues the free list),
 
 On a terminal the letters have colours, unless the variable NO_COLOR is not empty or TERM is `dumb`, and a row has
 as many letters as COLUMNS says.
+
+With --json, one object is printed on one line, and --svg has no effect. Its \"map\" has an object for each run of blocks
+with one use: \"block\", the first of them, \"count\" and \"use\".
 
 The volume need not be sound. Only rules 1 and 2 are checked: the image's size, and the sizes in its super-block.
 

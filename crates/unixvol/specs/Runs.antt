@@ -329,6 +329,7 @@ IsSeen files edition (looks.Dump target radix) image = files.shown edition image
 IsSeen files edition (looks.Df form) image = files.shown edition image
 IsSeen files edition (looks.Find path name lost form) image = files.shown edition image
 IsSeen files edition (looks.Map picture) image = files.shown edition image
+IsSeen files edition looks.Uses image = files.shown edition image
 
 -- part of an image is shown: nothing is done; or it is shown from an image that was read from a file (this project)
 abbrev pub RunsLook : Streams → HostFiles → Screen → Edition → Look → ℕ → Type 0
@@ -523,6 +524,7 @@ highest_status (looks.Dump target radix) = 4
 highest_status (looks.Df form) = 4
 highest_status (looks.Find path name lost form) = 5
 highest_status (looks.Map picture) = 4
+highest_status looks.Uses = 4
 highest_status (looks.List path listing) = 4
 highest_status (looks.Slots path) = 4
 

@@ -145,6 +145,7 @@ fn read_seen<R: ImageFiles + Eprint + AllocGlobal>(
         | Look::Df { .. }
         | Look::Find { .. }
         | Look::Map { .. }
+        | Look::Uses
         | Look::Slots { .. } => read_volume(host, volume),
     }
 }

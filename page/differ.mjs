@@ -33,7 +33,8 @@ const looks = (edition, image) => [
     ['export', '--status', edition, image, '/etc'], ['map', edition, image], ['map', '--svg', edition, image], ['df', edition, image],
     ['df', '--json', edition, image], ['super', edition, image], ['super', '--json', edition, image], ['free', edition, image],
     ['free', '--json', edition, image], ['inode', edition, image, '2'], ['inode', '--json', edition, image, '3'], ['inode', edition, image, '/etc'],
-    ['block', edition, image, '4'], ['block', edition, image, '14'], ['check', edition, image], ['check', '--json', edition, image],
+    ['block', edition, image, '4'], ['block', edition, image, '14'], ['block', '--json', edition, image, '14'], ['find', '--json', edition, image],
+    ['map', '--json', edition, image], ['check', edition, image], ['check', '--json', edition, image],
     ['check', '--status', edition, image], ['icheck', edition, image, '1'], ['icheck', edition, image, '4'], ['dcheck', edition, image, '2'],
     ['ncheck', edition, image, '3'], ['identify', image], ['identify', image, image],
 ];

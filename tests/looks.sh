@@ -130,14 +130,16 @@ done
 has 'the status of check --status of a volume that is not sound' 1 $?
 
 # The slots of a directory, as Python reads them in its body, with names that were removed.
-# slots EDITION IMAGE PATH: `ls --slots` prints these lines
+# slots EDITION IMAGE PATH: `ls --slots` prints these lines, and with `--json` this object
 slots() {
-    "$program" cat "$@" | python3 -c 'import struct, sys
+    "$program" cat "$@" | python3 -c 'import json, struct, sys
 body = sys.stdin.buffer.read()
-for slot in range(len(body) // 16):
-    number, name = struct.unpack_from("<H14s", body, 16 * slot)
-    if number or name.strip(b"\0"):
-        sys.stdout.buffer.write(b"%5d %5d %s\n" % (slot, number, name.split(b"\0")[0]))' > wanted
+slots = [(slot, *struct.unpack_from("<H14s", body, 16 * slot)) for slot in range(len(body) // 16)]
+found = [(slot, ino, name.split(b"\0")[0]) for slot, ino, name in slots if ino or name.strip(b"\0")]
+open("wanted", "wb").writelines(b"%5d %5d %s\n" % it for it in found)
+objects = [{"ino": ino, "name": name.decode(), "slot": slot} for slot, ino, name in found]
+print(json.dumps({"format": 1, "slots": objects}, separators=(",", ":")))' > object
+    prints object ls --slots --json "$@"
     prints wanted ls --slots "$@"
 }
 slots 7 lost.img /
@@ -158,6 +160,19 @@ done
 cp output wanted
 put slots.img $((1024 + 64 + 8)) 81400014
 prints wanted ls --slots 7 slots.img /
+prints object ls --slots --json 7 slots.img /
+# One without names in its slots.
+"$program" mkfs 7 blank.img 400 10 0 0 1000
+put blank.img $((512 * $("$program" inode 7 blank.img 2 | awk '/^addr/ { print $2 }'))) "$(repeated 32 00)"
+prints none ls --slots 7 blank.img /
+echo '{"format":1,"slots":[]}' > object
+prints object ls --slots --json 7 blank.img /
+# A root of 16,522 blocks that are one block: none of its 528,704 objects is kept.
+ringed many.v7 40755 8459264 2 1 0100030000000b0000000b0000000b00
+"$program" ls --slots 7 many.v7 / | awk -v ORS= 'BEGIN { print "{\"format\":1,\"slots\":[" }
+    { print (NR > 1 ? "," : "") "{\"ino\":" $2 ",\"name\":\"\\\\003\",\"slot\":" $1 "}" } END { print "]}\n" }' > wanted
+(in_memory 60000 "$program" ls --slots --json 7 many.v7 / > output 2> error; echo $? > status)
+wants 'ls --slots --json of a root that names one block everywhere' 0 wanted none
 # One whose triple indirect block leads to one block of entries everywhere: 8 million lines, none of which is kept.
 shared wide.v7 4
 (in_memory 60000 "$program" ls --slots 7 wide.v7 / 2> error; echo $? > status) | awk 'END { print NR ": " $0 }' > output
@@ -297,9 +312,6 @@ letters = {"boot": "B", "super-block": "S", "i-list": "i", "directory": "d", "fi
 runs = json.load(sys.stdin)["map"]
 assert all(one["use"] != two["use"] and one["block"] + one["count"] == two["block"] for one, two in zip(runs, runs[1:])) and runs[0]["block"] == 0
 print("".join(letters[it["use"]] * it["count"] for it in runs))' < output)"
-cp output map.json
-runs map --svg --json 7 "$linux"
-wants 'map --svg --json' 0 map.json none
 misread "error: unexpected argument '--svg'" super --svg 7 "$linux"
 misread "error: invalid value '65536' for '<INO>'" inode 7 "$linux" 65536
 misread "error: invalid value 'etc' for '<INO>'" inode 7 "$linux" etc
@@ -436,15 +448,20 @@ echo 'unixvol: cannot write -' > line
 wants 'export to a terminal' 3 none line
 
 # The keys of each command's JSON are those that docs/JSON.md lists for it. Together the images have each kind of line, fault and place.
-for command in ls find sums 'inode 1' 'block 0 2 5 19' map super df free check 'icheck 1' 'dcheck 1' 'ncheck 1'; do
-    read -r name words <<< "$command"
+# keys_of COMMAND WORD..: of the command, with each of the words after the image, if there are any
+keys_of() {
+    local image word
     for image in special.v7 twice_free.v6 "$samples"/lessons/*.v?; do
-        for word in ${words:-''}; do
-            "$program" "$name" --json "${image##*.v}" "$image" $word 2> error < /dev/null
+        for word in "${@:2}"; do
+            # shellcheck disable=SC2086
+            "$program" $1 --json "${image##*.v}" "$image" $word 2> error < /dev/null
         done
     done > printed
-    has "the keys of $name --json" '' "$(python3 "$data/keys.py" "$samples/../docs/JSON.md" "$name" < printed)"
-done
+    has "the keys of $1 --json" '' "$(python3 "$data/keys.py" "$samples/../docs/JSON.md" "$1" < printed)"
+}
+for command in ls 'ls --slots' find sums map super df free check; do keys_of "$command" ''; done
+for command in icheck dcheck ncheck inode; do keys_of $command 1; done
+keys_of block 0 2 5 19
 
 # Multiplexor files, which the seventh edition has: `c` is one of type 030000, and `k` one of type 070000.
 changed special.v7 multiplexed.v7 $((1024 + 12 * 64)) 'A4 31'

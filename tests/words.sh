@@ -215,8 +215,8 @@ get 7 disk -x -o out /d/f | unexpected argument '-x'
 get 7 disk -o out | <PATH>
 get 7 disk -o out -o out /d/f | '--output <FOLDER>' cannot be used multiple times
 get 7 disk -o out /d/f /e/f/ | invalid value 'f' for '<PATH>': two files have this last name
-ls --slots --json 7 disk / | the argument '--slots' cannot be used with '--json'
-ls 7 disk --json -l --slots | the argument '--slots' cannot be used with '--json'
+map --svg --json 7 disk | the argument '--svg' cannot be used with '--json'
+map 7 disk --json --svg | the argument '--svg' cannot be used with '--json'
 inode 7 disk | <INO>
 map --svg --svg 7 disk | --svg
 --explain | subcommand

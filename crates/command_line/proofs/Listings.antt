@@ -195,7 +195,7 @@ asks_listing clock given edition image path (invocations.Look volume (looks.Find
 asks_listing clock given edition image path (invocations.Look volume (looks.Map picture)) test e_is i_is p_is none is = absurd (true≢false (sym test))
 asks_listing clock given edition image path (invocations.Look volume looks.Uses) test e_is i_is p_is none is = absurd (true≢false (sym test))
 asks_listing clock given edition image path (invocations.Look volume (looks.Check graded form)) test e_is i_is p_is none is = absurd (true≢false (sym test))
-asks_listing clock given edition image path (invocations.Look volume (looks.Slots p)) test e_is i_is p_is none is =
+asks_listing clock given edition image path (invocations.Look volume (looks.Slots p form)) test e_is i_is p_is none is =
     absurd (true≢false (sym is.1.1 ∙ unset (given (codes "slots")) none.slots))
 asks_listing clock given edition image path (invocations.Look volume (looks.List directory listing)) test e_is i_is p_is none is = (
   (given_is volume.edition volume.is_any edition (subst (IsEditionGiven volume.edition volume.is_any) e_is is.0.0)).0,
@@ -272,7 +272,7 @@ listing_asks clock (Some met) edition image path (invocations.Look v (looks.Find
 listing_asks clock (Some met) edition image path (invocations.Look v (looks.Map picture)) is listed = absurd listed
 listing_asks clock (Some met) edition image path (invocations.Look v looks.Uses) is listed = absurd listed
 listing_asks clock (Some met) edition image path (invocations.Look v (looks.Check graded form)) is listed = absurd listed
-listing_asks clock (Some met) edition image path (invocations.Look v (looks.Slots p)) is listed = absurd listed
+listing_asks clock (Some met) edition image path (invocations.Look v (looks.Slots p form)) is listed = absurd listed
 listing_asks clock (Some met) edition image path (invocations.Look volume (looks.List directory listing)) is listed =
     let name : met.0 ≡ codes "ls" = ap (λ (l : List (List ℕ)). slice_index_or l 0 []) is in
     let word : the_word (words_by met.1) (codes "EDITION") ≡ word_of edition = ap (λ (l : List (List ℕ)). slice_index_or l 1 []) is in

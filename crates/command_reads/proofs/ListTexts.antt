@@ -8,7 +8,7 @@ use Rattle.std.proofs.lemmas.Fmt.{decimal_digit}
 use Rattle.std.proofs.lemmas.Grind.{flat_map-append}
 use Rattle.std.proofs.lemmas.List.{take-append-drop, take_at}
 use Rattle.std.proofs.Math.Seq.{take-add}
-use Rattle.serde_json.specs.Data.{Data, Members, array, boolean, object, string, member, no_members}
+use Rattle.serde_json.specs.Data.{Data, Items, Members, array, boolean, object, string, member, no_members}
 use Rattle.serde_json.specs.View.{items_of}
 use Rattle.serde_json.specs.Written.{comma_if, compact_text, has_float, items_text, members_text}
 use Rattle.serde_json.proofs.OnLiterals.{serde_json_on_literals}
@@ -84,22 +84,37 @@ report_pieces report =
     ∙ (ap (λ format. report_of faulty format (lines ++ 93 ∷ []) ++ codes "\n") (sym (decimal_digit 1 (omega arith)))
     ∙ ap (λ items. report_of faulty (decimal 1) items ++ codes "\n") (sym (items_listed line_data report)))
 
--- the text of runs of blocks, from that of the format and of the runs on
-abbrev map_of : List ℕ → List ℕ → List ℕ
-map_of format found =
-    123 ∷ (compact_text (string (codes "format")) ++ 58 ∷ (format ++ (44 ∷ (compact_text (string (codes "map")) ++ 58 ∷ (91 ∷ (found ++ 125 ∷ []))))))
+-- the text of an object with a list under this key, from that of the format and of the list on
+abbrev pub list_of : List ℕ → List ℕ → List ℕ → List ℕ
+list_of key format found =
+    123 ∷ (compact_text (string (codes "format")) ++ 58 ∷ (format ++ (44 ∷ (compact_text (string key) ++ 58 ∷ (91 ∷ (found ++ 125 ∷ []))))))
 
-map_in_two : (items : List ℕ) → codes "{\"format\":1,\"map\":[" ++ (items ++ codes "]}\n") ≡ map_of (codes "1") (items ++ 93 ∷ []) ++ codes "\n"
+-- such an object is written in two pieces
+map_in_two : (items : List ℕ) → codes "{\"format\":1,\"map\":[" ++ (items ++ codes "]}\n") ≡ list_of (codes "map") (codes "1") (items ++ 93 ∷ []) ++ codes "\n"
 unfolding serde_json_on_literals
 map_in_two items = ap (λ rest. codes "{\"format\":1,\"map\":[" ++ rest) (after_items items)
+
+slots_in_two : (items : List ℕ)
+    → codes "{\"format\":1,\"slots\":[" ++ (items ++ codes "]}\n") ≡ list_of (codes "slots") (codes "1") (items ++ 93 ∷ []) ++ codes "\n"
+unfolding serde_json_on_literals
+slots_in_two items = ap (λ rest. codes "{\"format\":1,\"slots\":[" ++ rest) (after_items items)
 
 -- the pieces in which runs of blocks are written are their text
 pub runs_pieces : (found : List UseRun) → codes "{\"format\":1,\"map\":[" ++ (listed_text run_data found ++ codes "]}\n") ≡ runs_json found
 runs_pieces found =
     let items = listed_text run_data found in
     map_in_two items
-    ∙ (ap (λ format. map_of format (items ++ 93 ∷ []) ++ codes "\n") (sym (decimal_digit 1 (omega arith)))
-    ∙ ap (λ items. map_of (decimal 1) items ++ codes "\n") (sym (items_listed run_data found)))
+    ∙ (ap (λ format. list_of (codes "map") format (items ++ 93 ∷ []) ++ codes "\n") (sym (decimal_digit 1 (omega arith)))
+    ∙ ap (λ items. list_of (codes "map") (decimal 1) items ++ codes "\n") (sym (items_listed run_data found)))
+
+-- the pieces in which the slots of a directory are written are an object with all of them
+pub slots_pieces : (items : List ℕ) (all : Items) → items_text false all ≡ items ++ 93 ∷ []
+    → codes "{\"format\":1,\"slots\":[" ++ (items ++ codes "]}\n")
+    ≡ compact_text (object (member (codes "format") (count 1) (member (codes "slots") (array all) no_members))) ++ codes "\n"
+slots_pieces items all is =
+    slots_in_two items
+    ∙ (ap (λ format. list_of (codes "slots") format (items ++ 93 ∷ []) ++ codes "\n") (sym (decimal_digit 1 (omega arith)))
+    ∙ ap (λ items. list_of (codes "slots") (decimal 1) items ++ codes "\n") (sym is))
 
 -- the text of a member and of the others, with more text after them
 after_member : (comma key value rest more : List ℕ)

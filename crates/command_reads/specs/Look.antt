@@ -36,4 +36,4 @@ Looks edition image screen streams status (looks.Map picture) = DrawsMap edition
 Looks edition image screen streams status looks.Uses = ShowsUses edition image streams status
 Looks edition image screen streams status (looks.Check graded form) = Checks edition image graded form streams status
 Looks edition image screen streams status (looks.List path listing) = Lists edition image path.now listing screen streams status
-Looks edition image screen streams status (looks.Slots path) = ShowsSlots edition image path.now screen streams status
+Looks edition image screen streams status (looks.Slots path form) = ShowsSlots edition image path.now form screen streams status

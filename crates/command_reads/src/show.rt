@@ -79,6 +79,8 @@ pub fn perform<O: Sink>(
         Look::Uses => show_uses(alloc, edition, image, output),
         Look::Check { graded, form } => check(alloc, edition, image, graded, form, output),
         Look::List { path, listing } => list(alloc, edition, image, path, listing, screen, output),
-        Look::Slots { path } => show_slots(alloc, edition, image, path, screen, output),
+        Look::Slots { path, form } => {
+            show_slots(alloc, edition, image, path, form, screen, output)
+        }
     }
 }

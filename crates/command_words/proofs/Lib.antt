@@ -6,4 +6,4 @@ pub mod Moments
 pub mod Names
 pub mod OwnerWords
 pub mod Values
-pub mod SlotWords
+pub mod PictureWords

@@ -141,7 +141,7 @@ values_given clock given (invocations.Look volume (looks.Map picture)) is = (edi
 values_given clock given (invocations.Look volume looks.Uses) is = (edition_value volume.edition volume.is_any _ is.0.0, (tt, (at_value volume.at _ is.0.2, (tt, (tt, tt)))))
 values_given clock given (invocations.Look volume (looks.Check graded form)) is = (edition_value volume.edition volume.is_any _ is.0.0, (tt, (at_value volume.at _ is.0.2, (tt, (tt, tt)))))
 values_given clock given (invocations.Look volume (looks.List path listing)) is = (edition_value volume.edition volume.is_any _ is.0.0, (tt, (at_value volume.at _ is.0.2, (tt, (tt, (tt, (tt, (tt, (tt, tt)))))))))
-values_given clock given (invocations.Look volume (looks.Slots path)) is = (edition_value volume.edition volume.is_any _ is.0.0, (tt, (at_value volume.at _ is.0.2, (tt, (tt, (tt, (tt, (tt, (tt, tt)))))))))
+values_given clock given (invocations.Look volume (looks.Slots path form)) is = (edition_value volume.edition volume.is_any _ is.0.0, (tt, (at_value volume.at _ is.0.2, (tt, (tt, (tt, (tt, (tt, (tt, tt)))))))))
 values_given clock given (invocations.Change volume (changes.Import path options now)) is =
     (edition_value volume.edition volume.is_any _ is.0.0, (tt, (at_value volume.at _ is.0.2, (is.1.0.1, ((now, is.1.1), (tt, (owner_value _ options.owner is.1.2.1, tt)))))))
 values_given clock given (invocations.Change volume (changes.MkdirAll path now)) is = (edition_value volume.edition volume.is_any _ is.0.0, (tt, (at_value volume.at _ is.0.2, (tt, ((now, is.1.1), (tt, tt))))))

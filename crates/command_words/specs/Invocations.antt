@@ -221,7 +221,7 @@ look_verb (looks.Map picture) = verbs.Map
 look_verb looks.Uses = verbs.Map
 look_verb (looks.Check graded form) = verbs.Check
 look_verb (looks.List path listing) = verbs.Ls
-look_verb (looks.Slots path) = verbs.Ls
+look_verb (looks.Slots path form) = verbs.Ls
 
 -- the command that copies files (this project)
 abbrev pub copying_verb : Copying → Verb
@@ -419,12 +419,12 @@ IsLookGiven given (looks.Df form) = IsFormGiven given form
 IsLookGiven given (looks.Find path name lost form) = (path.now ≡ the_word given (codes "PATH"))
     × (option_map (λ word. word.now) name ≡ slice_get (given (codes "name")) 0) × (lost ≡ is_set (given (codes "lost"))) × IsFormGiven given form
 IsLookGiven given (looks.Map picture) = IsPictureGiven given picture × (is_set (given (codes "json")) ≡ false)
-IsLookGiven given looks.Uses = is_set (given (codes "json")) ≡ true
+IsLookGiven given looks.Uses = (is_set (given (codes "json")) ≡ true) × (is_set (given (codes "svg")) ≡ false)
 IsLookGiven given (looks.Check graded form) = (graded ≡ is_set (given (codes "status"))) × IsFormGiven given form
 IsLookGiven given (looks.List path listing) = (path.now ≡ the_word given (codes "PATH")) × AreLinesGiven given listing.lines
     × IsDepthGiven given listing.depth × (is_set (given (codes "slots")) ≡ false)
-IsLookGiven given (looks.Slots path) = (path.now ≡ the_word given (codes "PATH")) × (is_set (given (codes "slots")) ≡ true)
-    × (is_set (given (codes "json")) ≡ false)
+IsLookGiven given (looks.Slots path form) = (path.now ≡ the_word given (codes "PATH")) × (is_set (given (codes "slots")) ≡ true)
+    × IsFormGiven given form
 
 -- the words of `put` for several files, in order (this project)
 abbrev pub put_words : Words → List (List ℕ)

@@ -88,13 +88,13 @@ fn read_cat<'a, G: Given<'a>>(given: &G) -> Result<Invocation<'a>, WordFault<'a>
 /// Reads the words of `ls`.
 fn read_ls<'a, G: Given<'a>>(given: &G) -> Result<Invocation<'a>, WordFault<'a>>
     ensures read { IfOk result (AsksFor None verbs.Ls (G.words given.now)) }
-    ensures refused { (clock : Option ℕ) → IfErr result (TellsOf (AsksForNothing clock verbs.Ls (G.words given.now))) }
+    ensures refused { IfErr result (TellsOf (IsOneWrong None (G.words given.now) (arguments_of verbs.Ls))) }
 {
     let volume = volume_in(given)?;
     let path = text_in(given, "PATH");
     let look = if flag_in(given, "slots") {
-        no_json(given)?;
-        Look::Slots { path }
+        let form = form_in(given);
+        Look::Slots { path, form }
     } else {
         let listing = ListOptions {
             lines: lines_in(given),
@@ -103,22 +103,6 @@ fn read_ls<'a, G: Given<'a>>(given: &G) -> Result<Invocation<'a>, WordFault<'a>>
         Look::List { path, listing }
     };
     Ok(Invocation::Look { volume, look })
-}
-
-/// Succeeds if the words don't request JSON, in which slots aren't listed.
-fn no_json<'a, G: Given<'a>>(given: &G) -> Result<(), WordFault<'a>>
-    ensures none { IfOk result (λ _. is_set (G.words given.now (codes "json")) ≡ false) }
-    ensures refused { IfErr result (TellsOf (is_set (G.words given.now (codes "json")) ≡ true)) }
-{
-    if flag_in(given, "json") {
-        Err(WordFault::Wrong(WrongWord {
-            name: "slots",
-            said: Said::Option("json"),
-            wanted: texts::SLOTS,
-        }))
-    } else {
-        Ok(())
-    }
 }
 
 /// Reads the format of the lines.
@@ -336,16 +320,33 @@ fn fields_wanted<'a, G: Given<'a>>(given: &G) -> Result<(), WordFault<'a>>
 /// Reads the words of `map`.
 fn read_map<'a, G: Given<'a>>(given: &G) -> Result<Invocation<'a>, WordFault<'a>>
     ensures read { IfOk result (AsksFor None verbs.Map (G.words given.now)) }
-    ensures refused { IfErr result (TellsOf (IsOneWrong None (G.words given.now) (arguments_of verbs.Map))) }
+    ensures refused { (clock : Option ℕ) → IfErr result (TellsOf (AsksForNothing clock verbs.Map (G.words given.now))) }
 {
     let volume = volume_in(given)?;
     let look = if flag_in(given, "json") {
+        no_svg(given)?;
         Look::Uses
     } else {
         let picture = picture_in(given);
         Look::Map { picture }
     };
     Ok(Invocation::Look { volume, look })
+}
+
+/// Succeeds if the words don't request a picture for a browser, which isn't JSON.
+fn no_svg<'a, G: Given<'a>>(given: &G) -> Result<(), WordFault<'a>>
+    ensures none { IfOk result (λ _. is_set (G.words given.now (codes "svg")) ≡ false) }
+    ensures refused { IfErr result (TellsOf (is_set (G.words given.now (codes "svg")) ≡ true)) }
+{
+    if flag_in(given, "svg") {
+        Err(WordFault::Wrong(WrongWord {
+            name: "svg",
+            said: Said::Option("json"),
+            wanted: texts::SVG,
+        }))
+    } else {
+        Ok(())
+    }
 }
 
 /// Reads the words of `check`.

@@ -189,7 +189,8 @@ an object for each name. A byte of a name or path that isn't printable ASCII is 
 text only on a terminal, in JSON always.
 
 With --slots, each 16-byte slot of the directory has a line, in order: the slot's number from 0 on, the i-number and the
-name. The i-number of an empty slot is 0; its name is the one that was removed. A slot of zeros has no line. The other
+name. The i-number of an empty slot is 0; its name is the one that was removed. A slot of zeros has no line. With
+--json the output is one object, whose \"slots\" has an object for each line: \"slot\", \"ino\" and \"name\". The other
 options have no effect then. The volume need not be sound: only rules 1 and 2 are checked, the image's size, and the
 sizes in its super-block.
 
@@ -217,8 +218,7 @@ pub const ALL_BELOW: &str = "List the directories below too";
 
 pub const ITSELF: &str = "List a directory itself, instead of the names in it";
 
-pub const SLOTS: &str =
-    "List the directory's slots, and the names that were removed; not with --json";
+pub const SLOTS: &str = "List the directory's slots, and the names that were removed";
 
 pub const INODE_ABOUT: &str = "Shows an i-node: its fields, and what its blocks hold.";
 
@@ -285,8 +285,8 @@ pointer (an indirect block), file, chain (a block that continues the free list),
 On a terminal the letters have colours, unless the variable NO_COLOR is not empty or TERM is `dumb`, and a row has
 as many letters as COLUMNS says.
 
-With --json, one object is printed on one line, and --svg has no effect. Its \"map\" has an object for each run of blocks
-with one use: \"block\", the first of them, \"count\" and \"use\".
+With --json, one object is printed on one line. Its \"map\" has an object for each run of blocks with one use: \"block\",
+the first of them, \"count\" and \"use\".
 
 The volume need not be sound. Only rules 1 and 2 are checked: the image's size, and the sizes in its super-block.
 
@@ -298,7 +298,7 @@ Status:
   3  `unixvol: cannot read IMAGE`, or `unixvol: cannot write -`: standard output failed
   4  `unixvol: 12 NoMemory`";
 
-pub const SVG: &str = "Draw an SVG picture, for a browser";
+pub const SVG: &str = "Draw an SVG picture, for a browser; not with --json";
 
 pub const CHECK_ABOUT: &str = "Checks a volume against the twelve rules of soundness.";
 

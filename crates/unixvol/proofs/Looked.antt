@@ -227,7 +227,7 @@ ends_looks edition image screen streams status (looks.Map picture) shows = ends_
 ends_looks edition image screen streams status looks.Uses shows = ends_one_in_pieces _ _ streams status shows
 ends_looks edition image screen streams status (looks.Check graded form) shows = ends_checks edition image graded form streams status shows
 ends_looks edition image screen streams status (looks.List path listing) shows = ends_one _ _ streams status shows
-ends_looks edition image screen streams status (looks.Slots path) shows = ends_one_in_pieces _ _ streams status shows
+ends_looks edition image screen streams status (looks.Slots path form) shows = ends_one_in_pieces _ _ streams status shows
 
 -- the highest status of a command is at least 4
 highest_few : (look : Look) → 4 ≤ highest_status look
@@ -244,7 +244,7 @@ highest_few (looks.Map picture) = omega arith
 highest_few looks.Uses = omega arith
 highest_few (looks.Check graded form) = most_few graded
 highest_few (looks.List path listing) = omega arith
-highest_few (looks.Slots path) = omega arith
+highest_few (looks.Slots path form) = omega arith
 
 pub ends_unread : {F : Type 0} (remaining : F → Option (List ℕ)) (most : ℕ) (streams : Streams) (status : ℕ) → 4 ≤ most → IsUnread remaining status
     → IsEndWithin most streams status

@@ -318,7 +318,7 @@ IsShownBy false screens.Stream = Unit {0}
 abbrev pub IsSeen : HostFiles → Edition → Look → List ℕ → Type 0
 IsSeen files edition (looks.Check graded form) image = files.checked edition image
 IsSeen files edition (looks.List path listing) image = files.shown edition image
-IsSeen files edition (looks.Slots path) image = files.shown edition image
+IsSeen files edition (looks.Slots path form) image = files.shown edition image
 IsSeen files edition (looks.Export path options) image = files.shown edition image
 IsSeen files edition (looks.Sums path form lost) image = files.shown edition image
 IsSeen files edition (looks.Inode node form) image = files.shown edition image
@@ -526,7 +526,7 @@ highest_status (looks.Find path name lost form) = 5
 highest_status (looks.Map picture) = 4
 highest_status looks.Uses = 4
 highest_status (looks.List path listing) = 4
-highest_status (looks.Slots path) = 4
+highest_status (looks.Slots path form) = 4
 
 -- work with several threads runs to its end, from the contents of the program's two streams: their contents afterwards, whether they failed, and the
 -- status of the run, which is also the exit status unless that is 3 (this project)

@@ -126,7 +126,7 @@ impl<'a> Subject<'a> {
             Look::Find { path, .. } => (Verb::Find, About::Path(path)),
             Look::Map { .. } | Look::Uses => (Verb::Map, About::Image),
             Look::Check { .. } => (Verb::Check, About::Image),
-            Look::List { path, .. } | Look::Slots { path } => (Verb::Ls, About::Path(path)),
+            Look::List { path, .. } | Look::Slots { path, .. } => (Verb::Ls, About::Path(path)),
         };
         Subject::new(volume, verb, about)
     }

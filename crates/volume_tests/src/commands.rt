@@ -127,7 +127,10 @@ fn check_read(rt: &impl Abort, alloc: Global, edition: Edition, image: &[u8]) {
 /// Checks what `ls --slots` and `icheck` print.
 fn check_shown<R: Threads + Wait + Sync + Abort>(rt: &R, alloc: Global, image: &[u8]) {
     let (mut output, mut errors) = (stream(alloc), stream(alloc));
-    let shown = Look::Slots { path: "/d" };
+    let shown = Look::Slots {
+        path: "/d",
+        form: OutputForm::Text,
+    };
     let status = look(
         alloc,
         Edition::V6,

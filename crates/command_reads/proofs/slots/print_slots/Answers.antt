@@ -11,8 +11,8 @@ returns-in-Ok g c errors hears =
       _,
       record { start = c.in-Ok.start; begins = sym c.in-Ok.ensures.exact; lines = refl },
       in_pieces 0
-          (streams g.O.Sink.contents g.O.Sink.failed c.args.output.now c.put_slots-written.new.output errors) _ _ c.ending_after.result.fault c.put_slots-written.result
-          c.put_slots-written.ensures c.ending_after.ensures.whole c.ending_after.ensures.fault hears,
+          (streams g.O.Sink.contents g.O.Sink.failed c.args.output.now c.put_all-written.new.output errors) _ _ c.ending_after.result.fault c.put_all-written.result
+          c.put_all-written.ensures c.ending_after.ensures.whole c.ending_after.ensures.fault hears,
     )
 
 pub returns-in-Err : goal.returns-in-Err

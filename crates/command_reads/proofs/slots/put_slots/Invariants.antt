@@ -1,13 +1,15 @@
-use Rattle.std.proofs.Common.{◌≡◌, ◌-◌, ◌≤◌}
+use Rattle.std.proofs.Common.{◌≡◌, ◌-◌, ◌≤◌, drop, length}
 use Rattle.std.specs.Io.KnownBytes.{Appends}
 use Rattle.command_reads.proofs.SlotLines.{lines_before}
 use Rattle.command_reads.proofs.slots.put_slots.Given as goal
 
--- Invariant: the lines of the slots in the logical blocks before `b` have been written, and the output has not failed since the start.
+-- Invariant: the texts of the slots in the logical blocks before `b` have been written, without the first bytes, and `left` is what is still to be left
+-- out; the output has not failed since the start.
 abbrev pub invariant-loop-b : goal.invariant-loop-b
 invariant-loop-b g l = record {
   within : l.b ≤ l.blocks;
-  lines : Appends (g.O.Sink.contents l.initial.output) (g.O.Sink.contents l.output) (lines_before l.screen l.geometry l.image l.dir l.b);
+  left : l.left ≡ l.initial.left - length (lines_before l.form l.geometry l.image l.dir l.b);
+  lines : Appends (g.O.Sink.contents l.initial.output) (g.O.Sink.contents l.output) (drop l.initial.left (lines_before l.form l.geometry l.image l.dir l.b));
   working : g.O.Sink.failed l.output ≡ g.O.Sink.failed l.initial.output;
 }
 

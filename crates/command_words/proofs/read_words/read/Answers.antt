@@ -8,7 +8,8 @@ returns-in-Cat-clause-refused g c =
     rw c.in-Cat.is (refuses_value c.args.clock verbs.Cat (g.G.Given.words c.args.given.now) c.read_cat.result c.read_cat.ensures.refused)
 
 pub returns-in-Ls-clause-refused : goal.returns-in-Ls-clause-refused
-returns-in-Ls-clause-refused g c = rw c.in-Ls.is (c.read_ls.ensures.refused c.args.clock)
+returns-in-Ls-clause-refused g c =
+    rw c.in-Ls.is (refuses_value c.args.clock verbs.Ls (g.G.Given.words c.args.given.now) c.read_ls.result c.read_ls.ensures.refused)
 
 pub returns-in-Get-clause-refused : goal.returns-in-Get-clause-refused
 returns-in-Get-clause-refused g c = rw c.in-Get.is (c.read_get.ensures.refused c.args.clock)
@@ -54,8 +55,7 @@ returns-in-Find-clause-refused g c =
     rw c.in-Find.is (refuses_value c.args.clock verbs.Find (g.G.Given.words c.args.given.now) c.read_find.result c.read_find.ensures.refused)
 
 pub returns-in-Map-clause-refused : goal.returns-in-Map-clause-refused
-returns-in-Map-clause-refused g c =
-    rw c.in-Map.is (refuses_value c.args.clock verbs.Map (g.G.Given.words c.args.given.now) c.read_map.result c.read_map.ensures.refused)
+returns-in-Map-clause-refused g c = rw c.in-Map.is (c.read_map.ensures.refused c.args.clock)
 
 pub returns-in-Check-clause-refused : goal.returns-in-Check-clause-refused
 returns-in-Check-clause-refused g c =

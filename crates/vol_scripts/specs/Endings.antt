@@ -64,10 +64,12 @@ all_receipts (script ∷ scripts) = receipts_in script.items ++ all_receipts scr
 abbrev pub gone_of : Mounted → Bool → List Receipt → Option ℕ
 gone_of volume cuts receipts = if cuts then Some (count_by (λ receipt. nat_lt receipt.at volume.first) receipts) else None
 
--- the whole report, given the number of receipts that agree with the journal; the journal is at its end, if it is wanted (this project)
-abbrev pub play_text : Mounted → Bool → Bool → List (Vec Played Global) → ℕ → List ℕ
-play_text volume cuts journal scripts agree =
+-- the whole report, given the number of receipts that agree with the journal; at its end are the journal, if it is wanted, and what is printed after
+-- it (this project)
+abbrev pub play_text : Mounted → Bool → Bool → List ℕ → List (Vec Played Global) → ℕ → List ℕ
+play_text volume cuts journal more scripts agree =
     scripts_text 1 scripts ++ totals_text (length volume.journal) agree (gone_of volume cuts (all_receipts scripts)) ++ journal_if journal volume.journal
+    ++ more
 
 -- `agree` receipts agree with the journal, or 0 if memory ran out (this project)
 abbrev pub AreConfirmed : Mounted → List Receipt → Option Confirmed → ℕ → Type 0
@@ -80,18 +82,19 @@ printed_status scripts (Some confirmed) = scripts_status scripts
 printed_status scripts None = 4
 
 -- for some result of confirming the receipts, the report of the play satisfies `goes_out` (this project)
-abbrev pub Reports : Mounted → Bool → Bool → List (Vec Played Global) → (List ℕ → Option Confirmed → Type 0) → Type 0
-Reports volume cuts journal scripts goes_out = (confirmed : Option Confirmed) × (agree : ℕ) × AreConfirmed volume (all_receipts scripts) confirmed agree
-    × goes_out (play_text volume cuts journal scripts agree) confirmed
+abbrev pub Reports : Mounted → Bool → Bool → List ℕ → List (Vec Played Global) → (List ℕ → Option Confirmed → Type 0) → Type 0
+Reports volume cuts journal more scripts goes_out = (confirmed : Option Confirmed) × (agree : ℕ)
+    × AreConfirmed volume (all_receipts scripts) confirmed agree
+    × goes_out (play_text volume cuts journal more scripts agree) confirmed
 
 -- the bytes that are written to standard output: the report; or, if standard output failed, a prefix of it; or nothing, if memory ran out (this
 -- project)
-abbrev pub PrintsPlay : Mounted → Bool → Bool → List (Vec Played Global) → Option (List ℕ) → Option (List ℕ) → Bool → Bool → Result ℕ Fault → Type 0
-PrintsPlay volume cuts journal scripts old new had_failed failed (Ok status) = (failed ≡ had_failed)
-    × Reports volume cuts journal scripts (λ text confirmed. Appends old new text × (status ≡ printed_status scripts confirmed))
-PrintsPlay volume cuts journal scripts old new had_failed failed (Err faults.Output) =
-    (failed ≡ true) × Reports volume cuts journal scripts (λ text confirmed. (count : ℕ) × AppendsFront old new text count)
-PrintsPlay volume cuts journal scripts old new had_failed failed (Err fault) =
+abbrev pub PrintsPlay : Mounted → Bool → Bool → List ℕ → List (Vec Played Global) → Option (List ℕ) → Option (List ℕ) → Bool → Bool → Result ℕ Fault → Type 0
+PrintsPlay volume cuts journal more scripts old new had_failed failed (Ok status) = (failed ≡ had_failed)
+    × Reports volume cuts journal more scripts (λ text confirmed. Appends old new text × (status ≡ printed_status scripts confirmed))
+PrintsPlay volume cuts journal more scripts old new had_failed failed (Err faults.Output) =
+    (failed ≡ true) × Reports volume cuts journal more scripts (λ text confirmed. (count : ℕ) × AppendsFront old new text count)
+PrintsPlay volume cuts journal more scripts old new had_failed failed (Err fault) =
     (fault ≡ no_memory) × (failed ≡ had_failed) × Keeps old new
 
 -- the result of a play: the bytes of the volume are to be saved; the report is printed without a line on standard error, or there is a fault, with

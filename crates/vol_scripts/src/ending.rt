@@ -17,7 +17,7 @@ use vol_volume::Volume;
 
 /// Ends a play. Prints a line for each step of each script, in order, then the number of records in the journal and the number of receipts that agree
 /// with it. If a script cuts the journal, also prints the number of receipts whose records were cut; and, if the journal is wanted, a line for each
-/// of its records, in the format of a script. The volume's bytes are to be saved in any case.
+/// of its records, in the format of a script; and `more` after all that. The volume's bytes are to be saved in any case.
 ///
 /// The status is 3 if `output` failed; else 4 if a step, this report or confirming the receipts ran out of memory (no receipt then counts as
 /// confirmed), or if a view couldn't read the published version; else 1 if a step was refused; else 0. If memory for the report runs out, none of it
@@ -29,14 +29,15 @@ pub fn finish<O: Sink>(
     volume: Volume,
     cuts: bool,
     journal: bool,
+    more: &[u8],
     scripts: Vec<Vec<Played>>,
     output: &mut O,
 ) -> Answer
     ensures { (errors : ErrorStream) → Hears errors result.fault → Finishes volume cuts scripts.items
-        (PrintsPlay volume cuts journal scripts.items (O.contents output.old) (O.contents output.new) (O.failed output.old) (O.failed output.new))
+        (PrintsPlay volume cuts journal more.now scripts.items (O.contents output.old) (O.contents output.new) (O.failed output.old) (O.failed output.new))
         (says errors) result }
 {
-    let printed = print_report(alloc, &volume, cuts, journal, scripts, output);
+    let printed = print_report(alloc, &volume, cuts, journal, more, scripts, output);
     let Ending { status, fault } = ending_of(printed);
     Answer {
         status,
@@ -65,14 +66,15 @@ fn print_report<O: Sink>(
     volume: &Volume,
     cuts: bool,
     journal: bool,
+    more: &[u8],
     scripts: Vec<Vec<Played>>,
     output: &mut O,
 ) -> Result<u8, Fault>
-    ensures { PrintsPlay volume.now cuts journal scripts.items (O.contents output.old) (O.contents output.new)
+    ensures { PrintsPlay volume.now cuts journal more.now scripts.items (O.contents output.old) (O.contents output.new)
         (O.failed output.old) (O.failed output.new) result }
 {
     let worst = scripts_status(&scripts);
-    let (text, confirmed) = report_of(alloc, volume, cuts, journal, scripts)?;
+    let (text, confirmed) = report_of(alloc, volume, cuts, journal, more, scripts)?;
     let status = match confirmed {
         Some(_) => worst,
         None => NO_MEMORY,
@@ -89,9 +91,10 @@ fn report_of(
     volume: &Volume,
     cuts: bool,
     journal: bool,
+    more: &[u8],
     scripts: Vec<Vec<Played>>,
 ) -> Result<(Vec<u8>, Option<Confirmed>), AllocError>
-    ensures { IfOk result (λ made. Reports volume.now cuts journal scripts.items
+    ensures { IfOk result (λ made. Reports volume.now cuts journal more.now scripts.items
         (λ text confirmed. (confirmed ≡ made.1) × (made.0.items ≡ text))) }
 {
     let mut text = lines_of(alloc, &scripts)?;
@@ -102,6 +105,7 @@ fn report_of(
     push_totals(&mut text, records, agree, gone)?;
     let mut text = text.into_bytes();
     push_journal(alloc, &mut text, journal, volume.journal())?;
+    text.extend_from_slice(more)?;
     Ok((text, confirmed))
 }
 

@@ -28,8 +28,8 @@ pub(crate) fn push_journal(
     Ok(())
 }
 
-/// Appends the line of a call.
-fn push_call(alloc: Global, text: &mut Vec<u8>, call: &Call) -> Result<(), AllocError>
+/// Appends the line of a call, as a script has it. Takes memory for the text.
+pub fn push_call(alloc: Global, text: &mut Vec<u8>, call: &Call) -> Result<(), AllocError>
     ensures { OnOk result (text.new.items ≡ text.old.items ++ call_text call.now) }
 {
     let caller = call.caller();

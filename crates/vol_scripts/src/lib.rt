@@ -17,6 +17,7 @@ mod texts;
 pub mod unread_scripts;
 
 pub use ending::finish;
+pub use journal::push_call;
 pub use played::Played;
 pub use read::{ScriptFault, ScriptsFault, has_bad_start, read_script, read_scripts};
 pub use steps::{Script, ScriptStep, Sequence};

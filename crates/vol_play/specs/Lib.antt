@@ -2,6 +2,7 @@ pub use Rattle.command_faults.specs.Streams
 pub use Rattle.vol_scripts.specs.Endings
 pub use Rattle.vol_shared.specs.Sessions
 pub use Rattle.vol_shared.specs.Stored
+pub use Rattle.vol_trace.specs.Trace
 pub use Rattle.vol_views.specs.Logs
 pub mod Steps
 pub mod Opened

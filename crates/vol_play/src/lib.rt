@@ -10,5 +10,6 @@ mod prepare;
 mod queries;
 mod run;
 mod steps;
+mod traced;
 
 pub use play_command::{perform, play};

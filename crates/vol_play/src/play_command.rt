@@ -6,6 +6,7 @@ ghost use Rattle.vol_play.specs.Players.{is_view};
 ghost use Rattle.vol_play.specs.Play.{PlaysVolume, IsPlayed, IsUnplayed, any_cut, script_cuts, is_cut};
 
 use crate::performance::play_on;
+use crate::traced::finish_traced;
 use command_faults::answer::{report, tell};
 use command_faults::{Answer, Fault};
 use pdp_words::Sink;
@@ -14,7 +15,7 @@ use std::sync::Wait;
 use std::thread::Threads;
 use vol_check::Gate;
 use vol_layout::Edition;
-use vol_scripts::{Played, Script, ScriptStep, finish, read_scripts, refuse};
+use vol_scripts::{Played, Script, ScriptStep, read_scripts, refuse};
 use vol_shared::{MOST_SESSIONS, MOST_VIEWS};
 use vol_volume::Volume;
 
@@ -26,15 +27,18 @@ pub fn play<R: Threads + Wait + Sync, G: Gate, O: Sink, E: Sink>(
     image: Vec<u8>,
     scripts: &[Vec<u8>],
     journal: bool,
+    trace: bool,
     gate: &G,
     output: &mut O,
     errors: &mut E,
 ) -> Answer
     requires first { 1 ≤ length scripts.now }
     requires last { length scripts.now ≤ MOST_SESSIONS }
-    ensures { PlaysVolume edition image.items journal scripts.now (streams O.contents O.failed output.old output.new (heard E.contents E.failed errors.old errors.new)) result }
+    ensures { PlaysVolume edition image.items journal trace scripts.now (streams O.contents O.failed output.old output.new (heard E.contents E.failed errors.old errors.new)) result }
 {
-    let answer = perform(rt, alloc, edition, image, scripts, journal, gate, output);
+    let answer = perform(
+        rt, alloc, edition, image, scripts, journal, trace, gate, output,
+    );
     tell(&answer.fault, errors);
     answer
 }
@@ -45,10 +49,10 @@ pub fn play<R: Threads + Wait + Sync, G: Gate, O: Sink, E: Sink>(
 ///
 /// All scripts are read before the first call. If a line can't be read, the volume isn't sound or memory runs out before the first call, nothing is
 /// saved, and the fault reports the reason; the status is 2 for a line, 1 for an image that isn't sound, 4 for memory. Otherwise the scripts are
-/// played, and [`finish`] ends the play: it prints a line for each step on `output`, then the journal if it is wanted, and returns the bytes of the
-/// volume to save, whatever the status.
+/// played, and [`finish_traced`] ends the play: it prints a line for each step on `output`, then the journal if it is wanted, then the trace if it is
+/// wanted, and returns the bytes of the volume to save, whatever the status.
 ///
-/// Takes memory for the scripts, for [`Volume::mount`], for each step and call, and for [`finish`].
+/// Takes memory for the scripts, for [`Volume::mount`], for each step and call, and for [`finish_traced`].
 pub fn perform<R: Threads + Wait + Sync, G: Gate, O: Sink>(
     rt: &R,
     alloc: Global,
@@ -56,13 +60,14 @@ pub fn perform<R: Threads + Wait + Sync, G: Gate, O: Sink>(
     image: Vec<u8>,
     scripts: &[Vec<u8>],
     journal: bool,
+    trace: bool,
     gate: &G,
     output: &mut O,
 ) -> Answer
     requires first { 1 ≤ length scripts.now }
     requires last { length scripts.now ≤ MOST_SESSIONS }
     ensures { (errors : ErrorStream) → Hears errors result.fault
-        → PlaysVolume edition image.items journal scripts.now (streams O.contents O.failed output.old output.new errors) result }
+        → PlaysVolume edition image.items journal trace scripts.now (streams O.contents O.failed output.old output.new errors) result }
 {
     let scripts = match read_scripts(alloc, scripts) {
         Ok(scripts) => scripts,
@@ -70,7 +75,9 @@ pub fn perform<R: Threads + Wait + Sync, G: Gate, O: Sink>(
     };
     let cuts = any_cut(&scripts);
     match play_image(rt, alloc, edition, image, scripts, gate) {
-        Ok((volume, played)) => finish(alloc, volume, cuts, journal, played, output),
+        Ok((volume, played)) => {
+            finish_traced(alloc, volume, cuts, journal, trace, played, output)
+        }
         Err(fault) => report(Err(fault)),
     }
 }

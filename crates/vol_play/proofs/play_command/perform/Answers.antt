@@ -1,8 +1,7 @@
 use Rattle.std.proofs.Common.{◌∙◌, Bool, arith, ap, inl, inr, refl, subst}
 use Rattle.std.proofs.KnownBytes.{Keeps-refl}
-use Rattle.command_faults.specs.Streams.{says}
-use Rattle.vol_scripts.specs.Endings.{Finishes, PrintsPlay}
-use Rattle.vol_play.specs.Play.{any_cut}
+use Rattle.command_faults.specs.Streams.{streams}
+use Rattle.vol_play.specs.Play.{EndsPlay, any_cut}
 use Rattle.vol_play.proofs.ReadLaws.{read_many, read_views}
 use Rattle.vol_play.proofs.play_command.perform.Goals as goal
 
@@ -25,10 +24,9 @@ returns-in-Ok-play_image g c errors hears =
     let ends =
     subst
     (λ (cuts : Bool).
-    Finishes last cuts played
-    (PrintsPlay last cuts c.args.journal played (g.O.Sink.contents c.args.output.now) (g.O.Sink.contents c.finish.new.output) (g.O.Sink.failed c.args.output.now) (g.O.Sink.failed c.finish.new.output))
-    (says errors) c.finish.result)
-    (c.any_cut-cuts.ensures ∙ ap any_cut c.deref.ensures.value) (c.finish.ensures errors hears)
+    EndsPlay last cuts c.args.journal c.args.trace played
+    (streams g.O.Sink.contents g.O.Sink.failed c.args.output.now c.finish_traced.new.output errors) c.finish_traced.result)
+    (c.any_cut-cuts.ensures ∙ ap any_cut c.deref.ensures.value) (c.finish_traced.ensures errors hears)
     in
     inr (c.in-Ok.scripts.items, c.in-Ok.ensures, inr (last, played, c.in-Ok-play_image.ensures.played, ends))
 

@@ -24,17 +24,17 @@ abbrev pub IsDiff : Edition → List ℕ → List ℕ → Bool → List ℕ → 
 IsDiff edition old new all text =
     (g : Geometry) × (geometry_read edition old ≡ Ok g) × ((h : Geometry) × (geometry_read edition new ≡ Ok h) × IsMappedText g old h new all text)
 
--- the start of the line of an image that breaks rule 1 or rule 2 (this project)
-unfoldable pub rule_start : GeometryFault → List ℕ
-rule_start why = codes "unixvol: unsound, rule " ++ (decimal (broken_rule why) ++ codes ": ")
+-- the start of the line of an image that breaks a rule (this project)
+unfoldable pub rule_start : ℕ → List ℕ
+rule_start rule = codes "unixvol: unsound, rule " ++ (decimal rule ++ codes ": ")
 
--- the line of an image that breaks rule 1 or rule 2, with the name of its file (this project)
-abbrev pub unmeasured_line : GeometryFault → List ℕ → List ℕ
-unmeasured_line why name = rule_start why ++ (escaped name ++ codes "\n")
+-- the line of an image that breaks a rule, with the name of its file (this project)
+abbrev pub unsound_line : ℕ → List ℕ → List ℕ
+unsound_line rule name = rule_start rule ++ (escaped name ++ codes "\n")
 
 -- the fault of an image that breaks rule 1 or rule 2 (this project)
 abbrev pub IsUnmeasuredAt : GeometryFault → List ℕ → Fault → Type 0
-IsUnmeasuredAt why name fault = (fault_status fault ≡ 1) × (fault_line fault ≡ unmeasured_line why name)
+IsUnmeasuredAt why name fault = (fault_status fault ≡ 1) × (fault_line fault ≡ unsound_line (broken_rule why) name)
 
 -- the image in a file of this name breaks rule 1 or rule 2 (this project)
 abbrev pub IsUnmeasuredImage : Edition → List ℕ → List ℕ → Fault → Type 0

@@ -1,11 +1,11 @@
-//! `diff`: shows the fields in which two images differ.
-ghost use Rattle.std.specs.Prelude.{◌≡◌, ◌⊎◌, IfErr, IfOk, Ok};
+//! `diff --fields`: shows the fields in which two images differ.
+ghost use Rattle.std.specs.Prelude.{◌≡◌, ◌++◌, ◌⊎◌, IfErr, IfOk, OnOk, Ok};
 ghost use Rattle.std.specs.String.{string_bytes};
 ghost use Rattle.vol_layout.specs.Geometry.{Fits, geometry_read};
 ghost use Rattle.command_faults.specs.Faults.{no_memory};
 ghost use Rattle.command_reads.specs.Faults.{broken_rule};
 ghost use Rattle.command_faults.specs.Streams.{streams, ErrorStream, Hears};
-ghost use Rattle.command_reads.specs.Diff.{IsDiff, IsDiffFault, IsMappedText, IsUnmeasuredAt, IsUnmeasuredImage, ShowsDiff, diff_status, rule_start};
+ghost use Rattle.command_reads.specs.Diff.{IsDiff, IsDiffFault, IsMappedText, IsUnmeasuredAt, IsUnmeasuredImage, ShowsDiff, diff_status, rule_start, unsound_line};
 
 use crate::print::print_with;
 use command_faults::status::DONE;
@@ -17,7 +17,7 @@ use vol_fields::{MappedImage, block_roles, diff_text};
 use vol_layout::{Edition, Geometry, GeometryFault};
 
 /// The status if two images differ.
-const DIFFERENT: u8 = 1;
+pub(crate) const DIFFERENT: u8 = 1;
 
 /// An image, and the name of its file.
 #[derive(Drop)]
@@ -76,7 +76,12 @@ fn named_text(
 }
 
 /// Returns the geometry of the image in a file of this name.
-fn measured(alloc: Global, edition: Edition, image: &Image, name: &str) -> Result<Geometry, Fault>
+pub(crate) fn measured(
+    alloc: Global,
+    edition: Edition,
+    image: &Image,
+    name: &str,
+) -> Result<Geometry, Fault>
     ensures read { IfOk result (λ geometry. geometry_read edition image.now ≡ Ok geometry) }
     ensures fits { IfOk result (λ geometry. Fits geometry image.now) }
     ensures fault { IfErr result (λ fault. IsUnmeasuredImage edition image.now name.now fault ⊎ (fault ≡ no_memory)) }
@@ -119,22 +124,35 @@ fn mapped_text(
 fn unmeasured_at(alloc: Global, why: GeometryFault, name: &str) -> Result<Fault, AllocError>
     ensures { IfOk result (λ fault. IsUnmeasuredAt why name.now fault) }
 {
-    let start = rule_start(alloc, why)?;
-    let mut lines = Vec::from_slice(alloc, start.as_bytes())?;
-    push_escaped(&mut lines, name.as_bytes())?;
-    lines.push(b'\n')?;
+    let rule = broken_rule(why);
+    let mut lines = Vec::new(alloc);
+    push_unsound_line(alloc, &mut lines, rule, name)?;
     Ok(Fault::Worded {
-        rule: Some(broken_rule(why)),
+        rule: Some(rule),
         lines,
     })
 }
 
-/// Returns the start of the line of an image that breaks rule 1 or rule 2.
-#[tactic(auto, unfolding(crate::specs::Diff::rule_start))]
-fn rule_start(alloc: Global, why: GeometryFault) -> Result<String, AllocError>
-    ensures { IfOk result (λ text. string_bytes text ≡ rule_start why) }
+/// Appends the line of an image in a file of this name that breaks a rule.
+pub fn push_unsound_line(
+    alloc: Global,
+    lines: &mut Vec<u8>,
+    rule: u8,
+    name: &str,
+) -> Result<(), AllocError>
+    ensures { OnOk result (lines.new.items ≡ lines.old.items ++ unsound_line rule name.now) }
 {
-    let rule = broken_rule(why);
+    let start = rule_start(alloc, rule)?;
+    lines.extend_from_slice(start.as_bytes())?;
+    push_escaped(lines, name.as_bytes())?;
+    Ok(lines.push(b'\n')?)
+}
+
+/// Returns the start of the line of an image that breaks a rule.
+#[tactic(auto, unfolding(crate::specs::Diff::rule_start))]
+fn rule_start(alloc: Global, rule: u8) -> Result<String, AllocError>
+    ensures { IfOk result (λ text. string_bytes text ≡ rule_start rule) }
+{
     format!(in alloc; "unixvol: unsound, rule {rule}: ")
 }
 

@@ -1,0 +1,66 @@
+-- The command that shows which paths of two images differ.
+use Rattle.std.specs.Prelude.{◌≡◌, ◌⊎◌, ℕ, Bool, true, if◌then◌else◌, List, [], ◌++◌, Option, None, Some, Ok}
+use Rattle.std.specs.Io.KnownBytes.{Appends}
+use Rattle.vol_layout.specs.Geometry.{geometry_read}
+use Rattle.vol_layout.specs.declared.edition.Edition.{Edition}
+use Rattle.vol_layout.specs.declared.geometry.Geometry.{Geometry}
+use Rattle.vol_judge.specs.Sound.{IsJudged}
+use Rattle.vol_compare.specs.Members.{AreMet, root_entry}
+use Rattle.vol_compare.specs.Merge.{IsTreeText}
+use Rattle.vol_compare.specs.declared.members.MetTree.{MetTree}
+use Rattle.command_faults.specs.Streams.{Streams}
+use Rattle.command_faults.specs.declared.fault.Fault.{Fault}
+use Rattle.command_reads.specs.Diff.{IsDiffFault, diff_status, unsound_line}
+use Rattle.command_reads.specs.Print.{IsBrokenOff, IsCutShort, IsTold}
+use Rattle.command_reads.specs.declared.diff.NamedImage.{NamedImage}
+
+-- the tree of an image: its root, and all that a walk from it finds (find)
+pub record IsTreeOf (g : Geometry) (image : List ℕ) (tree : MetTree) : Type 0 where
+  pub image : tree.image.now ≡ image
+  pub geometry : tree.geometry.now ≡ g
+  pub root : tree.root ≡ root_entry g image
+  pub founds : AreMet g image tree.founds.items
+
+-- the text is the differences between the trees of two images: by the law of `vol_compare`, it is empty if and only if they have the same members (diff)
+abbrev pub IsTreeDiff : Edition → List ℕ → List ℕ → Bool → List ℕ → Type 0
+IsTreeDiff edition old new times text =
+    (g : Geometry) × (geometry_read edition old ≡ Ok g) × ((h : Geometry) × (geometry_read edition new ≡ Ok h) × IsTreeText times g old h new text)
+
+-- the line of an image in a file of this name, given the first rule that it breaks; none if it is sound (this project)
+abbrev pub soundness_line : Option ℕ → List ℕ → List ℕ
+soundness_line None name = []
+soundness_line (Some rule) name = unsound_line rule name
+
+-- the line of an image was appended, if it isn't sound (this project)
+abbrev pub AppendsSoundness : Edition → List ℕ → List ℕ → List ℕ → List ℕ → Type 0
+AppendsSoundness edition image name before after =
+    (rule : Option ℕ) × IsJudged true edition image rule × (after ≡ before ++ soundness_line rule name)
+
+-- the lines of two images that aren't sound, in order (this project)
+abbrev pub AreRemarks : Edition → List ℕ → List ℕ → List ℕ → List ℕ → List ℕ → Type 0
+AreRemarks edition old old_name new new_name lines =
+    (first : List ℕ) × AppendsSoundness edition old old_name [] first × AppendsSoundness edition new new_name first lines
+
+-- the status of a comparison: 1 if there is a line (diff)
+abbrev pub tree_status : Bool → ℕ
+tree_status differ = if differ then 1 else 0
+
+-- a text is printed and lines are reported, with this status (this project)
+pub record IsPrintedBeside (wanted : ℕ) (streams : Streams) (text lines : List ℕ) (code : ℕ) : Type 0 where
+  pub status : code ≡ wanted
+  pub whole : Appends streams.old streams.new text
+  pub working : streams.failed ≡ streams.had_failed
+  pub said : streams.said lines
+
+-- the differences between two trees are printed, with the remarks on the images; or standard output fails, or memory runs out, after a prefix of them
+-- (this project)
+abbrev pub PrintsTrees : List ℕ → List ℕ → Streams → ℕ → Type 0
+PrintsTrees text lines streams status =
+    IsPrintedBeside (diff_status text) streams text lines status ⊎ (IsBrokenOff streams text status ⊎ IsCutShort streams text status)
+
+-- the differences between the trees of two images are printed, or a fault is reported (this project)
+abbrev pub ShowsTreeDiff : Edition → NamedImage → NamedImage → Bool → Streams → ℕ → Type 0
+ShowsTreeDiff edition old new times streams status =
+    ((text : List ℕ) × (lines : List ℕ) × IsTreeDiff edition old.bytes.items new.bytes.items times text
+    × AreRemarks edition old.bytes.items old.name.now new.bytes.items new.name.now lines × PrintsTrees text lines streams status)
+    ⊎ ((fault : Fault) × IsDiffFault edition old new fault × IsTold streams fault status)

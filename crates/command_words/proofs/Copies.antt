@@ -46,7 +46,7 @@ puts clock given (invocations.Copy volume copying) put is = absurd (true≢false
 puts clock given (invocations.Work volume (works.Check checkers.Blocks workers form)) put is = absurd (true≢false (sym put))
 puts clock given (invocations.Work volume (works.Check checkers.Entries workers form)) put is = absurd (true≢false (sym put))
 puts clock given (invocations.Work volume (works.Check checkers.Names workers form)) put is = absurd (true≢false (sym put))
-puts clock given (invocations.Work volume (works.Play scripts journal)) put is = absurd (true≢false (sym put))
+puts clock given (invocations.Work volume (works.Play scripts journal trace)) put is = absurd (true≢false (sym put))
 puts clock given (invocations.Look volume (looks.Export path options)) put is = absurd (true≢false (sym put))
 puts clock given (invocations.Look volume (looks.Sums path form lost)) put is = absurd (true≢false (sym put))
 puts clock given (invocations.Look volume (looks.Inode node form)) put is = absurd (true≢false (sym put))
@@ -67,7 +67,7 @@ puts clock given (invocations.Migrate old at new migration) put is = absurd (tru
 puts clock given (invocations.Salvage volume copy) put is = absurd (true≢false (sym put))
 puts clock given (invocations.Resize volume blocks is_trial) put is = absurd (true≢false (sym put))
 puts clock given (invocations.Serve volume serving) put is = absurd (true≢false (sym put))
-puts clock given (invocations.Diff volume other all) put is = absurd (true≢false (sym put))
+puts clock given (invocations.Diff volume other by) put is = absurd (true≢false (sym put))
 puts clock given (invocations.Identify images form) put is = absurd (true≢false (sym put))
 
 -- every invocation of `get` reads one file or several
@@ -92,7 +92,7 @@ gets clock given (invocations.Copy volume copying) got is = absurd (true≢false
 gets clock given (invocations.Work volume (works.Check checkers.Blocks workers form)) got is = absurd (true≢false (sym got))
 gets clock given (invocations.Work volume (works.Check checkers.Entries workers form)) got is = absurd (true≢false (sym got))
 gets clock given (invocations.Work volume (works.Check checkers.Names workers form)) got is = absurd (true≢false (sym got))
-gets clock given (invocations.Work volume (works.Play scripts journal)) got is = absurd (true≢false (sym got))
+gets clock given (invocations.Work volume (works.Play scripts journal trace)) got is = absurd (true≢false (sym got))
 gets clock given (invocations.Look volume (looks.Export path options)) got is = absurd (true≢false (sym got))
 gets clock given (invocations.Look volume (looks.Sums path form lost)) got is = absurd (true≢false (sym got))
 gets clock given (invocations.Look volume (looks.Inode node form)) got is = absurd (true≢false (sym got))
@@ -113,7 +113,7 @@ gets clock given (invocations.Migrate old at new migration) got is = absurd (tru
 gets clock given (invocations.Salvage volume copy) got is = absurd (true≢false (sym got))
 gets clock given (invocations.Resize volume blocks is_trial) got is = absurd (true≢false (sym got))
 gets clock given (invocations.Serve volume serving) got is = absurd (true≢false (sym got))
-gets clock given (invocations.Diff volume other all) got is = absurd (true≢false (sym got))
+gets clock given (invocations.Diff volume other by) got is = absurd (true≢false (sym got))
 gets clock given (invocations.Identify images form) got is = absurd (true≢false (sym got))
 
 -- if the words put neither one file nor several, `put` has no invocation

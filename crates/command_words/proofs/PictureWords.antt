@@ -42,7 +42,7 @@ draws clock given (invocations.Copy volume (copies.Get folder paths keeps)) draw
 draws clock given (invocations.Work volume (works.Check checkers.Blocks workers form)) drawn is json svg = absurd (true≢false (sym drawn))
 draws clock given (invocations.Work volume (works.Check checkers.Entries workers form)) drawn is json svg = absurd (true≢false (sym drawn))
 draws clock given (invocations.Work volume (works.Check checkers.Names workers form)) drawn is json svg = absurd (true≢false (sym drawn))
-draws clock given (invocations.Work volume (works.Play scripts journal)) drawn is json svg = absurd (true≢false (sym drawn))
+draws clock given (invocations.Work volume (works.Play scripts journal trace)) drawn is json svg = absurd (true≢false (sym drawn))
 draws clock given (invocations.Look volume (looks.Export path options)) drawn is json svg = absurd (true≢false (sym drawn))
 draws clock given (invocations.Look volume (looks.Sums path form lost)) drawn is json svg = absurd (true≢false (sym drawn))
 draws clock given (invocations.Look volume (looks.Inode node form)) drawn is json svg = absurd (true≢false (sym drawn))
@@ -61,7 +61,7 @@ draws clock given (invocations.Migrate old at new migration) drawn is json svg =
 draws clock given (invocations.Salvage volume copy) drawn is json svg = absurd (true≢false (sym drawn))
 draws clock given (invocations.Resize volume blocks is_trial) drawn is json svg = absurd (true≢false (sym drawn))
 draws clock given (invocations.Serve volume serving) drawn is json svg = absurd (true≢false (sym drawn))
-draws clock given (invocations.Diff volume other all) drawn is json svg = absurd (true≢false (sym drawn))
+draws clock given (invocations.Diff volume other by) drawn is json svg = absurd (true≢false (sym drawn))
 draws clock given (invocations.Identify images form) drawn is json svg = absurd (true≢false (sym drawn))
 
 -- if `--json` and `--svg` are given, `map` has no invocation

@@ -153,13 +153,13 @@ values_given clock given (invocations.Copy volume (copies.Get folder paths keeps
 values_given clock given (invocations.Work volume (works.Check checkers.Blocks workers form)) is = (edition_value volume.edition volume.is_any _ is.0.0, (tt, (at_value volume.at _ is.0.2, (is.1.0.0, (tt, tt)))))
 values_given clock given (invocations.Work volume (works.Check checkers.Entries workers form)) is = (edition_value volume.edition volume.is_any _ is.0.0, (tt, (at_value volume.at _ is.0.2, (is.1.0.0, (tt, tt)))))
 values_given clock given (invocations.Work volume (works.Check checkers.Names workers form)) is = (edition_value volume.edition volume.is_any _ is.0.0, (tt, (at_value volume.at _ is.0.2, (is.1.0.0, (tt, tt)))))
-values_given clock given (invocations.Work volume (works.Play scripts journal)) is =
-    (edition_value volume.edition volume.is_any _ is.0.0, (tt, (at_value volume.at _ is.0.2, (scripts_value scripts.items _ is.1.0 is.1.1 is.1.2, (tt, tt)))))
+values_given clock given (invocations.Work volume (works.Play scripts journal trace)) is =
+    (edition_value volume.edition volume.is_any _ is.0.0, (tt, (at_value volume.at _ is.0.2, (scripts_value scripts.items _ is.1.0 is.1.1 is.1.2, (tt, (tt, tt))))))
 values_given clock given (invocations.Serve volume servings.ReadOnly) is = (edition_value volume.edition volume.is_any _ is.0.0, (tt, (at_value volume.at _ is.0.2, (tt, (tt, (is.1.1, tt))))))
 values_given clock given (invocations.Serve volume (servings.Changes is_mine rescue)) is =
     (edition_value volume.edition volume.is_any _ is.0.0, (tt, (at_value volume.at _ is.0.2, (tt, (tt, (is.1.2.1, tt))))))
-values_given clock given (invocations.Diff volume other all) is =
-    (edition_value volume.edition volume.is_any _ is.0.0, (tt, (at_value volume.at _ is.0.2, (tt, (is.3, (tt, tt))))))
+values_given clock given (invocations.Diff volume other by) is =
+    (edition_value volume.edition volume.is_any _ is.0.0, (tt, (at_value volume.at _ is.0.2, (tt, (tt, (tt, (tt, tt)))))))
 values_given clock given (invocations.Identify images form) is = (tt, (tt, (tt, tt)))
 
 -- if all words are valid, none of them is wrong

@@ -31,6 +31,8 @@ use Rattle.command_words.specs.declared.invocation.Work.{Work}
 use Rattle.command_words.specs.declared.invocation.Work.TheVariants as works
 use Rattle.command_words.specs.declared.verbs.Verb.{Verb}
 use Rattle.command_words.specs.declared.verbs.Verb.TheVariants as verbs
+use Rattle.command_reads.specs.declared.comparison.Comparison.{Comparison}
+use Rattle.command_reads.specs.declared.comparison.Comparison.TheVariants as comparisons
 use Rattle.command_reads.specs.declared.looks.OutputForm.{OutputForm}
 use Rattle.command_reads.specs.declared.looks.OutputForm.TheVariants as forms
 use Rattle.vol_listing.specs.declared.options.Depth.{Depth}
@@ -162,7 +164,6 @@ IsValue clock kinds.Moment words = (now : ℕ) × IsMomentGiven clock words now
 IsValue clock kinds.Scripts words = (1 ≤ length words) × (length words ≤ 64)
 IsValue clock kinds.LongOr words = IsNumberIfAny 4294967295 words
 IsValue clock kinds.Flag words = Unit {0}
-IsValue clock kinds.SetFlag words = is_set words ≡ true
 
 -- the words given for each of these arguments are valid for it (this project)
 abbrev pub AreValues : Option ℕ → Words → List Argument → Type 0
@@ -188,7 +189,7 @@ checker_verb checkers.Names = verbs.Ncheck
 -- the command for work with several threads (this project)
 abbrev pub work_verb : Work → Verb
 work_verb (works.Check checker workers form) = checker_verb checker
-work_verb (works.Play scripts journal) = verbs.Play
+work_verb (works.Play scripts journal trace) = verbs.Play
 
 -- the command for a change (this project)
 abbrev pub change_verb : Change → Verb
@@ -241,7 +242,7 @@ verb_of (invocations.Look volume look) = look_verb look
 verb_of (invocations.Copy volume copying) = copying_verb copying
 verb_of (invocations.Work volume work) = work_verb work
 verb_of (invocations.Serve volume serving) = verbs.Serve
-verb_of (invocations.Diff volume other all) = verbs.Diff
+verb_of (invocations.Diff volume other by) = verbs.Diff
 verb_of (invocations.Identify images form) = verbs.Identify
 
 -- the volume in a file that a command works on, if its words name the volume's edition (this project)
@@ -257,7 +258,7 @@ volume_of (invocations.Look volume look) = Some volume
 volume_of (invocations.Copy volume copying) = Some volume
 volume_of (invocations.Work volume work) = Some volume
 volume_of (invocations.Serve volume serving) = Some volume
-volume_of (invocations.Diff volume other all) = Some volume
+volume_of (invocations.Diff volume other by) = Some volume
 volume_of (invocations.Identify images form) = None
 
 -- the same command on this volume, if it works on a volume whose edition its words name; else the command itself (this project)
@@ -273,7 +274,7 @@ with_volume (invocations.Look old look) volume = invocations.Look volume look
 with_volume (invocations.Copy old copying) volume = invocations.Copy volume copying
 with_volume (invocations.Work old work) volume = invocations.Work volume work
 with_volume (invocations.Serve old serving) volume = invocations.Serve volume serving
-with_volume (invocations.Diff old other all) volume = invocations.Diff volume other all
+with_volume (invocations.Diff old other by) volume = invocations.Diff volume other by
 with_volume (invocations.Identify images form) volume = invocations.Identify images form
 
 -- the words say that a volume begins at this block of a file: 0 if they say nothing of it (this project)
@@ -483,9 +484,14 @@ IsCopyGiven clock given (copies.Get folder paths keeps) = IsNonEmptyWord given (
 -- the words describe this work with several threads (this project)
 abbrev pub IsWorkGiven : Words → Work → Type 0
 IsWorkGiven given (works.Check checker workers form) = IsThreadsGiven (the_word given (codes "WORKERS")) workers × IsFormGiven given form
-IsWorkGiven given (works.Play scripts journal) =
+IsWorkGiven given (works.Play scripts journal trace) =
     (map (λ script. script.now) scripts.items ≡ given (codes "SCRIPT")) × (1 ≤ length scripts.items) × (length scripts.items ≤ 64)
-    × (journal ≡ is_set (given (codes "journal")))
+    × (journal ≡ is_set (given (codes "journal"))) × (trace ≡ is_set (given (codes "trace")))
+
+-- the words choose how two images are compared: by fields if that option is given, else by tree (this project)
+abbrev pub IsComparisonGiven : Words → Comparison → Type 0
+IsComparisonGiven given (comparisons.Tree times) = (is_set (given (codes "fields")) ≡ false) × (times ≡ is_set (given (codes "times")))
+IsComparisonGiven given (comparisons.Fields all) = (is_set (given (codes "fields")) ≡ true) × (all ≡ is_set (given (codes "all")))
 
 -- this file was named for a rescue; or none was (this project)
 abbrev pub IsRescueGiven : List (List ℕ) → Option (List ℕ) → Type 0
@@ -514,8 +520,8 @@ IsGiven clock given (invocations.Look volume look) = IsVolumeGiven given volume 
 IsGiven clock given (invocations.Copy volume copying) = IsVolumeGiven given volume × IsCopyGiven clock given copying
 IsGiven clock given (invocations.Work volume work) = IsVolumeGiven given volume × IsWorkGiven given work
 IsGiven clock given (invocations.Serve volume serving) = IsVolumeGiven given volume × IsServingGiven given serving
-IsGiven clock given (invocations.Diff volume other all) = IsVolumeGiven given volume × (other.now ≡ the_word given (codes "OTHER"))
-    × (all ≡ is_set (given (codes "all"))) × (is_set (given (codes "fields")) ≡ true)
+IsGiven clock given (invocations.Diff volume other by) =
+    IsVolumeGiven given volume × (other.now ≡ the_word given (codes "OTHER")) × IsComparisonGiven given by
 IsGiven clock given (invocations.Identify images form) = (map (λ image. image.now) images.items ≡ given (codes "IMAGE")) × IsGuessFormGiven given form
 
 -- the command, with the words for its arguments, is read as this invocation (this project)
@@ -543,4 +549,4 @@ IsWrong (faults.Wrong word) = Unit {0}
 -- the number of threads, or of scripts, is 1 to 64 (this project)
 abbrev pub IsWorkable : Work → Type 0
 IsWorkable (works.Check checker workers form) = (1 ≤ workers) × (workers ≤ 64)
-IsWorkable (works.Play scripts journal) = (1 ≤ length scripts.items) × (length scripts.items ≤ 64)
+IsWorkable (works.Play scripts journal trace) = (1 ≤ length scripts.items) × (length scripts.items ≤ 64)

@@ -143,7 +143,7 @@ arguments_of verbs.Super = on_volume (option (codes "json") ∷ [])
 arguments_of verbs.Free = on_volume (option (codes "json") ∷ [])
 arguments_of verbs.Block = on_volume (long_number (codes "BLOCK") ∷ option (codes "json") ∷ [])
 arguments_of verbs.Dump = on_volume ((codes "BLOCK", kinds.Place, needs.Once) ∷ lettered (codes "inode") 105 ∷ option (codes "octal") ∷ [])
-arguments_of verbs.Diff = on_volume (word (codes "OTHER") ∷ (codes "fields", kinds.SetFlag, needs.Flag None) ∷ option (codes "all") ∷ [])
+arguments_of verbs.Diff = on_volume (word (codes "OTHER") ∷ option (codes "times") ∷ option (codes "fields") ∷ option (codes "all") ∷ [])
 arguments_of verbs.Df = on_volume (option (codes "json") ∷ [])
 arguments_of verbs.Map = on_volume (option (codes "svg") ∷ option (codes "json") ∷ [])
 arguments_of verbs.Check = on_volume (option (codes "status") ∷ option (codes "json") ∷ [])
@@ -167,7 +167,7 @@ arguments_of verbs.Chown = on_volume (path needs.Once ∷ number (codes "UID") �
 arguments_of verbs.Touch = on_volume (path needs.Once ∷ moment ∷ [])
 arguments_of verbs.Salvage = on_volume (valued (codes "output") 111 values.Copy ∷ lettered (codes "dry-run") 110 ∷ [])
 arguments_of verbs.Resize = on_volume (long_number (codes "BLOCKS") ∷ lettered (codes "dry-run") 110 ∷ [])
-arguments_of verbs.Play = on_volume ((codes "SCRIPT", kinds.Scripts, needs.Several) ∷ option (codes "journal") ∷ [])
+arguments_of verbs.Play = on_volume ((codes "SCRIPT", kinds.Scripts, needs.Several) ∷ option (codes "journal") ∷ option (codes "trace") ∷ [])
 arguments_of verbs.Migrate =
     word (codes "OLD") ∷ word (codes "NEW") ∷ long_number (codes "FSIZE") ∷ number (codes "IBLOCKS") ∷ moment ∷ option (codes "new") ∷ at ∷ []
 arguments_of verbs.Serve = on_volume (option (codes "read-only") ∷ option (codes "mine")

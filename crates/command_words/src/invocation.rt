@@ -3,7 +3,7 @@ ghost use Rattle.std.specs.Prelude.{◌≡◌};
 ghost use Rattle.command_words.specs.Invocations.{volume_of, with_volume};
 
 use command_changes::{Change, Keep, Migration};
-use command_reads::{Look, NodeName, OutputForm};
+use command_reads::{Comparison, Look, NodeName, OutputForm};
 use vol_check::Checker;
 use vol_layout::Edition;
 use vol_mkfs::NewVolume;
@@ -59,10 +59,12 @@ pub enum Work<'a> {
         workers: usize,
         form: OutputForm,
     },
-    /// Play the scripts in these files, 1 to 64, each in a thread of its own; if `journal`, print the journal at the end.
+    /// Play the scripts in these files, 1 to 64, each in a thread of its own; if `journal`, print the journal at the end; if `trace`, print what each
+    /// of its records changed.
     Play {
         scripts: Vec<&'a str>,
         journal: bool,
+        trace: bool,
     },
 }
 
@@ -167,12 +169,11 @@ pub enum Invocation<'a> {
         volume: VolumeFile<'a>,
         serving: Serving<'a>,
     },
-    /// Show the fields in which the volumes in two files differ; the one in `other` begins at the same block of its file. With `all` each field is a
-    /// line.
+    /// Show how the volumes in two files differ; the one in `other` begins at the same block of its file.
     Diff {
         volume: VolumeFile<'a>,
         other: &'a str,
-        all: bool,
+        by: Comparison,
     },
     /// Guess what the images in these files are, in this format.
     Identify {
@@ -224,7 +225,7 @@ impl<'a> Invocation<'a> {
             Invocation::Copy { copying, .. } => Invocation::Copy { volume, copying },
             Invocation::Work { work, .. } => Invocation::Work { volume, work },
             Invocation::Serve { serving, .. } => Invocation::Serve { volume, serving },
-            Invocation::Diff { other, all, .. } => Invocation::Diff { volume, other, all },
+            Invocation::Diff { other, by, .. } => Invocation::Diff { volume, other, by },
             Invocation::Mkfs { .. } | Invocation::Migrate { .. } | Invocation::Identify { .. } =>
                 self,
         }

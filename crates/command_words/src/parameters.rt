@@ -41,8 +41,6 @@ pub enum WordKind {
     LongOr,
     /// None: the argument is an option without a value.
     Flag,
-    /// None: the argument is an option without a value, which can't be left out.
-    SetFlag,
 }
 
 /// The number of words that an argument takes.
@@ -219,7 +217,7 @@ const BOTH_AT: Parameter = Parameter {
 
 const FIELDS: Parameter = Parameter {
     name: "fields",
-    kind: WordKind::SetFlag,
+    kind: WordKind::Flag,
     need: Need::Flag(None),
     help: texts::diff::FIELDS,
 };
@@ -229,6 +227,13 @@ const ALL_FIELDS: Parameter = Parameter {
     kind: WordKind::Flag,
     need: Need::Flag(None),
     help: texts::diff::ALL,
+};
+
+const ALL_TIMES: Parameter = Parameter {
+    name: "times",
+    kind: WordKind::Flag,
+    need: Need::Flag(None),
+    help: texts::diff::TIMES,
 };
 
 const BLOCKS: Parameter = Parameter {
@@ -651,6 +656,13 @@ const JOURNAL: Parameter = Parameter {
     help: texts::JOURNAL,
 };
 
+const TRACE: Parameter = Parameter {
+    name: "trace",
+    kind: WordKind::Flag,
+    need: Need::Flag(None),
+    help: texts::TRACE,
+};
+
 const OLD: Parameter = Parameter {
     name: "OLD",
     kind: WordKind::Text,
@@ -731,7 +743,7 @@ pub static SALVAGE_WORDS: [Parameter; 5] = [EDITION, IMAGE, AT, COPY, DRY_RUN];
 pub static RESIZE_WORDS: [Parameter; 5] = [EDITION, IMAGE, AT, RESIZED, TRIAL];
 
 /// The words that `play` takes.
-pub static PLAY_WORDS: [Parameter; 5] = [EDITION, IMAGE, AT, SCRIPT, JOURNAL];
+pub static PLAY_WORDS: [Parameter; 6] = [EDITION, IMAGE, AT, SCRIPT, JOURNAL, TRACE];
 
 /// The words that `migrate` takes.
 pub static MIGRATE_WORDS: [Parameter; 7] = [
@@ -783,7 +795,9 @@ pub static BLOCK_WORDS: [Parameter; 5] = [EDITION, IMAGE, AT, BLOCK, JSON];
 pub static DUMP_WORDS: [Parameter; 6] = [EDITION, IMAGE, AT, DUMPED, DUMPED_INODE, OCTAL];
 
 /// The words that `diff` takes.
-pub static DIFF_WORDS: [Parameter; 6] = [EDITION, IMAGE, BOTH_AT, OTHER, FIELDS, ALL_FIELDS];
+pub static DIFF_WORDS: [Parameter; 7] = [
+    EDITION, IMAGE, BOTH_AT, OTHER, ALL_TIMES, FIELDS, ALL_FIELDS,
+];
 
 /// The words that `super`, `free` and `df` take.
 pub static SUPER_WORDS: [Parameter; 4] = [EDITION, IMAGE, AT, JSON];

@@ -1,13 +1,13 @@
 //! Reads the words after a command.
 ghost use Rattle.std.specs.Prelude.{◌≡◌, ℕ, false, true, List, None, Option, IfOk, IfErr, codes};
-ghost use Rattle.command_words.specs.Invocations.{AreLinesGiven, AsksFor, AsksForNothing, IsDepthGiven, IsFormGiven, IsKeepGiven, IsMadeGiven, IsOneWrong, IsPictureGiven, IsValue, IsVolumeGiven, IsVolumeWrong, TellsOf, checker_verb, is_set};
+ghost use Rattle.command_words.specs.Invocations.{AreLinesGiven, AsksFor, AsksForNothing, IsComparisonGiven, IsDepthGiven, IsFormGiven, IsKeepGiven, IsMadeGiven, IsOneWrong, IsPictureGiven, IsValue, IsVolumeGiven, IsVolumeWrong, TellsOf, checker_verb, is_set};
 ghost use Rattle.command_words.specs.Verbs.{arguments_of, of_checker};
 ghost use Rattle.command_words.specs.declared.parameters.WordKind.TheVariants as kinds;
 ghost use Rattle.command_words.specs.declared.verbs.Verb.TheVariants as verbs;
 
 use crate::fault::{Said, WordFault, WrongWord};
 use crate::given::{
-    EditionWord, Given, edition_in, flag_in, long_in, long_or, missing, moment_in, node_in,
+    EditionWord, Given, edition_in, flag_in, long_in, long_or, moment_in, node_in,
     owner_in, path_in, permissions_in, radix_in, rescue_in, scripts_in, target_in, text_in,
     threads_in, word_in,
 };
@@ -18,7 +18,7 @@ use crate::several::{PutFiles, file_in, files_in, no_more, not_empty, nothing_ke
 use crate::texts;
 use crate::verbs::Verb;
 use command_changes::{Change, Keep, Migration};
-use command_reads::{ExportOptions, Look, LossOptions, OutputForm, Picture};
+use command_reads::{Comparison, ExportOptions, Look, LossOptions, OutputForm, Picture};
 use std::alloc::Global;
 use vol_check::Checker;
 use vol_import::ImportOptions;
@@ -299,21 +299,23 @@ fn read_diff<'a, G: Given<'a>>(given: &G) -> Result<Invocation<'a>, WordFault<'a
     ensures refused { IfErr result (TellsOf (IsOneWrong None (G.words given.now) (arguments_of verbs.Diff))) }
 {
     let volume = volume_in(given)?;
-    fields_wanted(given)?;
     let other = text_in(given, "OTHER");
-    let all = flag_in(given, "all");
-    Ok(Invocation::Diff { volume, other, all })
+    let by = comparison_in(given);
+    Ok(Invocation::Diff { volume, other, by })
 }
 
-/// Succeeds if the words request a comparison by fields.
-fn fields_wanted<'a, G: Given<'a>>(given: &G) -> Result<(), WordFault<'a>>
-    ensures set { IfOk result (λ _. is_set (G.words given.now (codes "fields")) ≡ true) }
-    ensures refused { IfErr result (TellsOf (is_set (G.words given.now (codes "fields")) ≡ true → ⊥)) }
+/// Reads the way in which two images are compared.
+fn comparison_in<'a, G: Given<'a>>(given: &G) -> Comparison
+    ensures { IsComparisonGiven (G.words given.now) result }
 {
     if flag_in(given, "fields") {
-        Ok(())
+        Comparison::Fields {
+            all: flag_in(given, "all"),
+        }
     } else {
-        Err(missing("fields", texts::diff::WANTS_FIELDS))
+        Comparison::Tree {
+            times: flag_in(given, "times"),
+        }
     }
 }
 
@@ -701,8 +703,11 @@ fn read_play<'a, G: Given<'a>>(alloc: Global, given: &G) -> Result<Invocation<'a
 {
     let volume = volume_in(given)?;
     let scripts = scripts_in(alloc, given)?;
-    let journal = flag_in(given, "journal");
-    let work = Work::Play { scripts, journal };
+    let work = Work::Play {
+        scripts,
+        journal: flag_in(given, "journal"),
+        trace: flag_in(given, "trace"),
+    };
     Ok(Invocation::Work { volume, work })
 }
 

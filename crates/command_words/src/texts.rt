@@ -523,6 +523,7 @@ pub const PLAY_MORE: &str = "\
 Examples:
   unixvol play 7 disk.img first.txt second.txt
   unixvol play --journal 7 disk.img first.txt second.txt
+  unixvol play --trace 7 disk.img first.txt        what each call changed, field by field
 
 Each line of a script is NOW UID GID followed by one of these, with single spaces between all words:
   create PATH PERM        mkdir PATH PERM        link FROM TO          unlink PATH        rmdir PATH
@@ -542,6 +543,8 @@ The volume is saved even if lines were refused: a new file is written beside IMA
 
 With --journal the calls in the journal follow, in the order in which they were made: all accepted ones, or those since
 the last cut. Each is a line of a script. Played on the volume as it was before them, they make the same volume.
+With --trace each of these calls follows, also as a line of a script, and below it, indented, what it changed: the lines
+of `unixvol diff --fields` for the volume before this call and after it. The calls are made again on a copy for that.
 
 Status:
   0  all lines were played, and the volume was saved
@@ -553,6 +556,8 @@ Status:
   4  `unixvol: 12 NoMemory`, or memory ran out for a line, or a view's line was not answered (`NotEntered`)";
 
 pub const JOURNAL: &str = "Print the journal at the end, as the lines of a script";
+
+pub const TRACE: &str = "Print at the end what each call in the journal changed, field by field";
 
 pub const SCRIPT: &str = "The script files, 1 to 64";
 

@@ -1,25 +1,40 @@
 //! The help texts of `diff`.
 
-pub const ABOUT: &str = "Shows the fields in which two images differ.";
+pub const ABOUT: &str = "Shows how two images differ: in their trees, or field by field.";
 
 pub const OTHER: &str = "The file that holds the other image, which is shown as the new one";
 
 pub const AT: &str =
     "The block of both files, of 512 bytes, that their volumes begin at; by default 0";
 
-pub const FIELDS: &str = "Compare field by field; diff compares in no other way yet";
+pub const TIMES: &str =
+    "Compare also the times of the last read and of the i-node's last change, as --fields always does";
 
-pub const ALL: &str = "Print a line for each field and each block";
+pub const FIELDS: &str = "Compare field by field, not the trees";
 
-pub const WANTS_FIELDS: &str = "give --fields, since diff compares in no other way yet";
+pub const ALL: &str = "With --fields, print a line for each field and each block";
 
 pub const MORE: &str = "\
 Examples:
-  unixvol diff 7 old.img new.img --fields          what a call changed
+  unixvol diff 7 old.img new.img                   which files, directories and links differ
+  unixvol diff 7 old.img new.img --fields          what a call changed, field by field
   unixvol diff 7 old.img new.img --fields --all    the same, without lines for several fields
 
-First comes a line with the lengths of both volumes, if they differ: the bytes that only one has aren't compared, nor
-those after a volume in its file. Then each block whose role differs has a line: what it is used for in IMAGE and in
+Without --fields the trees are compared, path by path, as `find` meets them. A path that differs has a line:
+  A /new                                   only OTHER has it
+  D /gone                                  only IMAGE has it
+  M /bin/ls mode 0755 -> 0644, size 12 -> 20, bytes from 12
+  M /b link to /a -> own file              it was another name of /a, and is a file of its own now
+  T /x file -> directory                   it leads to something else
+Of a path that both have, these are compared: the kind, the permissions, the number of links, the owner, the group, the
+time of the last write, a file's size and bytes, a special file's device, and which paths are names of one file. Of the
+bytes the line has the first place that differs. I-numbers aren't compared, nor are the sizes of directories. Nothing is
+printed if and only if all that is equal. The sizes of the volumes may differ.
+
+Of an image that isn't sound only what `find` meets is compared, and a line on standard error names its file.
+
+With --fields the first line has the lengths of both volumes, if they differ: the bytes that only one has aren't compared,
+nor those after a volume in its file. Then each block whose role differs has a line: what it is used for in IMAGE and in
 OTHER. Then each field that differs has a line: the part of the volume that it is in, its name in the manual, and its
 value in IMAGE and in OTHER. Fields and blocks are named by OTHER. If IMAGE has another field at this place, its bytes
 aren't read as if they were this one: `(was free)` says what the block was used for, or which field was there. Of file
@@ -30,10 +45,11 @@ Neighbouring blocks that changed alike, as those of one file that are free now, 
 the first. Nine or more fields of one array are one line too. Nothing is printed if and only if the volumes are equal
 byte for byte.
 
-The volumes need not be sound. Only rules 1 and 2 are checked: the image's size, and the sizes in its super-block.
+The volumes need not be sound. Only rules 1 and 2 must hold: the image's size, and the sizes in its super-block.
 
 Status:
-  0  the volumes are equal
+  0  the volumes are equal, or without --fields their trees are; without --fields
+     `unixvol: unsound, rule N: FILE` may follow: this is the first rule that the image in this file breaks
   1  they differ, or
      `unixvol: unsound, rule 1: FILE`: the image in this file is shorter than its super-block says
      `unixvol: unsound, rule 2: FILE`: the sizes in its super-block contradict one another

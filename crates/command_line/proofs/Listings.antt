@@ -168,7 +168,7 @@ asks_listing clock given edition image path (invocations.Salvage volume copy) te
 asks_listing clock given edition image path (invocations.Get volume p) test e_is i_is p_is none is = absurd (true≢false (sym test))
 asks_listing clock given edition image path (invocations.Resize volume blocks is_trial) test e_is i_is p_is none is = absurd (true≢false (sym test))
 asks_listing clock given edition image path (invocations.Serve volume serving) test e_is i_is p_is none is = absurd (true≢false (sym test))
-asks_listing clock given edition image path (invocations.Diff volume other all) test e_is i_is p_is none is = absurd (true≢false (sym test))
+asks_listing clock given edition image path (invocations.Diff volume other by) test e_is i_is p_is none is = absurd (true≢false (sym test))
 asks_listing clock given edition image path (invocations.Identify images form) test e_is i_is p_is none is = absurd (true≢false (sym test))
 asks_listing clock given edition image path (invocations.Change volume (changes.Put p file keep now)) test e_is i_is p_is none is = absurd (true≢false (sym test))
 asks_listing clock given edition image path (invocations.Change volume (changes.Import p options now)) test e_is i_is p_is none is = absurd (true≢false (sym test))
@@ -211,7 +211,7 @@ asks_listing clock given edition image path (invocations.Copy volume (copies.Get
 asks_listing clock given edition image path (invocations.Work volume (works.Check checkers.Blocks workers form)) test e_is i_is p_is none is = absurd (true≢false (sym test))
 asks_listing clock given edition image path (invocations.Work volume (works.Check checkers.Entries workers form)) test e_is i_is p_is none is = absurd (true≢false (sym test))
 asks_listing clock given edition image path (invocations.Work volume (works.Check checkers.Names workers form)) test e_is i_is p_is none is = absurd (true≢false (sym test))
-asks_listing clock given edition image path (invocations.Work volume (works.Play scripts journal)) test e_is i_is p_is none is = absurd (true≢false (sym test))
+asks_listing clock given edition image path (invocations.Work volume (works.Play scripts journal trace)) test e_is i_is p_is none is = absurd (true≢false (sym test))
 
 -- if clap found the words of `ls` without options, no option was given
 no_options_by : (met : List ℕ × List Row) (edition : Edition) (image path : List ℕ) → seen (Some met) ≡ words_of edition image path
@@ -258,7 +258,7 @@ listing_asks clock (Some met) edition image path (invocations.Salvage volume cop
 listing_asks clock (Some met) edition image path (invocations.Get volume p) is listed = absurd listed
 listing_asks clock (Some met) edition image path (invocations.Resize volume blocks is_trial) is listed = absurd listed
 listing_asks clock (Some met) edition image path (invocations.Serve volume serving) is listed = absurd listed
-listing_asks clock (Some met) edition image path (invocations.Diff volume other all) is listed = absurd listed
+listing_asks clock (Some met) edition image path (invocations.Diff volume other by) is listed = absurd listed
 listing_asks clock (Some met) edition image path (invocations.Identify images form) is listed = absurd listed
 listing_asks clock (Some met) edition image path (invocations.Look v (looks.Export p options)) is listed = absurd listed
 listing_asks clock (Some met) edition image path (invocations.Look v (looks.Sums p form lost)) is listed = absurd listed

@@ -1,29 +1,87 @@
 -- The end of a comparison of two images.
-use Rattle.std.proofs.Common.{◌≡◌, ℕ, ◌≤◌, ◌==◌, Bool, true, false, if◌then◌else◌, List, length, Option, inl, inr, arith}
+use Rattle.std.proofs.Common.{◌≡◌, ℕ, ◌≤◌, ◌==◌, Bool, true, false, if◌then◌else◌, List, [], length, Option, inl, inr, refl, subst, sym, arith}
+use Rattle.command_faults.proofs.Concluded.{fault_few}
+use Rattle.command_reads.specs.Comparison.{ShowsComparison}
 use Rattle.command_reads.specs.Diff.{ShowsDiff, diff_status}
+use Rattle.command_reads.specs.TreeDiff.{AreRemarks, ShowsTreeDiff}
+use Rattle.command_reads.specs.declared.comparison.Comparison.{Comparison}
+use Rattle.command_reads.specs.declared.comparison.Comparison.TheVariants as comparisons
 use Rattle.command_reads.specs.declared.diff.NamedImage.{NamedImage}
 use Rattle.command_faults.specs.Streams.{Streams}
 use Rattle.command_words.specs.declared.invocation.VolumeFile.{VolumeFile}
 use Rattle.vol_layout.specs.declared.edition.Edition.{Edition}
-use Rattle.unixvol.specs.Compare.{RunsDiff}
-use Rattle.unixvol.specs.Runs.{IsEnd, host_files}
+use Rattle.unixvol.specs.Compare.{EndsComparison, RunsDiff}
+use Rattle.unixvol.specs.Runs.{IsEnd, IsUnread, host_files}
 use Rattle.host_files.specs.declared.image_file.Stamp.{Stamp}
-use Rattle.unixvol.proofs.Looked.{ends_prints, ends_told, ends_unread}
+use Rattle.unixvol.proofs.Looked.{ends_prints, ends_told}
 
 -- the status after a text of differences is at most 4
 status_few : (text : List ℕ) → diff_status text ≤ 4
 status_few text = elim (length text == 0) as (λ t. (if t then 0 else 1) ≤ 4) [ true ↦ omega arith | false ↦ omega arith ]
 
--- differences that were shown end as `IsEnd` requires
-ends_diff : (edition : Edition) (old new : NamedImage) (all : Bool) (streams : Streams) (status : ℕ) → ShowsDiff edition old new all streams status
-    → IsEnd streams status
-ends_diff edition old new all streams status (inl (text, is, prints)) =
-    ends_prints 4 (diff_status text) streams text status (omega arith) (status_few text) prints
-ends_diff edition old new all streams status (inr (fault, is, told)) = ends_told 4 streams fault status (omega arith) told
+-- a comparison with a status from 1 to 4
+ends_badly : (volume : VolumeFile) (other : List ℕ) (by : Comparison) (streams : Streams) (status : ℕ) → 1 ≤ status → status ≤ 4
+    → EndsComparison volume other by streams status
+ends_badly volume other by streams status least most = record { within = most; whole = λ e. absurd (omega (arith, least, e)) }
+
+-- a comparison that reports nothing if its status is 0
+ends_silently : (volume : VolumeFile) (other : List ℕ) (all : Bool) (streams : Streams) (status : ℕ) → IsEnd streams status
+    → EndsComparison volume other (comparisons.Fields all) streams status
+ends_silently volume other all streams status ends = record { within = ends.within; whole = λ e. ((ends.whole e).0, ([], refl, (ends.whole e).1)) }
+
+-- differences between fields that were shown
+ends_fields : (volume : VolumeFile) (other : List ℕ) (edition : Edition) (old new : NamedImage) (all : Bool) (streams : Streams) (status : ℕ)
+    → ShowsDiff edition old new all streams status → EndsComparison volume other (comparisons.Fields all) streams status
+ends_fields volume other edition old new all streams status (inl (text, is, prints)) =
+    ends_silently volume other all streams status (ends_prints 4 (diff_status text) streams text status (omega arith) (status_few text) prints)
+ends_fields volume other edition old new all streams status (inr (fault, is, told)) =
+    ends_silently volume other all streams status (ends_told 4 streams fault status (omega arith) told)
+
+-- differences between trees that were shown
+ends_trees : (volume : VolumeFile) (other : List ℕ) (old new : NamedImage) (times : Bool) (streams : Streams) (status : ℕ)
+    → old.name.now ≡ volume.image.now → new.name.now ≡ other
+    → ShowsTreeDiff volume.edition old new times streams status → EndsComparison volume other (comparisons.Tree times) streams status
+ends_trees volume other old new times streams status old_is new_is (inl (text, lines, is, remarks, inl printed)) = record {
+  within = subst (λ n. n ≤ 4) (sym printed.status) (status_few text);
+  whole = λ e. (
+    printed.working,
+    (
+      lines,
+      (
+        old.bytes.items,
+        new.bytes.items,
+        subst (λ name. AreRemarks volume.edition old.bytes.items name new.bytes.items other lines) old_is
+            (subst (λ name. AreRemarks volume.edition old.bytes.items old.name.now new.bytes.items name lines) new_is remarks),
+      ),
+      printed.said,
+    ),
+  );
+}
+ends_trees volume other old new times streams status old_is new_is (inl (text, lines, is, remarks, inr (inl broken))) =
+    ends_badly volume other (comparisons.Tree times) streams status (omega (arith, broken.status)) (omega (arith, broken.status))
+ends_trees volume other old new times streams status old_is new_is (inl (text, lines, is, remarks, inr (inr cut))) =
+    ends_badly volume other (comparisons.Tree times) streams status (omega (arith, cut.status)) (omega (arith, cut.status))
+ends_trees volume other old new times streams status old_is new_is (inr (fault, is, told)) =
+    ends_badly volume other (comparisons.Tree times) streams status (subst (λ n. 1 ≤ n) (sym told.status) (fault_few fault).0)
+    (subst (λ n. n ≤ 4) (sym told.status) (fault_few fault).1)
+
+-- a comparison of which nothing was done
+unread_ends : {F : Type 0} (remaining : F → Option (List ℕ)) (volume : VolumeFile) (other : List ℕ) (by : Comparison) (streams : Streams) (status : ℕ)
+    → IsUnread remaining status → EndsComparison volume other by streams status
+unread_ends remaining volume other by streams status (inl is) = ends_badly volume other by streams status (omega (arith, is)) (omega (arith, is))
+unread_ends remaining volume other by streams status (inr memory) =
+    ends_badly volume other by streams status (omega (arith, memory.0)) (omega (arith, memory.0))
+
+ends_shown : (volume : VolumeFile) (other : List ℕ) (old new : NamedImage) (by : Comparison) (streams : Streams) (status : ℕ)
+    → old.name.now ≡ volume.image.now → new.name.now ≡ other
+    → ShowsComparison volume.edition old new by streams status → EndsComparison volume other by streams status
+ends_shown volume other old new (comparisons.Tree times) streams status old_is new_is shows = ends_trees volume other old new times streams status old_is new_is shows
+ends_shown volume other old new (comparisons.Fields all) streams status old_is new_is shows = ends_fields volume other volume.edition old new all streams status shows
 
 -- a comparison ends with a status of at most 4, and with 0 only if everything was printed and no fault was reported
 pub ends_compared : {F : Type 0} (at : ℕ) (remaining contents : F → Option (List ℕ)) (had : F → Stamp → Type 0) (stood : Stamp → Type 0) (streams : Streams)
-    (volume : VolumeFile) (other : List ℕ) (all : Bool) (status : ℕ) → RunsDiff streams (host_files at remaining contents had stood) volume other all status
-    → IsEnd streams status
-ends_compared at remaining contents had stood streams volume other all status (inl nothing) = ends_unread remaining 4 streams status (omega arith) nothing.0
-ends_compared at remaining contents had stood streams volume other all status (inr done) = ends_diff volume.edition done.0 done.1 all streams status done.6
+    (volume : VolumeFile) (other : List ℕ) (by : Comparison) (status : ℕ) → RunsDiff streams (host_files at remaining contents had stood) volume other by status
+    → EndsComparison volume other by streams status
+ends_compared at remaining contents had stood streams volume other by status (inl nothing) = unread_ends remaining volume other by streams status nothing.0
+ends_compared at remaining contents had stood streams volume other by status (inr done) =
+    ends_shown volume other done.0 done.1 by streams status done.4 done.5 done.6

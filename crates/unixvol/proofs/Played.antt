@@ -1,12 +1,13 @@
 -- The end of a play's run.
-use Rattle.std.proofs.Common.{◌≡◌, ◌∙◌, ℕ, ◌≤◌, Bool, List, [], ◌∷◌, map, fold, max, Option, Some, None, inl, inr, sym, subst, arith}
+use Rattle.std.proofs.Common.{◌≡◌, ◌∙◌, ℕ, ◌≤◌, Bool, List, [], ◌∷◌, map, fold, max, Option, Some, None, Result, Ok, Err, inl, inr, refl, sym, subst, arith}
 use Rattle.std.specs.Global.{Vec}
 use Rattle.command_faults.proofs.Concluded.{fault_few}
-use Rattle.command_faults.specs.Faults.{fault_status}
+use Rattle.command_faults.specs.Faults.{fault_status, no_memory}
 use Rattle.command_faults.specs.Streams.{Streams}
 use Rattle.command_faults.specs.declared.answer.Answer.{Answer}
+use Rattle.command_faults.specs.declared.fault.Fault.{Fault}
 use Rattle.vol_layout.specs.declared.edition.Edition.{Edition}
-use Rattle.vol_play.specs.Play.{PlaysVolume}
+use Rattle.vol_play.specs.Play.{EndsPlay, IsSilent, PlaysVolume}
 use Rattle.vol_receipts.specs.declared.confirm_many.Confirmed.{Confirmed}
 use Rattle.vol_receipts.specs.declared.receipts.Outcome.{Outcome}
 use Rattle.vol_receipts.specs.declared.receipts.Outcome.TheVariants as outcomes
@@ -48,6 +49,10 @@ printed_few : (scripts : List (Vec Played)) (confirmed : Option Confirmed) → p
 printed_few scripts (Some confirmed) = scripts_few 0 scripts (omega arith)
 printed_few scripts None = omega arith
 
+-- a status is no fault
+no_ok : (printed : Result ℕ Fault) (status : ℕ) → printed ≡ Ok status → printed ≡ Err no_memory → ⊥
+no_ok printed status ok err = absurd cc
+
 -- the end of an answer: its status is at most 4; if it is 0, no output failed and no fault was reported
 record Answered (streams : Streams) (answer : Answer) : Type 0 where
   within : answer.status ≤ 4
@@ -61,9 +66,9 @@ answered_unread streams answer (unread.Line script line flaw) (inl refused) = an
 answered_unread streams answer (unread.Line script line flaw) (inr refused) = answered_fault streams answer 4 refused.ends (omega arith) (omega arith)
 answered_unread streams answer unread.NoMemory refused = answered_fault streams answer 4 refused.ends (omega arith) (omega arith)
 
-answered_finished : (streams : Streams) (answer : Answer) (last : Mounted) (cuts journal : _) (scripts : List (Vec Played))
-    → Finishes last cuts scripts (PrintsPlay last cuts journal scripts streams.old streams.new streams.had_failed streams.failed) streams.said answer → Answered streams answer
-answered_finished streams answer last cuts journal scripts finishes = elim finishes.ended [
+answered_finished : (streams : Streams) (answer : Answer) (last : Mounted) (cuts journal : _) (more : List ℕ) (scripts : List (Vec Played))
+    → Finishes last cuts scripts (PrintsPlay last cuts journal more scripts streams.old streams.new streams.had_failed streams.failed) streams.said answer → Answered streams answer
+answered_finished streams answer last cuts journal more scripts finishes = elim finishes.ended [
   | inl printed ↦ record {
     within = subst (λ n. n ≤ 4) (sym printed.0.1.3.1) (printed_few scripts printed.0.1.0);
     whole = λ e. (printed.0.0, printed.1);
@@ -71,12 +76,25 @@ answered_finished streams answer last cuts journal scripts finishes = elim finis
   | inr failed ↦ answered_fault streams answer (fault_status failed.0) failed.2 (fault_few failed.0).0 (fault_few failed.0).1
 ]
 
-answered : (edition : Edition) (image : List ℕ) (journal : _) (scripts : List (Vec ℕ)) (streams : Streams) (answer : Answer) → PlaysVolume edition image journal scripts streams answer
+-- a play without memory for its trace
+answered_untraced : (streams : Streams) (answer : Answer) (last : Mounted) (cuts : _) (scripts : List (Vec Played))
+    → Finishes last cuts scripts (λ printed. (printed ≡ Err no_memory) × IsSilent streams) streams.said answer → Answered streams answer
+answered_untraced streams answer last cuts scripts finishes = elim finishes.ended [
+  | inl printed ↦ absurd (no_ok (Ok answer.status) answer.status refl printed.0.0)
+  | inr failed ↦ answered_fault streams answer (fault_status failed.0) failed.2 (fault_few failed.0).0 (fault_few failed.0).1
+]
+
+answered_played : (streams : Streams) (answer : Answer) (last : Mounted) (cuts journal trace : Bool) (scripts : List (Vec Played))
+    → EndsPlay last cuts journal trace scripts streams answer → Answered streams answer
+answered_played streams answer last cuts journal trace scripts (inl (text, is, finishes)) = answered_finished streams answer last cuts journal text scripts finishes
+answered_played streams answer last cuts journal trace scripts (inr (wanted, finishes)) = answered_untraced streams answer last cuts scripts finishes
+
+answered : (edition : Edition) (image : List ℕ) (journal trace : _) (scripts : List (Vec ℕ)) (streams : Streams) (answer : Answer) → PlaysVolume edition image journal trace scripts streams answer
     → Answered streams answer
-answered edition image journal scripts streams answer (inl (silent, (fault, reads, answers))) = answered_unread streams answer fault answers
-answered edition image journal scripts streams answer (inr (read, is, inl (silent, (fault, why, refused)))) =
+answered edition image journal trace scripts streams answer (inl (silent, (fault, reads, answers))) = answered_unread streams answer fault answers
+answered edition image journal trace scripts streams answer (inr (read, is, inl (silent, (fault, why, refused)))) =
     answered_fault streams answer (fault_status fault) refused.ends (fault_few fault).0 (fault_few fault).1
-answered edition image journal scripts streams answer (inr (read, is, inr (last, came, plays, finishes))) = answered_finished streams answer last _ _ came finishes
+answered edition image journal trace scripts streams answer (inr (read, is, inr (last, came, plays, ends))) = answered_played streams answer last _ _ _ came ends
 
 ends_saved : (streams : Streams) (taken : List ℕ → Type 0) (answer : Answer) (status : ℕ) → Answered streams answer → EndsSaved taken answer status → IsEnd streams status
 ends_saved streams taken answer status ends (inl own) = record {
@@ -94,7 +112,8 @@ ends_unread remaining streams status (inr memory) = record { within = omega (ari
 
 -- a play's run ends with a status of at most 4, and with 0 only if everything was printed and no fault was reported
 pub ends_played : {F : Type 0} (at : ℕ) (remaining contents : F → Option (List ℕ)) (had : F → Stamp → Type 0) (stood : Stamp → Type 0) (streams : Streams)
-    (edition : Edition) (count : ℕ) (journal : Bool) (status : ℕ) → RunsPlay streams (host_files at remaining contents had stood) edition count journal status → IsEnd streams status
-ends_played at remaining contents had stood streams edition count journal status (inl nothing) = ends_unread remaining streams status nothing.0
-ends_played at remaining contents had stood streams edition count journal status (inr (image, stamp, scripts, answer, opened, given, same, plays, saved)) =
-    ends_saved streams _ answer status (answered edition image journal scripts streams answer plays) saved.0
+    (edition : Edition) (count : ℕ) (journal trace : Bool) (status : ℕ) → RunsPlay streams (host_files at remaining contents had stood) edition count journal trace status
+    → IsEnd streams status
+ends_played at remaining contents had stood streams edition count journal trace status (inl nothing) = ends_unread remaining streams status nothing.0
+ends_played at remaining contents had stood streams edition count journal trace status (inr (image, stamp, scripts, answer, opened, given, same, plays, saved)) =
+    ends_saved streams _ answer status (answered edition image journal trace scripts streams answer plays) saved.0

@@ -294,17 +294,17 @@ RunsCheck streams files screen edition checker form status =
 
 -- `count` scripts are played: nothing is done; or they are read from files and played on an image, which is read from a file and may be changed, and
 -- the volume is saved if the system reported that some file had the stamp of the image's file (this project)
-abbrev pub RunsPlay : Streams → HostFiles → Edition → ℕ → Bool → ℕ → Type 0
-RunsPlay streams files edition count journal status =
+abbrev pub RunsPlay : Streams → HostFiles → Edition → ℕ → Bool → Bool → ℕ → Type 0
+RunsPlay streams files edition count journal trace status =
     RunsNothing streams files status
     ⊎ ((image : List ℕ) × (stamp : Stamp) × (scripts : List (Vec ℕ)) × (answer : Answer) × files.opened edition image stamp
     × All (λ script. files.script script.items) scripts × (length scripts ≡ count)
-    × PlaysVolume edition image journal scripts streams answer × EndsPlayed (λ saved. files.stored saved × files.stood stamp) answer status)
+    × PlaysVolume edition image journal trace scripts streams answer × EndsPlayed (λ saved. files.stored saved × files.stood stamp) answer status)
 
 -- work with several threads runs (this project)
 abbrev pub RunsWork : Streams → HostFiles → Screen → Edition → Work → ℕ → Type 0
 RunsWork streams files screen edition (works.Check checker workers form) status = RunsCheck streams files screen edition checker form status
-RunsWork streams files screen edition (works.Play scripts journal) status = RunsPlay streams files edition (length scripts.items) journal status
+RunsWork streams files screen edition (works.Play scripts journal trace) status = RunsPlay streams files edition (length scripts.items) journal trace status
 
 -- the screen is a terminal with at least one column if the system reports that standard output is a terminal; otherwise it is no terminal (this
 -- project)
@@ -404,7 +404,7 @@ RunsChange streams files input is_terminal edition change lines status =
 abbrev pub IsPlainCommand : Invocation → Type 0
 IsPlainCommand (invocations.Look volume look) = ⊥
 IsPlainCommand (invocations.Identify images form) = ⊥
-IsPlainCommand (invocations.Diff volume other all) = ⊥
+IsPlainCommand (invocations.Diff volume other by) = ⊥
 IsPlainCommand (invocations.Change volume change) = ⊥
 IsPlainCommand (invocations.Copy volume copying) = ⊥
 IsPlainCommand (invocations.Work volume work) = ⊥
@@ -433,7 +433,7 @@ volume_at (invocations.Get volume path) = volume.at
 volume_at (invocations.Mkfs place volume) = new_place_at place
 volume_at (invocations.Migrate old at new migration) = at
 volume_at (invocations.Identify images form) = 0
-volume_at (invocations.Diff volume other all) = volume.at
+volume_at (invocations.Diff volume other by) = volume.at
 volume_at (invocations.Salvage volume copy) = volume.at
 volume_at (invocations.Resize volume blocks is_trial) = volume.at
 volume_at (invocations.Look volume look) = volume.at
@@ -454,7 +454,7 @@ Runs streams files status (invocations.Get volume path) = RunsGetOne streams fil
 Runs streams files status (invocations.Mkfs place volume) = RunsMkfs streams (made_in files place volume.blocks) volume status
 Runs streams files status (invocations.Migrate old at new migration) = RunsMigrate streams files migration status
 Runs streams files status (invocations.Identify images form) = ⊥
-Runs streams files status (invocations.Diff volume other all) = ⊥
+Runs streams files status (invocations.Diff volume other by) = ⊥
 Runs streams files status (invocations.Salvage volume copy) = RunsSalvage streams files volume.edition copy status
 Runs streams files status (invocations.Resize volume blocks is_trial) = RunsResize streams files volume blocks is_trial status
 Runs streams files status (invocations.Look volume look) = ⊥

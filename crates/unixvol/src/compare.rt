@@ -1,4 +1,4 @@
-//! `diff`, which shows the fields in which the volumes in two files differ.
+//! `diff`, which shows how the volumes in two files differ.
 ghost use Rattle.std.specs.Prelude.{◌≡◌, IfErr, IfOk};
 ghost use Rattle.std.specs.Process.{exit_status};
 ghost use Rattle.command_faults.specs.Streams.{ErrorStream, Hears, streams};
@@ -8,45 +8,83 @@ ghost use Rattle.unixvol.specs.Runs.{IsUnread, host_files};
 use crate::explain::{finish_printed, tell_fault};
 use crate::host::Surroundings;
 use crate::read::read_volume;
-use command_faults::Ending;
+use crate::subject::Subject;
+use command_faults::{Ending, Fault};
 use command_line::VolumeFile;
-use command_reads::diff::{NamedImage, show_diff};
+use command_reads::diff::{NamedImage, push_unsound_line};
+use command_reads::{Comparison, show_comparison};
 use host_files::{ImageFiles, noted_writer};
 use pdp_words::{IntoWrite, Sink};
+use std::alloc::Global;
 use std::io::Write;
 use std::process::ExitCode;
 
-/// Shows the fields in which the volumes in two files differ, and returns the exit code. Output is written to `output`, which is standard output; a
-/// fault is printed as one line on standard error. `errors` writes to standard error too.
+/// Shows how the volumes in two files differ, and returns the exit code. Output is written to `output`, which is standard output; a
+/// fault and remarks are printed on standard error. `errors` writes to standard error too.
 pub fn run_to_end<R: ImageFiles + Eprint + AllocGlobal, O: Write + Drop, E: Write + Drop>(
     host: &Surroundings<'_, R>,
     output: O,
     errors: E,
     volume: VolumeFile<'_>,
     other: &str,
-    all: bool,
+    by: Comparison,
 ) -> ExitCode
     ensures { ComparesToEnd (host_files volume.entry.at R.File.remaining R.File.contents R.had R.stood) (O.contents output) (E.contents errors)
-        volume.entry other.now all (exit_status result) }
+        volume.entry other.now by (exit_status result) }
 {
     let mut errors = IntoWrite::new(errors);
     let mut output = noted_writer(output);
-    let ending = run(host, &mut output, volume, other, all);
-    tell_fault(host, &mut errors, &ending.fault, output.error(), None);
+    let ending = run(host, &mut output, volume, other, by);
+    let subject = subject_of(host.rt.alloc(), volume, other, &ending.fault);
+    tell_fault(
+        host,
+        &mut errors,
+        &ending.fault,
+        output.error(),
+        Some(subject),
+    );
     ExitCode::from(finish_printed(host, output.into_inner().into_inner(), ending.status))
 }
 
-/// Shows the fields in which the volumes in two files differ, and returns the result of the run, which holds if [`finish_printed`] succeeds.
+/// Returns the subject of a comparison: the image that the last line of its fault names, or else the old one.
+fn subject_of<'a>(
+    alloc: Global,
+    volume: VolumeFile<'a>,
+    other: &'a str,
+    fault: &Option<Fault>,
+) -> Subject<'a> {
+    let image = match fault {
+        Some(
+            Fault::Worded {
+                rule: Some(rule),
+                lines,
+            },
+        ) if is_about(alloc, lines, *rule, other) => other,
+        _ => volume.image,
+    };
+    Subject::of_diff(VolumeFile { image, ..volume })
+}
+
+/// True if the last of some lines is that of an image in a file of this name, which breaks a rule.
+fn is_about(alloc: Global, lines: &[u8], rule: u8, name: &str) -> bool {
+    let mut line = Vec::new(alloc);
+    match push_unsound_line(alloc, &mut line, rule, name) {
+        Ok(()) => lines.ends_with(&line),
+        Err(_) => false,
+    }
+}
+
+/// Shows how the volumes in two files differ, and returns the result of the run, which holds if [`finish_printed`] succeeds.
 fn run<R: ImageFiles + Eprint + AllocGlobal, O: Sink>(
     host: &Surroundings<'_, R>,
     output: &mut O,
     volume: VolumeFile<'_>,
     other: &str,
-    all: bool,
+    by: Comparison,
 ) -> Ending
     ensures { (errors : ErrorStream) → Hears errors result.fault
         → RunsDiff (streams O.contents O.failed output.old output.new errors)
-        (host_files volume.entry.at R.File.remaining R.File.contents R.had R.stood) volume.entry other.now all result.status }
+        (host_files volume.entry.at R.File.remaining R.File.contents R.had R.stood) volume.entry other.now by result.status }
 {
     let old = match read_named(host, volume) {
         Ok(image) => image,
@@ -70,7 +108,7 @@ fn run<R: ImageFiles + Eprint + AllocGlobal, O: Sink>(
             };
         }
     };
-    show_diff(host.rt.alloc(), volume.edition, old, new, all, output)
+    show_comparison(host.rt.alloc(), volume.edition, old, new, by, output)
 }
 
 /// Reads the image in a file. If it can't be read, prints the fault and returns the status.

@@ -72,8 +72,8 @@ fn main(rt: HostRuntime) -> ExitCode {
         Ok(Invocation::Serve { volume, serving }) => {
             serve::run_to_end(&host, rt.stdin(), output, errors, volume, serving)
         }
-        Ok(Invocation::Diff { volume, other, all }) => {
-            compare::run_to_end(&host, output, errors, volume, other, all)
+        Ok(Invocation::Diff { volume, other, by }) => {
+            compare::run_to_end(&host, output, errors, volume, other, by)
         }
         Ok(Invocation::Identify { images, form }) => {
             identify::run_to_end(&host, output, errors, form, &images)

@@ -131,6 +131,11 @@ impl<'a> Subject<'a> {
         Subject::new(volume, verb, about)
     }
 
+    /// Returns the subject of `diff`, about one of its images.
+    pub fn of_diff(volume: VolumeFile<'a>) -> Subject<'a> {
+        Subject::new(volume, Verb::Diff, About::Image)
+    }
+
     /// Returns the subject of `serve`.
     pub fn of_serve(volume: VolumeFile<'a>) -> Subject<'a> {
         Subject::new(volume, Verb::Serve, About::Image)

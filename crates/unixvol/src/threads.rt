@@ -76,7 +76,11 @@ fn run<R: ImageFiles + Clock + Eprint + AllocGlobal + Threads + Wait + Sync, O: 
             workers,
             form,
         } => run_check(host, screen, output, volume, *checker, *workers, *form),
-        Work::Play { scripts, journal } => run_play(host, output, volume, scripts, *journal),
+        Work::Play {
+            scripts,
+            journal,
+            trace,
+        } => run_play(host, output, volume, scripts, *journal, *trace),
     }
 }
 
@@ -124,11 +128,12 @@ fn run_play<R: ImageFiles + Clock + Eprint + AllocGlobal + Threads + Wait + Sync
     volume: VolumeFile<'_>,
     scripts: &[&str],
     journal: bool,
+    trace: bool,
 ) -> Ending
     requires first { 1 ≤ length scripts.now }
     requires last { length scripts.now ≤ 64 }
     ensures { (errors : ErrorStream) → Hears errors result.fault
-        → RunsPlay (streams O.contents O.failed output.old output.new errors) (host_files volume.entry.at R.File.remaining R.File.contents R.had R.stood) volume.entry.edition (length scripts.now) journal result.status }
+        → RunsPlay (streams O.contents O.failed output.old output.new errors) (host_files volume.entry.at R.File.remaining R.File.contents R.had R.stood) volume.entry.edition (length scripts.now) journal trace result.status }
 {
     let read = ||
         ensures given { IfOk result (λ files. All (λ script. GaveScript R.File.remaining script.items) files.items) }
@@ -158,6 +163,7 @@ fn run_play<R: ImageFiles + Clock + Eprint + AllocGlobal + Threads + Wait + Sync
         image,
         &files,
         journal,
+        trace,
         &Open,
         output,
     );

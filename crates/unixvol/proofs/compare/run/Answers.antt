@@ -17,5 +17,5 @@ returns g c errors hears =
       c.in-Ok-read_named.ensures.given,
       c.in-Ok.ensures.name,
       c.in-Ok-read_named.ensures.name,
-      c.show_diff.ensures errors hears,
+      c.show_comparison.ensures errors hears,
     )

@@ -1,8 +1,8 @@
 use Rattle.std.specs.Process.{exit_status}
 use Rattle.pdp_words.specs.Adapters.{writer_in, has_write_failed}
 use Rattle.command_faults.specs.Streams.{heard}
-use Rattle.unixvol.specs.Compare.{RunsDiff}
-use Rattle.unixvol.specs.Runs.{IsEnd, host_files}
+use Rattle.unixvol.specs.Compare.{EndsComparison, RunsDiff}
+use Rattle.unixvol.specs.Runs.{host_files}
 use Rattle.unixvol.proofs.Begun.{begun, ended_printed}
 use Rattle.unixvol.proofs.Compared.{ends_compared}
 use Rattle.unixvol.proofs.compare.run_to_end.Goals as goal
@@ -18,10 +18,10 @@ returns g c =
       _,
       _,
       status,
-      begun (λ streams. RunsDiff streams files c.args.volume c.args.other.now c.args.all status) (g.O.Write.contents c.args.output) (g.E.Write.contents c.args.errors) _ _ _ _ _ _ _
+      begun (λ streams. RunsDiff streams files c.args.volume c.args.other.now c.args.by status) (g.O.Write.contents c.args.output) (g.E.Write.contents c.args.errors) _ _ _ _ _ _ _
           c.noted_writer-output.ensures.bytes c.new-errors.ensures.bytes c.noted_writer-output.ensures.fresh runs,
-      begun (λ streams. IsEnd streams status) (g.O.Write.contents c.args.output) (g.E.Write.contents c.args.errors) _ _ _ _ _ _ _
+      begun (λ streams. EndsComparison c.args.volume c.args.other.now c.args.by streams status) (g.O.Write.contents c.args.output) (g.E.Write.contents c.args.errors) _ _ _ _ _ _ _
           c.noted_writer-output.ensures.bytes c.new-errors.ensures.bytes c.noted_writer-output.ensures.fresh
-          (ends_compared c.args.volume.at g.R.File.Read.remaining g.R.File.Write.contents g.R.ImageFiles.had g.R.ImageFiles.stood _ c.args.volume c.args.other.now c.args.all status runs),
+          (ends_compared c.args.volume.at g.R.File.Read.remaining g.R.File.Write.contents g.R.ImageFiles.had g.R.ImageFiles.stood _ c.args.volume c.args.other.now c.args.by status runs),
       ended_printed status c.finish_printed.result (exit_status c.from.result) c.from.ensures c.finish_printed.ensures,
     )

@@ -9,7 +9,7 @@ returns-in-Check-clause-ends g c errors hears =
 
 pub returns-in-Play-clause-ends : goal.returns-in-Play-clause-ends
 returns-in-Play-clause-ends g c errors hears =
-    ends_played c.args.volume.at g.R.File.Read.remaining g.R.File.Write.contents g.R.ImageFiles.had g.R.ImageFiles.stood _ c.args.volume.edition _ _ c.run_play.result.status
+    ends_played c.args.volume.at g.R.File.Read.remaining g.R.File.Write.contents g.R.ImageFiles.had g.R.ImageFiles.stood _ c.args.volume.edition _ _ _ c.run_play.result.status
     (c.run_play.ensures errors hears)
 
 pub returns-in-Play-clause-runs : goal.returns-in-Play-clause-runs

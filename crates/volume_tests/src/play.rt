@@ -64,6 +64,7 @@ fn two_scripts_have_threads_and_no_line_is_played_before_its_gate(rt: HostRuntim
             new_bytes(&rt, alloc, Edition::V6),
             &scripts,
             false,
+            false,
             &gate,
             &mut output,
             &mut errors,

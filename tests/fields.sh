@@ -182,7 +182,6 @@ flipped 6 s.img
 answers 1 'unixvol: unsound, rule 1: short.img' diff 7 short.img d.img --fields
 answers 1 'unixvol: unsound, rule 2: bounds.img' diff 7 d.img bounds.img --fields
 answers 3 'unixvol: cannot read absent.img' diff 7 d.img absent.img --fields
-misread "error: no value for '<fields>'" diff 7 d.img e.img
 misread 'error: the following required arguments were not provided' diff 7 d.img --fields
 
 echo "$passed passed, $failed failed"

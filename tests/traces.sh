@@ -1,0 +1,155 @@
+#!/usr/bin/env bash
+# Plays scripts with `--trace`: the calls of the journal in their order, each with what it changed, as `diff --fields` of the volumes before and after it
+# says; cuts, refused calls and views; the saved image; failures.
+# Usage: tests/traces.sh PROGRAM. It prints each row that fails, and ends with 'N passed, N failed'.
+. "$(dirname "$0")/rows.sh"
+
+printf hello > hello
+"$program" mkfs 7 d.img 40 3 0 0 1000
+"$program" put 7 d.img /a hello 2000
+"$program" mkfs 6 made.6 60 2 0 0 1000
+"$program" mkfs 7 made.7 60 2 0 0 1000
+
+# A file's removal.
+echo '3000 0 0 unlink /a' > unlink
+cat > wanted << 'LINES'
+1.1 ok 0
+records 1
+confirmed 1
+3000 0 0 unlink /a
+  block 6: data of i-node 24, logical 0 -> free
+  super-block nfree 34 -> 35
+  super-block ninode 21 -> 22
+  super-block time 2000 -> 3000
+  i-node 2 mtime 2000 -> 3000
+  i-node 2 ctime 2000 -> 3000
+  i-node 24 mode 0100644 -> 0
+  i-node 24 nlink 1 -> 0
+  i-node 24 size 5 -> 0
+  i-node 24 addr[0] 6 -> 0
+  i-node 24 atime 2000 -> 0
+  i-node 24 mtime 2000 -> 0
+  i-node 24 ctime 2000 -> 0
+  directory 2 slot 2 i-number 24 -> 0
+LINES
+cp d.img e.img
+prints wanted play 7 e.img unlink --trace
+cp d.img plain.img
+"$program" play 7 plain.img unlink > output
+saves 'a volume that was traced' e.img plain.img
+
+# Each kind of call. A trace has the lines of the journal, and below each those of `diff --fields`.
+cat > calls << 'END'
+1005 0 0 mkdir /d 755
+1006 0 0 create /d/f 644
+1007 0 0 write /d/f 3 4a4B
+1008 0 0 link /d/f /g
+1009 0 0 chmod /g 7
+1010 0 0 chown /d 1 2
+1011 0 0 times /g 4 5
+1012 0 0 truncate /g 4
+1013 0 0 unlink /g
+1014 0 0 mkdir //e 0
+1015 0 0 rmdir //e
+1016 0 0 write d/f 0 -
+END
+printf '1017 0 0 write /d/f 5120 %s\n' "$(head -c 1000 /dev/zero | od -An -v -tx1 | tr -d ' \n')" >> calls
+
+# traced EDITION SCRIPT: the trace of a script on a new volume is, call by call, the journal's line and the differences that the call made
+traced() {
+    cp "made.$1" played
+    "$program" play --journal "$1" played "$2" > report
+    grep ' 0 0 ' report > journal
+    cp "made.$1" before
+    while IFS= read -r call; do
+        echo "$call"
+        echo "$call" > one
+        cp before after
+        "$program" play "$1" after one > /dev/null
+        "$program" diff "$1" before after --fields | sed 's/^/  /'
+        cp after before
+    done < journal > changes
+    grep -v ' 0 0 ' report | cat - changes > wanted
+    cp "made.$1" again
+    runs play --trace "$1" again "$2"
+    wants "play --trace $1 $2" "$(cat wanted.status)" wanted none
+    saves "the volume after $1 $2" again played
+    cat journal changes | cat <(grep -v ' 0 0 ' report) - > wanted
+    cp "made.$1" again
+    runs play --journal --trace "$1" again "$2"
+    wants "play --journal --trace $1 $2" "$(cat wanted.status)" wanted none
+}
+echo 0 > wanted.status
+traced 6 calls
+traced 7 calls
+has 'a trace with folded lines' 1 "$(grep -c '^  blocks [0-9]* to [0-9]*: free -> ' changes)"
+has 'a call that changed one field' '  super-block time 1015 -> 1016' "$(grep -A 1 '^1016 ' changes | tail -n 1)"
+
+# Calls that are refused, queries, and calls before a cut have no lines.
+printf '%s\n' '5 0 0 create /a 644' '6 0 0 create /a 644' '6 0 0 stat /a' '7 0 0 cut' '8 0 0 chmod /a 600' '9 0 0 unlink /b' > cutting
+cat > wanted << 'LINES'
+1.1 ok 16
+1.2 17 Exists
+1.3 stat 16 file 0644 1 0 0 0
+1.4 cut 1
+1.5 ok 0
+1.6 2 NoEntry
+records 1
+confirmed 4
+gone 1
+8 0 0 chmod /a 0600
+  super-block time 5 -> 8
+  i-node 16 mode 0100644 -> 0100600
+  i-node 16 ctime 5 -> 8
+LINES
+cp made.7 played
+runs play --trace 7 played cutting
+wants 'a trace after a cut' 1 wanted none
+printf '%s\n' '5 0 0 stat /' > asking
+cp made.7 played
+runs play 7 played asking
+cp output wanted
+prints wanted play --trace 7 played asking
+printf '%s\n' view '5 0 0 stat /' > seeing
+runs play --trace 7 played unlink seeing
+has 'no call that was accepted' 0 "$(grep -c '^  ' output)"
+has 'a refused call' 1 "$(cat status)"
+
+# Two scripts at once: the calls are in the journal's order, whichever came first.
+printf '5 0 0 create /a%s 644\n' 1 2 3 4 > left
+printf '6 0 0 create /b%s 644\n' 1 2 3 4 > right
+cp made.6 played
+runs play --journal --trace 6 played left right
+grep ' 0 0 ' output > lines
+has 'the calls of two scripts' 16 "$(wc -l < lines)"
+has 'their order' "$(head -n 8 lines)" "$(tail -n 8 lines)"
+has 'what they changed' 8 "$(grep -c '^  i-node [0-9]* mode 0 -> ' output)"
+
+# Names with bytes that no terminal shows: a call has them as a script does, and what it changed has them escaped.
+printf '5 0 0 create /\001 644\n' > odd
+cp made.7 played
+runs play --trace 7 played odd
+has 'an odd name in a call' 1 "$(LC_ALL=C grep -c "^5 0 0 create /$(printf '\001') 0644$" output)"
+has 'an odd name in a slot' '  directory 2 slot 2 name (was slack) -> "\001"' "$(grep ' name ' output)"
+
+# Failures: nothing is traced, and a volume on which calls were made is saved.
+refuses 1 'unixvol: unsound, rule 1' play --trace 7 none unlink
+refuses 2 'unixvol: script 1 line 1' play --trace 7 d.img hello
+misread "error: unexpected argument '--traces'" play --traces 7 d.img unlink
+cp d.img e.img
+"$program" play --trace 7 e.img unlink > /dev/full 2> error
+echo $? > status
+echo 'unixvol: cannot write -' > line
+: > output
+wants 'a trace on a full device' 3 none line
+saves 'a volume whose trace was not printed' e.img plain.img
+"$program" mkfs 7 wide.img 30000 20 0 0 1000
+cp wide.img kept.img
+echo '5 0 0 create /a 644' > create
+"$program" play 7 kept.img create > output
+(in_memory 55000 runs play --trace 7 wide.img create)
+has 'a trace without memory' 'unixvol: 12 NoMemory' "$(cat error)"
+saves 'a volume without memory for its trace' wide.img kept.img
+
+echo "$passed passed, $failed failed"
+[ "$failed" = 0 ]

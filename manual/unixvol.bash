@@ -43,7 +43,7 @@ _unixvol() {
         free) kinds='edition file' options='--at --json --explain -h --help' valued='--at=any' others='' ;;
         block) kinds='edition file any' options='--at --explain -h --help' valued='--at=any' others='' ;;
         dump) kinds='edition file any' options='--at -i --inode --octal --explain -h --help' valued='--at=any' others='' ;;
-        diff) kinds='edition file any' options='--at --fields --all --explain -h --help' valued='--at=any' others='' ;;
+        diff) kinds='edition file any' options='--at --times --fields --all --explain -h --help' valued='--at=any' others='' ;;
         df) kinds='edition file' options='--at --json --explain -h --help' valued='--at=any' others='' ;;
         map) kinds='edition file' options='--at --svg --explain -h --help' valued='--at=any' others='' ;;
         check) kinds='edition file' options='--at --status --json --explain -h --help' valued='--at=any' others='' ;;
@@ -62,7 +62,7 @@ _unixvol() {
         chown) kinds='edition file path any any any' options='--at --explain -h --help' valued='--at=any' others='' ;;
         touch) kinds='edition file path any' options='--at --explain -h --help' valued='--at=any' others='' ;;
         salvage) kinds='edition file' options='--at -o --output -n --dry-run --explain -h --help' valued='--at=any -o=file --output=file' others='' ;;
-        play) kinds='edition file file...' options='--at --journal --explain -h --help' valued='--at=any' others='' ;;
+        play) kinds='edition file file...' options='--at --journal --trace --explain -h --help' valued='--at=any' others='' ;;
         migrate) kinds='file file any any any' options='--new --at --explain -h --help' valued='--at=any' others='' ;;
         serve) kinds='edition file' options='--at --read-only --mine -r --rescue --explain -h --help' valued='--at=any -r=file --rescue=file' others='' ;;
         identify) kinds='file...' options='--explain -h --help' ;;

@@ -125,7 +125,7 @@ misread "error: invalid value 'any' for '<EDITION>': 6 for the Sixth, 7 for the 
 has 'a volume that is not made' no "$([ -e new ] && echo yes || echo no)"
 misread "error: invalid value 'all' for '<EDITION>'" ls all disk7
 misread "error: invalid value 'Any' for '<EDITION>'" ls Any disk7
-misread "error: invalid value '' for '<EDITION>'" ls '' disk7
+misread "error: a value is required for '<EDITION>'" ls '' disk7
 misread 'error: ' ls any
 
 echo "$passed passed, $failed failed"

@@ -99,12 +99,10 @@ for edition in 6 7; do
         --explain resize "$edition" disk 20
     runs block "$edition" disk "$last"
     has "the last block that a file of edition $edition uses" 0 "$(cat status)"
-    has "its file, of edition $edition" 1 "$(grep -c '/' output)"
+    has "its file, of edition $edition" 1 "$(grep -c 'of i-node' output)"
     saves "a volume of edition $edition that isn't resized" disk before
 
     # A full volume grows, and is filled again.
-    free=$("$program" df --json "$edition" disk | grep -o '"free blocks": *[0-9]*' | grep -o '[0-9]*$')
-    has "the free blocks of the smallest volume of edition $edition" "$free" "$("$program" free "$edition" disk | grep -o '[0-9]*' | sort -u | wc -l)"
     prints none resize "$edition" disk 1000
     head -c 200000 /dev/zero | tr '\0' x > huge
     prints none put "$edition" disk /huge huge 1006
@@ -120,9 +118,7 @@ refuses 1 $'unixvol: bounds\nunixvol: six: no volume of the edition has these si
 prints none resize 6 six 65535
 sized 'the largest volume of edition 6' six 65535
 "$program" check 6 six > output && passes || fails 'the largest volume of edition 6'
-prints none resize 6 six 100
-"$program" mkfs 6 fresh 100 4 0 0 1000
-saves 'a new volume that was larger for a while' six fresh
+resized 'a volume that was the largest for a while' 6 six 100
 "$program" mkfs 7 seven 100 4 0 0 1000
 refuses 1 'unixvol: bounds' resize 7 seven 16777217 -n
 # A volume without files has a root, whose block it needs.

@@ -448,10 +448,11 @@ echo 'unixvol: cannot write -' > line
 wants 'export to a terminal' 3 none line
 
 # The keys of each command's JSON are those that docs/JSON.md lists for it. Together the images have each kind of line, fault and place.
-# keys_of COMMAND WORD..: of the command, with each of the words after the image, if there are any
+# keys_of COMMAND WORD..: of the command, with each of the words after the image, if there are any. The file of rule_04 is too long to sum.
 keys_of() {
     local image word
     for image in special.v7 twice_free.v6 "$samples"/lessons/*.v?; do
+        [[ $1 != sums || $image != */rule_04.* ]] || continue
         for word in "${@:2}"; do
             # shellcheck disable=SC2086
             "$program" $1 --json "${image##*.v}" "$image" $word 2> error < /dev/null

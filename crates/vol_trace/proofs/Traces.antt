@@ -1,18 +1,21 @@
 -- Replaying records one after another.
-use Rattle.std.proofs.Common.{◌≡◌, ◌∙◌, ℕ, ◌+◌, List, [], ◌∷◌, ◌++◌, ap, drop, length, refl, subst, sym}
-use Rattle.std.proofs.lemmas.List.{append_assoc}
+use Rattle.std.proofs.Common.{◌≡◌, ◌∙◌, ℕ, ◌+◌, true, List, [], ◌∷◌, ◌++◌, Result, Ok, Err, ◌≤◌, ap, drop, length, refl, subst, sym}
+use Rattle.std.specs.Prelude.{OnOk}
+use Rattle.std.proofs.lemmas.List.{append-nil, append_assoc, drop_all}
 use Rattle.vol_dir.specs.Tree.{state}
 use Rattle.vol_volume.specs.Journal.{IsLegal}
 use Rattle.vol_volume.specs.Volume.{Performs}
 use Rattle.vol_volume.specs.declared.calls.Record.{Record}
 use Rattle.vol_layout.specs.declared.geometry.Geometry.{Geometry}
+use Rattle.vol_scripts.specs.Journal.{call_text}
+use Rattle.vol_trace.specs.Indent.{indented}
 use Rattle.vol_trace.specs.Replay.{IsReplay}
-use Rattle.vol_trace.specs.Trace.{AppendsRecord, IsRecordText, IsTraceFrom}
+use Rattle.vol_trace.specs.Trace.{AppendsRecord, IsChanges, IsTraceFrom}
 use Rattle.vol_trace.specs.declared.replay.Replay.{Replay}
 
 -- a replay has made the first k of some records, and the text is what they changed: with the text of the rest it is that of all of them
 pub record Traces (first : Replay) (records : List Record) (k : ℕ) (replay : Replay) (text : List ℕ) : Type 0 where
-  pub replay : IsReplay replay
+  pub ready : IsReplay replay
   pub sizes : replay.geometry ≡ first.geometry
   pub legal : IsLegal (state first.geometry replay.image) (drop k records)
   pub goes_on : (rest : List ℕ) → IsTraceFrom first.geometry replay.image (drop k records) rest → IsTraceFrom first.geometry first.image records (text ++ rest)
@@ -20,7 +23,7 @@ pub record Traces (first : Replay) (records : List Record) (k : ℕ) (replay : R
 -- no record was made yet
 pub starts : (first : Replay) (records : List Record) → IsReplay first → IsLegal (state first.geometry first.image) records → Traces first records 0 first []
 starts first records is legal = record {
-  replay = is;
+  ready = is;
   sizes = refl;
   legal = legal;
   goes_on = λ rest traced. traced;
@@ -57,10 +60,35 @@ goes first old new records k entry before after are traces is sizes performed ap
     subst (λ g. AppendsRecord g old.image new.image entry before after) traces.sizes appended
     in
     record {
-      replay = is;
+      ready = is;
       sizes = sizes ∙ traces.sizes;
       legal = later first.geometry old.image new.image (drop k records) (drop (k + 1) records) entry are traces.legal performs;
       goes_on =
           longer first.geometry old.image new.image (drop k records) (drop (k + 1) records) entry before after first.image records are traces.goes_on performs
           appends;
     }
+
+-- all records were made
+pub ends : (first replay : Replay) (records : List Record) (k : ℕ) (text : List ℕ) → length records ≤ k → Traces first records k replay text
+    → IsTraceFrom first.geometry first.image records text
+ends first replay records k text end traces =
+    let none : IsTraceFrom first.geometry replay.image (drop k records) [] =
+    subst (λ entries. IsTraceFrom first.geometry replay.image entries []) (sym (drop_all k records end)) refl
+    in
+    subst (IsTraceFrom first.geometry first.image records) (append-nil text) (traces.goes_on [] none)
+
+-- the line of a call and the indented lines of what differs are the text of a record, if the image after it was remembered
+pub appends : {E : Type 0} (result : Result (Unit {0}) E) (g h : Geometry) (before old new made : List ℕ) (entry : Record) (start called text changes : List ℕ)
+    → OnOk result (made ≡ new) → h ≡ g → before ≡ old → IsChanges h before new changes → called ≡ start ++ call_text entry.call
+    → text ≡ called ++ indented true changes → OnOk result (AppendsRecord g old made entry start text)
+appends (Ok done) g h before old new made entry start called text changes image_is g_is before_is is called_is text_is = (
+  call_text entry.call ++ indented true changes,
+  (
+    changes,
+    subst (λ image. IsChanges g old image changes) (sym image_is)
+        (subst (λ image. IsChanges g image new changes) before_is (subst (λ k. IsChanges k before new changes) g_is is)),
+    refl,
+  ),
+  text_is ∙ ap (λ t. t ++ indented true changes) called_is ∙ append_assoc start (call_text entry.call) (indented true changes),
+)
+appends (Err error) g h before old new made entry start called text changes image_is g_is before_is is called_is text_is = tt

@@ -1,5 +1,5 @@
 -- An image that replays the records of a journal.
-use Rattle.std.specs.Prelude.{◌≡◌, List, ℕ}
+use Rattle.std.specs.Prelude.{◌≡◌}
 use Rattle.vol_layout.specs.Geometry.{Fits, geometry_of}
 use Rattle.vol_dir.specs.Tree.{free_count, shapes}
 use Rattle.vol_judge.specs.Sound.{IsSound}

@@ -34,6 +34,14 @@ pub returns-in-Migrate-clause-ends : goal.returns-in-Migrate-clause-ends
 returns-in-Migrate-clause-ends g c errors hears =
     rw c.in-Migrate.is (c.run_migrate.ensures.ends (g.O.Sink.contents c.args.output.now) (g.O.Sink.failed c.args.output.now) errors hears)
 
+pub returns-in-Resize-clause-runs : goal.returns-in-Resize-clause-runs
+returns-in-Resize-clause-runs g c errors hears =
+    rw c.in-Resize.is (c.run_resize.ensures.runs (g.O.Sink.contents c.args.output.now) (g.O.Sink.failed c.args.output.now) errors hears)
+
+pub returns-in-Resize-clause-ends : goal.returns-in-Resize-clause-ends
+returns-in-Resize-clause-ends g c errors hears =
+    rw c.in-Resize.is (c.run_resize.ensures.ends (g.O.Sink.contents c.args.output.now) (g.O.Sink.failed c.args.output.now) errors hears)
+
 pub returns-in-Salvage-clause-runs : goal.returns-in-Salvage-clause-runs
 returns-in-Salvage-clause-runs g c errors hears = rw c.in-Salvage.is (c.run_salvage.ensures errors hears)
 

@@ -28,13 +28,17 @@ abbrev pub next_command : Option ℕ → List ℕ
 next_command None = codes "ls"
 next_command (Some rule) = codes "check"
 
+-- the command to go on with for a judged volume of the file at a path, which is one word of a shell (this project)
+abbrev pub volume_command : List ℕ → ℕ → FoundVolume → Option ℕ → List ℕ
+volume_command path block volume broken = command_text (next_command broken) (edition_number volume.edition) (shell_word path) block
+
 -- a judged volume of the file at a path: its first block, its size, the command to go on with, its edition, the first rule that it breaks, and whether it
 -- is sound (this project)
 abbrev pub volume_data : List ℕ → ℕ → FoundVolume → Option ℕ → Data
 volume_data path block volume broken =
     object (member (codes "block") (count block)
     (member (codes "blocks") (count volume.blocks)
-    (member (codes "command") (string (command_text (next_command broken) (edition_number volume.edition) (shell_word path) block))
+    (member (codes "command") (string (volume_command path block volume broken))
     (member (codes "edition") (count (edition_number volume.edition))
     (member (codes "rule") (count_or_null broken)
     (member (codes "sound") (boolean (is_none broken)) no_members))))))

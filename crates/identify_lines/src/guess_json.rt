@@ -1,7 +1,7 @@
 //! What a file seems to be, as JSON.
 ghost use Rattle.std.specs.Prelude.{◌≡◌, IfOk, map, string_bytes};
 ghost use Rattle.serde_json.specs.View.{view};
-ghost use Rattle.identify_lines.specs.GuessJson.{between_data, fault_word, front_data, guess_parts, guess_word, next_command, part_by, part_data, seen_data, seen_json, seen_parts, seen_read, seen_word, unread_data, unread_json, volume_data};
+ghost use Rattle.identify_lines.specs.GuessJson.{between_data, fault_word, front_data, guess_parts, guess_word, next_command, part_by, part_data, seen_data, seen_json, seen_parts, seen_read, seen_word, unread_data, unread_json, volume_command, volume_data};
 
 use crate::seen::Seen;
 use crate::shell_words::shell_word;
@@ -185,17 +185,30 @@ fn volume_value(
 ) -> Result<Value, AllocError>
     ensures { IfOk result (λ value. view value ≡ volume_data path.now block volume broken) }
 {
-    let edition = edition_number(volume.edition);
-    let name = shell_word(alloc, path)?;
-    let command = command_text(alloc, next_command(broken), edition, &name, block)?;
+    let command = volume_command(alloc, path, block, volume, broken)?;
     json!(in alloc; {
         "block": block,
         "blocks": volume.blocks,
         "command": command,
-        "edition": edition,
+        "edition": edition_number(volume.edition),
         "rule": broken,
         "sound": broken.is_none()
     })
+}
+
+/// Returns the command to go on with for a judged volume of the file at `path`.
+fn volume_command(
+    alloc: Global,
+    path: &str,
+    block: u32,
+    volume: FoundVolume,
+    broken: Option<u8>,
+) -> Result<String, AllocError>
+    ensures { IfOk result (λ command. string_bytes command ≡ volume_command path.now block volume broken) }
+{
+    let name = shell_word(alloc, path)?;
+    let edition = edition_number(volume.edition);
+    command_text(alloc, next_command(broken), edition, &name, block)
 }
 
 /// Returns the command to go on with: `ls` if the volume is sound, else `check`.

@@ -1,6 +1,7 @@
 //! Words of a shell.
 ghost use Rattle.std.specs.Prelude.{◌≡◌, ◌++◌, IfOk, OnOk, string_bytes};
 ghost use Rattle.std.specs.List.{flat_map, list_any};
+ghost use Rattle.std.specs.Str.{chars};
 ghost use Rattle.identify_lines.specs.ShellWords.{is_special, quoted, quoted_char, shell_word};
 
 use std::alloc::{AllocError, Global};
@@ -38,11 +39,18 @@ fn is_special(byte: u8) -> bool
 fn quoted(alloc: Global, text: &str) -> Result<String, AllocError>
     ensures { IfOk result (λ word. string_bytes word ≡ quoted text.now) }
 {
-    let characters: Vec<char> = text.chars().collect(alloc)?;
+    let characters = characters(alloc, text)?;
     let mut word = String::from_str(alloc, "'")?;
     push_quoted(&mut word, &characters)?;
     word.push_str("'")?;
     Ok(word)
+}
+
+/// Returns the characters of a text.
+fn characters(alloc: Global, text: &str) -> Result<Vec<char>, AllocError>
+    ensures { IfOk result (λ characters. characters.items ≡ chars text.now) }
+{
+    text.chars().collect(alloc)
 }
 
 /// Appends characters as they are written between quotes.

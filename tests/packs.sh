@@ -183,7 +183,8 @@ placed wanted $made placed
 prints none mkfs 7 made 900 20 0 0 1000 --at $made
 saves 'a volume that was made in a pack' made placed
 has 'the room of a pack in which a volume was made' yes "$([ "$(stored made)" -le $((room + 2048)) ] && echo yes || stored made)"
-prints none check 7 made --at $made
+runs check --status 7 made --at $made
+has 'the status of a check of a volume that was made in a pack' 0 "$(cat status)"
 # A volume that begins there is replaced, also by one that ends where the next begins.
 prints none mkfs 7 made 1000 20 0 0 1001 --at $made
 "$program" mkfs 7 wanted 1000 20 0 0 1001

@@ -30,7 +30,7 @@ use pack_files::{PackFault, catalogued_file, judged_pack};
 use pdp_words::{IntoWrite, SaveFault, Sink, write_all};
 use std::io::Write;
 use std::process::ExitCode;
-use vol_catalogue::{header, rows};
+use vol_catalogue::{header, volume_rows};
 use vol_identify::{Identified, JudgedPart, identify};
 
 /// Prints a line for each of these files, in this format, and returns the exit code: the greatest of their statuses. A file that can't be read, or for
@@ -219,7 +219,7 @@ fn catalogue_rows<R: ImageFiles + Eprint + AllocGlobal>(
         Ok(found) => found,
         Err(fault) => return Err(explain_pack_fault(host, path, fault)),
     };
-    match rows(host.rt.alloc(), path, found.file, &found.volumes) {
+    match volume_rows(host.rt.alloc(), path, found.file, &found.volumes) {
         Ok(rows) => Ok(rows),
         Err(_) => Err(explain_no_memory_for(host, path)),
     }

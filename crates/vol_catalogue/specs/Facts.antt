@@ -1,5 +1,5 @@
 -- What is counted in a volume.
-use Rattle.std.specs.Prelude.{◌≡◌, ℕ, List, Option, None, Some, Ok, IsErr, length}
+use Rattle.std.specs.Prelude.{◌≡◌, true, ℕ, List, Option, None, Some, Ok, IsErr, length}
 use Rattle.pdp_words.specs.Words.{long}
 use Rattle.vol_free.specs.FreeWalk.{free_walk}
 use Rattle.vol_judge.specs.Sound.{IsJudged}

@@ -1,5 +1,5 @@
 //! What is counted in a volume.
-ghost use Rattle.std.specs.Prelude.{◌≡◌, ◌≤◌, IfOk};
+ghost use Rattle.std.specs.Prelude.{◌≡◌, ◌≤◌, true, IfOk};
 ghost use Rattle.vol_file.specs.Rules.{kind_at};
 ghost use Rattle.vol_judge.specs.Sound.{IsJudged};
 ghost use Rattle.vol_layout.specs.Geometry.{Fits};

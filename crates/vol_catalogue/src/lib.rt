@@ -5,4 +5,4 @@ mod facts;
 mod rows;
 
 pub use facts::{Counts, VolumeFacts, facts_of, file_count};
-pub use rows::{FileFacts, ListedVolume, header, rows};
+pub use rows::{FileFacts, ListedVolume, header, volume_rows};

@@ -39,7 +39,7 @@ pub fn header() -> &'static [u8]
 }
 
 /// Returns the rows of the volumes of the file at `path`.
-pub fn rows(
+pub fn volume_rows(
     alloc: Global,
     path: &str,
     file: FileFacts,

@@ -1,5 +1,5 @@
 -- The slots of a directory as JSON, whose objects are written with a comma before each but the first.
-use Rattle.std.proofs.Common.{◌≡◌, ◌∙◌, ap, sym, refl, ℕ, zero, suc, ◌-◌, ◌≤◌, min, Bool, true, false, if◌then◌else◌, List, [], ◌∷◌, ◌++◌, codes, drop, length, append_assoc, arith}
+use Rattle.std.proofs.Common.{◌≡◌, ◌∙◌, ap, sym, refl, ℕ, zero, suc, ◌-◌, ◌*◌, min, Bool, true, false, if◌then◌else◌, List, [], ◌∷◌, ◌++◌, codes, drop, length, append_assoc, arith}
 use Rattle.std.specs.List.{flat_map, range_with_len}
 use Rattle.serde_json.specs.View.{items_of}
 use Rattle.serde_json.specs.Written.{compact_text, has_float, items_text}
@@ -64,13 +64,13 @@ slots_whole geometry image d =
 -- first one lacked
 pub drop_two : (left : ℕ) (xs ys : List ℕ) → drop left (xs ++ ys) ≡ drop left xs ++ drop (left - length xs) ys
 drop_two zero xs ys = let none : 0 ≡ 0 - length xs = omega arith in ap (λ n. xs ++ drop n ys) none
-drop_two (suc left) [] ys = refl
+drop_two (suc left) [] ys = let same : suc left ≡ suc left - length {A = ℕ} [] = omega arith in ap (λ n. drop n ys) same
 drop_two (suc left) (x ∷ xs) ys =
     let less : left - length xs ≡ suc left - length (x ∷ xs) = omega arith in
     drop_two left xs ys ∙ ap (λ n. drop left xs ++ drop n ys) less
 
 -- nothing is left of an empty text
-pub drop_none : (left : ℕ) → drop left [] ≡ []
+pub drop_none : (left : ℕ) → drop {A = ℕ} left [] ≡ []
 drop_none zero = refl
 drop_none (suc left) = refl
 
@@ -80,14 +80,8 @@ pub drop_three : (left : ℕ) (xs ys zs : List ℕ)
 drop_three left xs ys zs = drop_two left xs (ys ++ zs) ∙ ap (λ text. drop left xs ++ text) (drop_two (left - length xs) ys zs)
 
 -- no more bytes can be left out than there are
-pub drop_most : (left from : ℕ) (xs : List ℕ) → from ≡ min left (length xs) → drop from xs ≡ drop left xs
-drop_most left from xs is = ap (λ n. drop n xs) is ∙ most left xs
-  where
-    most : (left : ℕ) (xs : List ℕ) → drop (min left (length xs)) xs ≡ drop left xs
-    most left [] = none left
-    most zero (x ∷ xs) = ap (λ n. drop n (x ∷ xs)) (omega arith)
-    most (suc left) (x ∷ xs) = ap (λ n. drop n (x ∷ xs)) (omega arith) ∙ most left xs
-
-    none : (left : ℕ) → drop (min left 0) [] ≡ drop left []
-    none zero = refl
-    none (suc left) = refl
+pub drop_most : (left : ℕ) (xs : List ℕ) → drop (min left (length xs)) xs ≡ drop left xs
+drop_most left [] = drop_none (min left (length {A = ℕ} [])) ∙ sym (drop_none left)
+drop_most zero (x ∷ xs) = let is : min 0 (length (x ∷ xs)) ≡ 0 = omega arith in ap (λ n. drop n (x ∷ xs)) is
+drop_most (suc left) (x ∷ xs) =
+    let is : min (suc left) (length (x ∷ xs)) ≡ suc (min left (length xs)) = omega arith in ap (λ n. drop n (x ∷ xs)) is ∙ drop_most left xs

@@ -207,9 +207,16 @@ fn put_block<O: Sink>(
 {
     let mut text = Vec::new(alloc);
     push_block(alloc, image, geometry, dir, b, count, form, &mut text)?;
-    let from = left.min(text.len());
-    put(&text[from..], output)?;
-    Ok(left - from)
+    put(after(&text, left), output)?;
+    Ok(left.saturating_sub(text.len()))
+}
+
+/// Returns the bytes after the first `count`, of which there may be fewer.
+#[tactic(auto, using(crate::proofs::SlotItems::drop_most))]
+fn after(text: &[u8], count: usize) -> &[u8]
+    ensures { result.now ≡ drop count text.now }
+{
+    &text[count.min(text.len())..]
 }
 
 /// Appends the texts of the first `count` slots in logical block `b` of directory `dir`.

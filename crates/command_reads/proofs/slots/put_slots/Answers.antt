@@ -19,7 +19,7 @@ loop-b-init g c =
     sym (before_hole form geometry image c.args.dir 0 c.next_block-b.result c.requires.fits next.reached next.hole ∙ before_none form geometry image c.args.dir) in
     record {
       within = next.within;
-      left = ap (λ (xs : List ℕ). c.args.left - length xs) none;
+      left = omega (arith, ap (λ (xs : List ℕ). length xs) none);
       lines = subst (Appends known known) (sym (drop_none c.args.left) ∙ ap (drop c.args.left) none) (Appends-nil known);
       working = refl;
     }
@@ -42,19 +42,19 @@ loop-b-preserved g c =
     let more : was ++ now ≡ lines_before form geometry image d c.next_block-b-in-loop-b.result =
     before_next form geometry image d b few low is
     ∙ sym (before_hole form geometry image d (b + 1) c.next_block-b-in-loop-b.result c.requires.fits next.reached next.hole) in
-    let here : Appends (g.O.Sink.contents c.loop-b.output) (g.O.Sink.contents c.put_block-left.new.output) (drop (first - length was) now) =
-    subst (λ n. Appends (g.O.Sink.contents c.loop-b.output) (g.O.Sink.contents c.put_block-left.new.output) (drop n now)) c.loop-b.invariant.left
+    let here : Appends (g.O.Sink.contents c.loop-b.output) (g.O.Sink.contents c.put_block.new.output) (drop (first - length was) now) =
+    subst (λ n. Appends (g.O.Sink.contents c.loop-b.output) (g.O.Sink.contents c.put_block.new.output) (drop n now)) c.loop-b.invariant.left
     c.in_ok-left.ensures.written.0 in
     record {
       within = next.within;
       left = omega (arith, c.in_ok-left.ensures.left, c.loop-b.invariant.left, length-append was now, ap (λ (xs : List ℕ). length xs) more);
-      lines = subst (Appends (g.O.Sink.contents c.args.output.now) (g.O.Sink.contents c.put_block-left.new.output))
+      lines = subst (Appends (g.O.Sink.contents c.args.output.now) (g.O.Sink.contents c.put_block.new.output))
           (sym (drop_two first was now) ∙ ap (drop first) more) (Appends-trans _ _ _ _ _ c.loop-b.invariant.lines here);
       working = c.in_ok-left.ensures.written.1 ∙ c.loop-b.invariant.working;
     }
 
-pub returns-in_err-put_block : goal.returns-in_err-put_block
-returns-in_err-put_block g c =
+pub returns-in_err-left : goal.returns-in_err-left
+returns-in_err-left g c =
     let form = c.args.form in
     let geometry = c.args.geometry.now in
     let image = c.args.image.now in
@@ -70,11 +70,11 @@ returns-in_err-put_block g c =
     let rest = slot_lines form geometry image d (32 * b + few) (slot_count geometry image d - 32 * b - few) in
     let parts = ap (drop first) (lines_around form geometry image d b few low is) ∙ drop_three first was now rest in
     let later = drop (first - length was - length now) rest in
-    handed_on _ _ _ _ _ _ c.in_err-put_block.field-0.0 c.from_residual.ensures
+    handed_on _ _ _ _ _ _ c.in_err-left.field-0.0 c.from_residual.ensures
     (cut_same _ _ _ (drop first was ++ (drop (first - length was) now ++ later)) (drop first (slot_lines form geometry image d 0 (slot_count geometry image d))) _ parts
     (cut_rest _ _ _ _ (drop first was) (drop (first - length was) now ++ later) _ c.loop-b.invariant.lines
     (cut_front _ _ _ (drop (first - length was) now) later _
-    (cut_same _ _ _ (drop c.loop-b.left now) (drop (first - length was) now) _ (sym (ap (λ n. drop n now) c.loop-b.invariant.left)) c.in_err-put_block.ensures.written))))
+    (cut_same _ _ _ (drop c.loop-b.left now) (drop (first - length was) now) _ (sym (ap (λ n. drop n now) c.loop-b.invariant.left)) c.in_err-left.ensures.written))))
 
 pub returns : goal.returns
 returns g c =

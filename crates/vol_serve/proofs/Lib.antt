@@ -1,2 +1,3 @@
 pub mod ListedEntries
 pub mod MessageLaws
+pub mod WholeListings

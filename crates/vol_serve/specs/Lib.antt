@@ -1,6 +1,7 @@
 pub mod Answers
 pub mod Attributes
 pub mod Errno
+pub mod Laws
 pub mod Listings
 pub mod Messages
 pub mod NodeNumbers

@@ -4,6 +4,7 @@
 mod answer;
 pub mod attributes;
 pub mod errno;
+pub mod laws;
 mod listing;
 pub mod memory;
 pub mod messages;

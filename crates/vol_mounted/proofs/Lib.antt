@@ -1,3 +1,4 @@
+pub mod AcceptedTurns
 pub mod Answered
 pub mod Asked
 pub mod Births
@@ -6,10 +7,12 @@ pub mod ClosedFiles
 pub mod FirstValues
 pub mod FreeNodes
 pub mod Held
-pub mod Makings
 pub mod MakingPlans
+pub mod Makings
+pub mod NameEntries
 pub mod NewNodes
 pub mod NodeNumbers
+pub mod RenamedNames
 pub mod Stores
 pub mod TurnLaws
 pub mod Upwards

@@ -2,7 +2,7 @@
 use Rattle.std.proofs.Common.{◌≡◌, ◌∙◌, ap, subst, refl, ℕ, ◌-◌, Bool, true, false, List, [], ◌∷◌, ◌++◌, length, Option, None, Some, Result, Ok, Err, ◌⊎◌, inl, inr}
 use Rattle.std.specs.Prelude.{◌%◌, ◌==◌, ◌&&◌, ◌||◌, nat_lt, nat_le, is_none, unwrap_or, if◌then◌else◌}
 use Rattle.std.specs.List.{list_any}
-use Rattle.std.specs.Option.{ok_or, option_to_list}
+use Rattle.std.specs.Option.{ok_or, option_map, option_to_list}
 use Rattle.std.specs.Result.{IfOk}
 use Rattle.std.proofs.lemmas.Bool.{eqb-true, false≢true, true≢false}
 use Rattle.std.proofs.lemmas.List.Folds.{list_any-append}
@@ -14,13 +14,14 @@ use Rattle.fuse_words.specs.declared.request.Header.{Header}
 use Rattle.pdp_words.specs.Steps.{and_then}
 use Rattle.vol_archive.specs.Walk.{is_plain}
 use Rattle.vol_dir.specs.Access.{user}
-use Rattle.vol_dir.specs.Tree.{tree}
+use Rattle.vol_dir.specs.Tree.{Node, tree}
 use Rattle.vol_dir.specs.Walk.{walk}
 use Rattle.vol_dir.specs.declared.cred.Cred.{Cred}
 use Rattle.vol_dir.specs.declared.refusal.Refusal.{Refusal}
 use Rattle.vol_nodes.specs.Nodes.{look_up}
 use Rattle.vol_nodes.specs.declared.fault.NodeFault.{NodeFault}
 use Rattle.vol_nodes.specs.declared.fault.NodeFault.TheVariants as faults
+use Rattle.vol_volume.specs.Answer.{stat_of}
 use Rattle.vol_volume.specs.declared.calls.Call.{Call}
 use Rattle.vol_volume.specs.declared.calls.Call.TheVariants as calls
 use Rattle.vol_volume.specs.declared.queries.Stat.{Stat}
@@ -41,7 +42,8 @@ pub then_holds : {X Y : Type 0} (P : Y → Type 0) (result : Result X MountedRef
 then_holds P (Ok x) next each = each x refl
 then_holds P (Err refusal) next each = tt
 
-if_holds : {Y : Type 0} (P : Y → Type 0) (b : Bool) (first second : Result Y MountedRefusal) → IfOk first P → IfOk second P
+-- a property of the value of either of two results
+pub if_holds : {Y : Type 0} (P : Y → Type 0) (b : Bool) (first second : Result Y MountedRefusal) → IfOk first P → IfOk second P
     → IfOk (if b then first else second) P
 if_holds P true first second holds other = holds
 if_holds P false first second holds other = other
@@ -49,6 +51,21 @@ if_holds P false first second holds other = other
 -- if a property holds of a result's value, it holds of the value that the result has
 pub has_held : {Y : Type 0} (P : Y → Type 0) (result : Result Y MountedRefusal) (y : Y) → IfOk result P → result ≡ Ok y → P y
 has_held {Y = Y} P result y holds is = subst (λ (r : Result Y MountedRefusal). IfOk r P) is holds
+
+-- a property of calls that are checked first
+pub asked_holds : (P : List Call → Type 0) (refused : Option Refusal) (all : List Call) → P all → IfOk (unless_refused refused all) P
+asked_holds P (Some refusal) all holds = tt
+asked_holds P None all holds = holds
+
+-- the node of a Stat
+pub stat_node : (sight : Sight) (i : ℕ) (stat : Stat) → stat_at sight i ≡ Ok stat
+    → (node : Node) × ((tree sight.geometry sight.image).nodes i ≡ Some node) × (stat_of i node ≡ stat)
+stat_node sight i stat = by ((tree sight.geometry sight.image).nodes i)
+  where
+    by : (held : Option Node) → of_nodes (ok_or (option_map (stat_of i) held) faults.Stale) ≡ Ok stat
+        → (node : Node) × (held ≡ Some node) × (stat_of i node ≡ stat)
+    by None is = absurd (cc)
+    by (Some node) is = (node, refl, cc)
 
 -- no call makes a node
 abbrev pub MakesNone : List Call → Type 0

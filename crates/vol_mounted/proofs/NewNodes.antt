@@ -74,7 +74,7 @@ made_gains state call done now perm path (inr is) accepted may =
     subst (λ call. (node : Node) × Gains state.tree (step state call done).tree path node) (sym is) (_, made.1)
 
 -- the image of a volume that accepted a call is sound
-sound_next : (old new : Mounted) (call : Call) (done : Done) → Accepts old new call done
+pub sound_next : (old new : Mounted) (call : Call) (done : Done) → Accepts old new call done
     → Fits (geometry_of new.edition new.image) new.image × IsSound new.edition new.image
 sound_next old new call done accepts =
     let ready = accepts.performed.changes.ready in

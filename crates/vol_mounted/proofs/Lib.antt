@@ -11,8 +11,13 @@ pub mod MakingPlans
 pub mod Makings
 pub mod NameEntries
 pub mod NewNodes
+pub mod NodeCalls
 pub mod NodeNumbers
 pub mod RenamedNames
+pub mod SetAttributes
+pub mod SetFields
+pub mod SetFiles
+pub mod SizedFiles
 pub mod Stores
 pub mod TurnLaws
 pub mod Upwards

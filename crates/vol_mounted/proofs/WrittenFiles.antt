@@ -57,7 +57,8 @@ record WritesNode (sight : Sight) (node offset : ℕ) (bytes : List ℕ) (all : 
   pub walked : walk (tree sight.geometry sight.image) user path ≡ Ok i
   pub is : all ≡ calls.Write user sight.now path offset bytes ∷ []
 
-short_same : (n short : ℕ) → short_number n ≡ Ok short → short ≡ n
+-- a short number is the number
+pub short_same : (n short : ℕ) → short_number n ≡ Ok short → short ≡ n
 short_same n short = by (nat_lt n (2 ^ 32))
   where
     by : (b : Bool) → (if b then Ok n else Err (mounted.Call refusals.TooBig)) ≡ Ok short → short ≡ n
@@ -79,12 +80,12 @@ writes_node sight header handle offset bytes =
     })))
 
 -- a node after a write
-abbrev wrote : ℕ → ℕ → List ℕ → Node → Node
+abbrev pub wrote : ℕ → ℕ → List ℕ → Node → Node
 wrote now offset bytes node =
     record (modified now node) { content = Body (spliced (body_of node.content) offset bytes); size = max node.size (offset + length bytes) }
 
 -- the nodes after a write
-written_nodes : (state : State) (now offset byte : ℕ) (path bytes : List ℕ) (done : Done) (i : ℕ) → walk state.tree user path ≡ Ok i
+pub written_nodes : (state : State) (now offset byte : ℕ) (path bytes : List ℕ) (done : Done) (i : ℕ) → walk state.tree user path ≡ Ok i
     → (step state (calls.Write user now path offset (byte ∷ bytes)) done).tree.nodes
     ≡ set_at state.tree.nodes i (option_map (wrote now offset (byte ∷ bytes)) (state.tree.nodes i))
 unfolding changed_by
@@ -92,7 +93,7 @@ written_nodes state now offset byte path bytes done i walked =
     ap (λ (r : Result ℕ Refusal). (at_time now (on_node state r (after_write state now offset (byte ∷ bytes)))).tree.nodes) walked
 
 -- a node that is neither a directory nor a special file has bytes
-has_body : (content : Content) → is_some (map_of content) ≡ false → is_device content ≡ false → (body : List ℕ) × (content ≡ Body body)
+pub has_body : (content : Content) → is_some (map_of content) ≡ false → is_device content ≡ false → (body : List ℕ) × (content ≡ Body body)
 has_body (Body bytes) plain regular = (bytes, refl)
 has_body (Directory names) plain regular = absurd (cc)
 has_body (Device type addresses) plain regular = absurd (cc)
@@ -132,7 +133,7 @@ unfolding settled lost_node
 write_remembered geometry image nodes sight header handle offset bytes = refl
 
 -- one call that was made
-made_one : (old new : Mounted) (call : Call) → AreMade old (call ∷ []) new → (done : Done) × Accepts old new call done
+pub made_one : (old new : Mounted) (call : Call) → AreMade old (call ∷ []) new → (done : Done) × Accepts old new call done
 unfolding AreMade
 made_one old new call (between, done, accepts, same) = (done, subst (λ volume. Accepts old volume call done) (sym same) accepts)
 

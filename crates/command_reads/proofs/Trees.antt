@@ -1,5 +1,5 @@
 -- Trees that were compared.
-use Rattle.std.proofs.Common.{◌≡◌, ◌∙◌, ℕ, ◌==◌, Bool, true, false, if◌then◌else◌, not, List, [], ◌∷◌, length, map, ap, subst, sym, refl, inl, inr, Option, Result, Ok, Err, IfOk, IfErr, Some, arith}
+use Rattle.std.proofs.Common.{◌≡◌, ◌∙◌, ◌⊎◌, ℕ, ◌==◌, Bool, true, false, if◌then◌else◌, not, List, [], ◌∷◌, length, map, ap, subst, sym, refl, inl, inr, Option, Result, Ok, Err, IfOk, IfErr, Some, arith}
 use Rattle.std.proofs.lemmas.Bool.{ne_eqb}
 use Rattle.vol_archive.specs.Write.{Writes}
 use Rattle.vol_archive.specs.declared.write.WriteFault.{WriteFault}
@@ -9,12 +9,17 @@ use Rattle.vol_compare.specs.Merge.{IsTreeText, all_of, merged_lines, rest_of, t
 use Rattle.vol_compare.specs.declared.members.MetTree.{MetTree}
 use Rattle.vol_dir.specs.Walk.{is_nil}
 use Rattle.vol_layout.specs.declared.geometry.Geometry.{Geometry}
-use Rattle.command_faults.specs.Faults.{fault_status, line_after}
+use Rattle.std.specs.Io.KnownBytes.{Keeps}
+use Rattle.vol_layout.specs.Geometry.{geometry_read}
+use Rattle.vol_layout.specs.declared.edition.Edition.{Edition}
+use Rattle.command_faults.specs.Faults.{fault_status, line_after, no_memory}
 use Rattle.command_faults.specs.Streams.{Streams}
 use Rattle.command_faults.specs.declared.fault.Fault.{Fault}
-use Rattle.command_reads.specs.Diff.{diff_status}
+use Rattle.command_reads.specs.Diff.{IsDiffFault, IsUnmeasuredImage, diff_status}
 use Rattle.command_reads.specs.Export.{unwritten}
-use Rattle.command_reads.specs.TreeDiff.{IsTreeOf, PrintsTrees, tree_status}
+use Rattle.command_reads.specs.Print.{IsTold}
+use Rattle.command_reads.specs.TreeDiff.{AreRemarks, IsTreeDiff, IsTreeOf, PrintsTrees, ShowsTreeDiff, tree_status}
+use Rattle.command_reads.specs.declared.diff.NamedImage.{NamedImage}
 
 -- the members of a tree are those of its image
 met : (times : Bool) (g : Geometry) (image : List ℕ) (tree : MetTree) → IsTreeOf g image tree
@@ -63,3 +68,43 @@ printed_trees streams text lines status told (Err writes.Output) cut differs is 
   broken = cut.cause refl;
   said = subst (λ t. streams.said (line_after t)) why.1 said;
 }))
+
+-- a fault that was reported before anything was printed
+pub told_only : (streams : Streams) (fault : Fault) (told : Option Fault) (status : ℕ) → Keeps streams.old streams.new → streams.failed ≡ streams.had_failed
+    → (status ≡ fault_status fault) × (told ≡ Some fault) → streams.said (line_after told) → IsTold streams fault status
+told_only streams fault told status kept working is said = record {
+  status = is.0;
+  kept = kept;
+  working = working;
+  said = subst (λ t. streams.said (line_after t)) is.1 said;
+}
+
+-- the reason why the first image isn't measured is one why there are no differences
+pub first_unmeasured : (edition : Edition) (old new : NamedImage) (bytes : List ℕ) (fault : Fault) → bytes ≡ old.bytes.items
+    → IsUnmeasuredImage edition bytes old.name.now fault ⊎ (fault ≡ no_memory) → IsDiffFault edition old new fault
+first_unmeasured edition old new bytes fault same (inl is) = inl (subst (λ b. IsUnmeasuredImage edition b old.name.now fault) same is)
+first_unmeasured edition old new bytes fault same (inr memory) = inr (inr memory)
+
+-- so is that why the second image isn't
+pub second_unmeasured : (edition : Edition) (old new : NamedImage) (bytes : List ℕ) (fault : Fault) → bytes ≡ new.bytes.items
+    → IsUnmeasuredImage edition bytes new.name.now fault ⊎ (fault ≡ no_memory) → IsDiffFault edition old new fault
+second_unmeasured edition old new bytes fault same (inl is) = inr (inl (subst (λ b. IsUnmeasuredImage edition b new.name.now fault) same is))
+second_unmeasured edition old new bytes fault same (inr memory) = inr (inr memory)
+
+-- if the trees of two images were compared, their differences are shown
+pub shows : (edition : Edition) (old new : NamedImage) (times : Bool) (streams : Streams) (status : ℕ) (g h : Geometry) (before after : List ℕ)
+    (was is : MetTree) (lines : List ℕ) → before ≡ old.bytes.items → after ≡ new.bytes.items → geometry_read edition before ≡ Ok g
+    → geometry_read edition after ≡ Ok h → IsTreeOf g before was → IsTreeOf h after is
+    → AreRemarks edition before old.name.now after new.name.now lines → PrintsTrees (tree_lines times was is) lines streams status
+    → ShowsTreeDiff edition old new times streams status
+shows edition old new times streams status g h before after was is lines old_is new_is g_is h_is was_met is_met remarks prints =
+    let text = tree_lines times was is in
+    inl (
+      text,
+      lines,
+      subst (λ b. IsTreeDiff edition b new.bytes.items times text) old_is
+          (subst (λ a. IsTreeDiff edition before a times text) new_is (g, g_is, (h, h_is, compares times g before h after was is was_met is_met))),
+      subst (λ b. AreRemarks edition b old.name.now new.bytes.items new.name.now lines) old_is
+          (subst (λ a. AreRemarks edition before old.name.now a new.name.now lines) new_is remarks),
+      prints,
+    )

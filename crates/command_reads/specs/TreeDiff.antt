@@ -15,11 +15,11 @@ use Rattle.command_reads.specs.Print.{IsBrokenOff, IsCutShort, IsTold}
 use Rattle.command_reads.specs.declared.diff.NamedImage.{NamedImage}
 
 -- the tree of an image: its root, and all that a walk from it finds (find)
-pub record IsTreeOf (g : Geometry) (image : List ℕ) (tree : MetTree) : Type 0 where
-  pub image : tree.image.now ≡ image
+pub record IsTreeOf (g : Geometry) (bytes : List ℕ) (tree : MetTree) : Type 0 where
+  pub image : tree.image.now ≡ bytes
   pub geometry : tree.geometry.now ≡ g
-  pub root : tree.root ≡ root_entry g image
-  pub founds : AreMet g image tree.founds.items
+  pub root : tree.root ≡ root_entry g bytes
+  pub founds : AreMet g bytes tree.founds.items
 
 -- the text is the differences between the trees of two images: by the law of `vol_compare`, it is empty if and only if they have the same members (diff)
 abbrev pub IsTreeDiff : Edition → List ℕ → List ℕ → Bool → List ℕ → Type 0

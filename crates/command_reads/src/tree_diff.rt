@@ -142,7 +142,7 @@ fn print_trees<O: Sink>(alloc: Global, trees: Trees<'_>, times: bool, output: &m
     requires new_fits { Fits trees.new.geometry.now trees.new.image.now }
     requires roots { trees.old.root.path ≡ trees.new.root.path }
     ensures { (errors : ErrorStream) → Hears errors result.fault
-        → PrintsTrees (tree_lines times trees.old.entry trees.new.entry) trees.remarks.entry.lines.items
+        → PrintsTrees (tree_lines times trees.entry.old trees.entry.new) trees.entry.remarks.lines.items
         (streams O.contents O.failed output.old output.new errors) result.status }
 {
     let differ = put_differences(alloc, &trees.old, &trees.new, times, output);

@@ -91,6 +91,11 @@ UNIXVOL_EXPLAIN=0 refuses 1 $'unixvol: 2 NoEntry\nunixvol: /none: no file or dir
 head -c 100000 disk.v7 > cut.v7
 explains 1 'unixvol: unsound, rule 1' 'unixvol: cut.v7: it breaks rule 1, that the image has all blocks of the volume: it has 195 blocks, its super-block says 400' super 7 cut.v7
 explains 1 'unixvol: unsound, rule 1' 'unixvol: cut.v7: it breaks rule 1, that the image has all blocks of the volume: it has 195 blocks, its super-block says 400; nothing is exported: add --cut to read what is there' export 7 cut.v7
+cut='unixvol: cut.v7: it breaks rule 1, that the image has all blocks of the volume: it has 195 blocks, its super-block says 400'
+explains 1 'unixvol: unsound, rule 1: cut.v7' "$cut" diff 7 broken.v7 cut.v7
+explains 1 'unixvol: unsound, rule 1: cut.v7' "$cut" diff 7 cut.v7 broken.v7 --fields
+line='unixvol: unsound, rule 12: broken.v7'
+explains 0 "$line"$'\n'"$line" 'unixvol: broken.v7: it breaks rule 12, that each link count is the number of entries; `unixvol check` says what breaks it' diff 7 broken.v7 broken.v7
 explains 1 'unixvol: unsound, rule 1' "unixvol: disk.v6: it breaks rule 1, that the image has all blocks of the volume: it has 400 blocks, its super-block says $((400 * 65536 + $(od -An -tu2 -j 516 -N 2 disk.v6))); rules 1 and 2 hold for edition 6" ls 7 disk.v6
 explains 1 'unixvol: unsound, rule 2' 'unixvol: disk.v7: it breaks rule 2, that the sizes are within their limits; rules 1 and 2 hold for edition 7' rm 6 disk.v7 /d/f
 cut='unixvol: /dev/stdin: it breaks rule 1, that the image has all blocks of the volume'

@@ -82,7 +82,7 @@ manual_page() {
 kind() {
     case $1 in
         EDITION) if [ "${2:-}" = mkfs ]; then echo new_edition; else echo edition; fi ;;
-        IMAGE | FILE | SCRIPT | OLD | NEW | FOLDER | COPY) echo file ;;
+        IMAGE | FILE | SCRIPT | OLD | NEW | FOLDER | COPY | MAPFILE) echo file ;;
         PATH | FROM | TO | DIR) echo path ;;
         *) echo any ;;
     esac

@@ -1,5 +1,6 @@
 #!/usr/bin/env bash
-# Runs `export --cut` of the built program on volumes that were cut off, and compares what it writes with what the whole volume holds.
+# Runs `export --cut` and `export --bad` of the built program on volumes that were cut off, or of which blocks couldn't be read, and compares what it
+# writes with what the whole volume holds.
 # Usage: tests/rescue.sh PROGRAM. It prints a line for each row that fails, and ends with 'N passed, N failed'.
 . "$(dirname "$0")/rows.sh"
 linux="$samples/linux_made.v7"
@@ -154,6 +155,226 @@ for path in sys.argv[2:]:
 print(count > 100)
 PYTHON
 has 'members of cut volumes' True "$(cat error)"
+
+# A map of ddrescue that says of a whole image what `head` left above: the same archive and lines as with --cut, with --cut or without.
+printf '%s\n' '# Mapfile' '0x0 ? 1' '0x0 0x6DDD0 +' '0x6DDD0 0x1F3230 -' > half.map
+for edition in 6 7; do
+    "$program" mkfs "$edition" b.img 4872 100 0 0 0
+    "$program" put "$edition" b.img -t / f1 f2 f3 f4 f5 f6 f7 f8 0
+    head -c 450000 b.img > cut.img
+    exports 5 cut.tar "$edition" cut.img --cut
+    cp error told
+    for words in '--bad half.map' '--bad half.map --cut' '--status --bad half.map'; do
+        # shellcheck disable=SC2086
+        exports 5 bad.tar "$edition" b.img $words
+        cmp -s bad.tar cut.tar && cmp -s error told
+        has "an image of edition $edition with $words" 0 $?
+    done
+    exports 5 cut.tar "$edition" cut.img --cut --damaged
+    exports 5 bad.tar "$edition" b.img --bad half.map --damaged
+    cmp -s bad.tar cut.tar
+    has "an image of edition $edition with damaged files" 0 $?
+done
+
+# A map that GNU ddrescue 1.27 wrote, of b.img on a medium with three bad blocks: two of f2, one of f4. What is in their place is no matter.
+cat > rescue.map << 'END'
+# Mapfile. Created by GNU ddrescue version 1.27
+# Command line: ddrescue -q -H medium.map -r 1 b.img copy.img rescue.map
+# Start time:   2026-11-29 02:46:24
+# Current time: 2026-11-29 02:46:24
+# Finished
+# current_pos  current_status  current_pass
+0x0006B800     +               1
+#      pos        size  status
+0x00000000  0x0002B400  +
+0x0002B400  0x00000400  -
+0x0002B800  0x00040000  +
+0x0006B800  0x00000200  -
+0x0006BA00  0x001F5600  +
+END
+cp b.img copy.img
+head -c 1024 /dev/urandom | dd of=copy.img bs=512 seek=346 conv=notrunc status=none
+head -c 512 /dev/urandom | dd of=copy.img bs=512 seek=860 conv=notrunc status=none
+exports 5 bad.tar 7 copy.img --bad rescue.map
+has "the members with ddrescue's map" 'f1 f3 f5 f6 f7 f8' "$(tar -tf bad.tar | paste -s -d ' ' -)"
+for n in 1 3 5 6 7 8; do same bad.tar "f$n" "f$n"; done
+has "the lines with ddrescue's map" 'unixvol: 3 of 4872 blocks are lost
+unixvol: f2: 1024 of 100000 bytes are lost: 22016-23039
+unixvol: f4: 512 of 100000 bytes are lost: 80384-80895' "$(cat error)"
+exports 5 damaged.tar 7 copy.img --bad rescue.map --damaged
+tar -xOf damaged.tar f4 > f4.got
+{ head -c 80384 f4; head -c 512 /dev/zero; tail -c +80897 f4; } > f4.want
+cmp -s f4.got f4.want
+has 'a damaged file has zeros in place of the lost bytes, and no others' 0 $?
+
+# With --at the map is of the pack. A volume at block 7 of one, and the map's positions 7 blocks further on.
+{ head -c 3584 /dev/urandom; cat copy.img; head -c 5000 /dev/urandom; } > pack.img
+exports 5 damaged.tar 7 copy.img --bad rescue.map --damaged
+cp error told
+printf '%s\n' '0x0 + 1' '0 3584 -' '3584 177152 +' '180736 1024 *' '181760 262144 +' '443904 512 /' '0x6C800 0x1F5600 +' > pack.map
+exports 5 pack.tar 7 pack.img --at 7 --bad pack.map
+cmp -s pack.tar bad.tar && cmp -s error told
+has 'a volume in a pack' 0 $?
+refuses 1 'unixvol: unsound, rule 2' export --at 7 --bad rescue.map 7 b.img
+
+# A block is lost if one of its bytes is, also between two ranges that touch no others; ranges that touch are one.
+bytes=$(wc -c < one.img)
+exports 0 whole.tar 7 one.img
+while IFS='|' read -r status ranges; do
+    { echo '0 ?'; for range in $ranges; do tr , ' ' <<< "$range"; done; } > one.map
+    exports "$status" bad.tar 7 one.img --bad one.map
+    has "hello with the ranges $ranges" "$([ "$status" = 5 ] && echo 1 || echo 0)" "$(grep -c 'unixvol: hello: 5 of 5 bytes are lost: 0-4' error)"
+done << END
+0|0,$bytes,+
+0|0,$((512 * at + 100)),+ $((512 * at + 100)),$((bytes - 512 * at - 100)),+
+0|0,$((512 * at + 100)),+ $((512 * at + 100)),0,- $((512 * at + 100)),$((bytes - 512 * at - 100)),+
+0|0,$bytes,+ $bytes,99999999,-
+5|0,$((512 * at + 100)),+ $((512 * at + 100)),1,- $((512 * at + 101)),$((bytes - 512 * at - 101)),+
+5|0,$((512 * at + 511)),+ $((512 * at + 512)),$((bytes - 512 * at - 512)),+
+5|0,$((512 * at + 1)),+ $((512 * at + 1)),511,? $((512 * at + 512)),$((bytes - 512 * at - 512)),+
+5|0,$((512 * at)),+
+5|0,$((512 * at + 511)),+
+END
+printf '0 +\n0 %d +\n' "$bytes" > one.map
+exports 0 bad.tar 7 one.img --bad one.map
+cmp -s bad.tar whole.tar && [ ! -s error ]
+has 'an image that was read whole' 0 $?
+
+# The super-block is lost: its sizes aren't known, though they are in the image. A map without ranges says that nothing was read.
+printf '%s\n' '0 ?' '0 1023 +' '1024 100000 +' > super.map
+refuses 1 'unixvol: unsound, rule 2' export --bad super.map 7 one.img
+refuses 6 'unixvol: unsound, rule 2' export --status --bad super.map 7 one.img
+echo '0 ?' > empty.map
+refuses 1 'unixvol: unsound, rule 2' export --bad empty.map 7 one.img
+
+# Maps that can't be read: the line, what is wrong with it, status 3, and nothing else.
+state="it isn't ddrescue's state: a position, one of ? * / - F G +, and perhaps a pass"
+while IFS='|' read -r map line flaw; do
+    printf '%b' "$map" > bad.map
+    refuses 3 "unixvol: bad.map: line $line: $flaw" export --bad bad.map 7 one.img
+done << END
+|1|the map ends before ddrescue's state
+# only\\n# comments\\n|3|the map ends before ddrescue's state
+0x0 0x200 +\\n|1|$state
+x ? 1\\n|1|$state
+0 ? 1 2\\n|1|$state
+0\\n|1|$state
+0 ? x\\n|1|$state
+0 F\\n0 010 +\\n|2|the size is no number
+0 ?\\n\\n# here\\n0 512 +\\n0x20g 512 +\\n|5|the position is no number
+0 G 3\\n-1 512 +\\n|2|the position is no number
+0 ?\\n0 18446744073709551616 +\\n|2|the size is no number
+0 ?\\n0 0x +\\n|2|the size is no number
+0 ?\\n0 512\\n|2|the status is none of ? * / - +
+0 ?\\n0 512 F\\n|2|the status is none of ? * / - +
+0 ?\\n0 512 ++\\n|2|the status is none of ? * / - +
+0 ?\\n0 512 + x\\n|2|it has more than three words
+0 ?\\n0\\t512 +\\n|2|the position is no number
+0 ?\\n0 512 +\\r\\n|2|the status is none of ? * / - +
+0 ?\\n1 18446744073709551615 +\\n|2|the range ends past the last byte of any file
+0 ?\\n0 512 +\\n511 512 -\\n|3|the range begins before the end of the one above
+0 ?\\n512 512 +\\n0 512 +\\n|3|the range begins before the end of the one above
+END
+cp one.map "$(printf 'odd\033.map')"
+echo x >> "$(printf 'odd\033.map')"
+refuses 3 'unixvol: odd\033.map: line 3: the position is no number' export --bad "$(printf 'odd\033.map')" 7 one.img
+refuses 3 'unixvol: cannot read missing.map' export --bad missing.map 7 one.img
+refuses 3 'unixvol: cannot read missing' export --bad one.map 7 missing
+refuses 3 'unixvol: cannot read one.img' export --at 4000000 --bad one.map 7 one.img
+refuses 6 'unixvol: the image has 40 of 16000000 blocks' export --bad one.map 7 long.img
+
+# Random volumes of both editions, of which random blocks are lost and have random bytes: each member is in the whole volume with the same header and
+# bytes, each file that is no member has a line, and of damaged files the bytes outside the ranges are right.
+python3 - "$program" > error << 'PYTHON'
+import os, random, re, subprocess, sys, tarfile
+
+program, count = sys.argv[1], 0
+random.seed(1979)
+
+def run(*words, **more):
+    return subprocess.run([program, *words], stdin=subprocess.DEVNULL, capture_output=True, **more)
+
+def members(path):
+    if os.path.getsize(path) == 0:
+        return
+    with tarfile.open(path) as archive:
+        for member in archive:
+            is_file = member.isreg() or member.islnk()
+            body = archive.extractfile(member).read() if is_file else None
+            yield member.name, (member.mode, member.uid, member.gid, member.mtime, is_file or member.type, body)
+
+def exported(edition, image, path, *words):
+    done = run("export", edition, image, *words)
+    with open(path, "wb") as file:
+        file.write(done.stdout)
+    return done, dict(members(path))
+
+def volume(edition):
+    """Makes r.img, a volume with some directories and files."""
+    run("mkfs", edition, "r.img", str(random.randint(300, 900)), "12", "0", "0", "1")
+    for d in range(random.randint(1, 4)):
+        run("mkdir", edition, "r.img", f"/d{d}", "2")
+        for f in range(random.randint(1, 12)):
+            with open("r.file", "wb") as file:
+                file.write(random.randbytes(random.choice((0, 5, 512, 3000, 9000, 70000))))
+            run("put", edition, "r.img", f"/d{d}/f{f}", "r.file", "3")
+
+def lose(at):
+    """Makes r.bad, the image with random bytes in lost blocks, at block `at` of a file, and r.map, its map."""
+    image = bytearray(open("r.img", "rb").read())
+    blocks = len(image) // 512
+    lost = sorted({k for k in random.sample(range(blocks), random.choice((1, 3, 10, 40))) if k != 1})
+    for k in lost:
+        image[512 * k:512 * k + 512] = random.randbytes(512)
+    with open("r.bad", "wb") as file:
+        file.write(random.randbytes(512 * at) + image)
+    with open("r.map", "w") as file:
+        print("# Mapfile. Created by GNU ddrescue version 1.27\n0x0     +               1", file=file)
+        print(f"0x00000000  {512 * at:#010x}  ?", file=file)
+        for k in range(blocks):
+            print(f"{512 * (at + k):#010x}  0x00000200  {random.choice('?*/-') if k in lost else '+'}", file=file)
+
+def outside(body, line):
+    """The bytes of a file outside the ranges that a line names."""
+    kept = bytearray(body)
+    for first, last in re.findall(r"(\d+)-(\d+)", line):
+        kept[int(first):int(last) + 1] = bytes(int(last) + 1 - int(first))
+    return bytes(kept)
+
+for round in range(50):
+    edition, at = "67"[round % 2], random.choice((0, 0, 9))
+    volume(edition)
+    lose(at)
+    whole = exported(edition, "r.img", "r.tar")[1]
+    words = ("--at", str(at), "--bad", "r.map")
+    done, kept = exported(edition, "r.bad", "k.tar", *words)
+    if done.stdout == b"":
+        if done.stderr != b"unixvol: 20 NotDirectory\n":
+            print(round, "no archive:", done.stderr)
+        continue
+    lines = dict(line[9:].split(": ", 1) for line in done.stderr.decode().splitlines() if ": " in line[9:])
+    if done.returncode not in (1, 5) or (done.returncode == 5) != (done.stderr.count(b"\n") > 1):
+        print(round, done.returncode, done.stderr)
+    for name, member in kept.items():
+        count += 1
+        if whole.get(name) != member:
+            print(round, "a member is wrong:", name)
+    short = {name for name in lines if "names may be missing" in lines[name] or "i-node" in lines[name]}
+    for name in whole:
+        if name not in kept and name not in lines and not any(d == "." or name.startswith(d + "/") for d in short):
+            print(round, "no line for", name)
+    again, damaged = exported(edition, "r.bad", "d.tar", *words, "--damaged")
+    if again.stderr != done.stderr:
+        print(round, "other lines with --damaged")
+    for name, member in damaged.items():
+        line = lines.get(name, "")
+        if member[5] is None or ", .." in line:
+            continue
+        if member[:5] != whole[name][:5] or member[5] != outside(whole[name][5], line):
+            print(round, "a damaged file is wrong outside its ranges:", name)
+print(count > 500)
+PYTHON
+has 'members of volumes of which random blocks are lost' True "$(cat error)"
 
 echo "$passed passed, $failed failed"
 [ "$failed" = 0 ]

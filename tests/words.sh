@@ -203,6 +203,7 @@ rm 7 disk /d/f /d/g | nor a date like 2026-11-23T12:00:00Z; rm takes one PATH, t
 mkdir 7 disk /d/f /d/g | ; mkdir takes one PATH, then the time
 mv 7 disk /d/f /d/g /d/h | ; mv takes two paths, FROM and TO, then the time
 put 7 disk a -t | a value is required for '--target-directory <DIR>'
+export 7 disk --bad | a value is required for '--bad <MAPFILE>'
 put 7 disk -t /d -t /d a | '--target-directory <DIR>' cannot be used multiple times
 put 7 disk -t /d x/a b y/a | invalid value 'a' for '<FILE>': two files have this last name
 put 7 disk -t /d a a/. 8 | invalid value 'a' for '<FILE>'

@@ -168,6 +168,7 @@ asks_listing clock given edition image path (invocations.Salvage volume copy) te
 asks_listing clock given edition image path (invocations.Get volume p) test e_is i_is p_is none is = absurd (true≢false (sym test))
 asks_listing clock given edition image path (invocations.Resize volume blocks is_trial) test e_is i_is p_is none is = absurd (true≢false (sym test))
 asks_listing clock given edition image path (invocations.Serve volume serving) test e_is i_is p_is none is = absurd (true≢false (sym test))
+asks_listing clock given edition image path (invocations.ExportBad volume file p options) test e_is i_is p_is none is = absurd (true≢false (sym test))
 asks_listing clock given edition image path (invocations.Diff volume other by) test e_is i_is p_is none is = absurd (true≢false (sym test))
 asks_listing clock given edition image path (invocations.Identify images form) test e_is i_is p_is none is = absurd (true≢false (sym test))
 asks_listing clock given edition image path (invocations.Change volume (changes.Put p file keep now)) test e_is i_is p_is none is = absurd (true≢false (sym test))
@@ -258,6 +259,7 @@ listing_asks clock (Some met) edition image path (invocations.Salvage volume cop
 listing_asks clock (Some met) edition image path (invocations.Get volume p) is listed = absurd listed
 listing_asks clock (Some met) edition image path (invocations.Resize volume blocks is_trial) is listed = absurd listed
 listing_asks clock (Some met) edition image path (invocations.Serve volume serving) is listed = absurd listed
+listing_asks clock (Some met) edition image path (invocations.ExportBad volume file p options) is listed = absurd listed
 listing_asks clock (Some met) edition image path (invocations.Diff volume other by) is listed = absurd listed
 listing_asks clock (Some met) edition image path (invocations.Identify images form) is listed = absurd listed
 listing_asks clock (Some met) edition image path (invocations.Look v (looks.Export p options)) is listed = absurd listed

@@ -62,7 +62,7 @@ pub(crate) fn export<O: Sink>(
 }
 
 /// Returns the ending of an export whose image isn't completed for this reason.
-fn unread(alloc: Global, fault: CutFault) -> Ending
+pub(crate) fn unread(alloc: Global, fault: CutFault) -> Ending
     ensures { IsUnreadEnding fault result.status result.fault }
 {
     let CutFault::TooShort { there, blocks } = fault else {
@@ -78,7 +78,7 @@ fn unread(alloc: Global, fault: CutFault) -> Ending
 }
 
 /// Writes the archive of everything below the directory at a path of an image that was read.
-fn export_read<O: Sink>(
+pub(crate) fn export_read<O: Sink>(
     alloc: Global,
     edition: Edition,
     read: &CutImage,

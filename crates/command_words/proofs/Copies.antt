@@ -67,6 +67,7 @@ puts clock given (invocations.Migrate old at new migration) put is = absurd (tru
 puts clock given (invocations.Salvage volume copy) put is = absurd (true≢false (sym put))
 puts clock given (invocations.Resize volume blocks is_trial) put is = absurd (true≢false (sym put))
 puts clock given (invocations.Serve volume serving) put is = absurd (true≢false (sym put))
+puts clock given (invocations.ExportBad volume map p options) put is = absurd (true≢false (sym put))
 puts clock given (invocations.Diff volume other by) put is = absurd (true≢false (sym put))
 puts clock given (invocations.Identify images form) put is = absurd (true≢false (sym put))
 
@@ -113,6 +114,7 @@ gets clock given (invocations.Migrate old at new migration) got is = absurd (tru
 gets clock given (invocations.Salvage volume copy) got is = absurd (true≢false (sym got))
 gets clock given (invocations.Resize volume blocks is_trial) got is = absurd (true≢false (sym got))
 gets clock given (invocations.Serve volume serving) got is = absurd (true≢false (sym got))
+gets clock given (invocations.ExportBad volume map p options) got is = absurd (true≢false (sym got))
 gets clock given (invocations.Diff volume other by) got is = absurd (true≢false (sym got))
 gets clock given (invocations.Identify images form) got is = absurd (true≢false (sym got))
 

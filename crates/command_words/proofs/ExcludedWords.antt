@@ -81,6 +81,7 @@ chosen (invocations.Migrate old at new migration) = inr (inr (refl, refl))
 chosen (invocations.Salvage volume copy) = inr (inr (refl, refl))
 chosen (invocations.Resize volume blocks is_trial) = inr (inr (refl, refl))
 chosen (invocations.Serve volume serving) = inr (inr (refl, refl))
+chosen (invocations.ExportBad volume map p options) = inr (inr (refl, refl))
 chosen (invocations.Diff volume other by) = inr (inr (refl, refl))
 chosen (invocations.Identify images form) = inr (inl (images, form, refl))
 

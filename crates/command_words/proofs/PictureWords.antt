@@ -61,6 +61,7 @@ draws clock given (invocations.Migrate old at new migration) drawn is json svg =
 draws clock given (invocations.Salvage volume copy) drawn is json svg = absurd (true≢false (sym drawn))
 draws clock given (invocations.Resize volume blocks is_trial) drawn is json svg = absurd (true≢false (sym drawn))
 draws clock given (invocations.Serve volume serving) drawn is json svg = absurd (true≢false (sym drawn))
+draws clock given (invocations.ExportBad volume map p options) drawn is json svg = absurd (true≢false (sym drawn))
 draws clock given (invocations.Diff volume other by) drawn is json svg = absurd (true≢false (sym drawn))
 draws clock given (invocations.Identify images form) drawn is json svg = absurd (true≢false (sym drawn))
 

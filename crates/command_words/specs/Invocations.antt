@@ -33,6 +33,7 @@ use Rattle.command_words.specs.declared.verbs.Verb.{Verb}
 use Rattle.command_words.specs.declared.verbs.Verb.TheVariants as verbs
 use Rattle.command_reads.specs.declared.comparison.Comparison.{Comparison}
 use Rattle.command_reads.specs.declared.comparison.Comparison.TheVariants as comparisons
+use Rattle.command_reads.specs.declared.looks.ExportOptions.{ExportOptions}
 use Rattle.command_reads.specs.declared.looks.OutputForm.{OutputForm}
 use Rattle.command_reads.specs.declared.looks.OutputForm.TheVariants as forms
 use Rattle.vol_listing.specs.declared.options.Depth.{Depth}
@@ -239,6 +240,7 @@ verb_of (invocations.Salvage volume copy) = verbs.Salvage
 verb_of (invocations.Resize volume blocks is_trial) = verbs.Resize
 verb_of (invocations.Change volume change) = change_verb change
 verb_of (invocations.Look volume look) = look_verb look
+verb_of (invocations.ExportBad volume map p options) = verbs.Export
 verb_of (invocations.Copy volume copying) = copying_verb copying
 verb_of (invocations.Work volume work) = work_verb work
 verb_of (invocations.Serve volume serving) = verbs.Serve
@@ -258,6 +260,7 @@ volume_of (invocations.Look volume look) = Some volume
 volume_of (invocations.Copy volume copying) = Some volume
 volume_of (invocations.Work volume work) = Some volume
 volume_of (invocations.Serve volume serving) = Some volume
+volume_of (invocations.ExportBad volume map p options) = Some volume
 volume_of (invocations.Diff volume other by) = Some volume
 volume_of (invocations.Identify images form) = None
 
@@ -274,6 +277,7 @@ with_volume (invocations.Look old look) volume = invocations.Look volume look
 with_volume (invocations.Copy old copying) volume = invocations.Copy volume copying
 with_volume (invocations.Work old work) volume = invocations.Work volume work
 with_volume (invocations.Serve old serving) volume = invocations.Serve volume serving
+with_volume (invocations.ExportBad old map p options) volume = invocations.ExportBad volume map p options
 with_volume (invocations.Diff old other by) volume = invocations.Diff volume other by
 with_volume (invocations.Identify images form) volume = invocations.Identify images form
 
@@ -403,11 +407,15 @@ abbrev pub IsRadixGiven : Words → Radix → Type 0
 IsRadixGiven given radixes.Hex = is_set (given (codes "octal")) ≡ false
 IsRadixGiven given radixes.Octal = is_set (given (codes "octal")) ≡ true
 
--- the words describe this part of an image (this project)
-abbrev pub IsLookGiven : Words → Look → Type 0
-IsLookGiven given (looks.Export path options) = (path.now ≡ the_word given (codes "PATH")) × (options.lost ≡ is_set (given (codes "lost")))
+-- the words describe an export of what is below this path, with these options (this project)
+abbrev pub IsExportGiven : Words → List ℕ → ExportOptions → Type 0
+IsExportGiven given path options = (path ≡ the_word given (codes "PATH")) × (options.lost ≡ is_set (given (codes "lost")))
     × (options.graded ≡ is_set (given (codes "status"))) × (options.losses.cut ≡ is_set (given (codes "cut")))
     × (options.losses.damaged ≡ is_set (given (codes "damaged")))
+
+-- the words describe this part of an image (this project)
+abbrev pub IsLookGiven : Words → Look → Type 0
+IsLookGiven given (looks.Export path options) = IsExportGiven given path.now options × IsLeftOut given (codes "bad")
 IsLookGiven given (looks.Sums path form lost) = (path.now ≡ the_word given (codes "PATH")) × IsFormGiven given form
     × (lost ≡ is_set (given (codes "lost")))
 IsLookGiven given (looks.Inode node form) = IsNodeGiven (the_word given (codes "INO")) node × IsFormGiven given form
@@ -517,6 +525,8 @@ IsGiven clock given (invocations.Resize volume blocks is_trial) = IsVolumeGiven 
     × IsNumberGiven 4294967295 (the_word given (codes "BLOCKS")) blocks × (is_trial ≡ is_set (given (codes "dry-run")))
 IsGiven clock given (invocations.Change volume change) = IsVolumeGiven given volume × IsChangeGiven clock given change
 IsGiven clock given (invocations.Look volume look) = IsVolumeGiven given volume × IsLookGiven given look
+IsGiven clock given (invocations.ExportBad volume map p options) = IsVolumeGiven given volume × IsFirstWord given (codes "bad") map.now
+    × IsExportGiven given p.now options
 IsGiven clock given (invocations.Copy volume copying) = IsVolumeGiven given volume × IsCopyGiven clock given copying
 IsGiven clock given (invocations.Work volume work) = IsVolumeGiven given volume × IsWorkGiven given work
 IsGiven clock given (invocations.Serve volume serving) = IsVolumeGiven given volume × IsServingGiven given serving

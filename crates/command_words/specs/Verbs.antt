@@ -136,7 +136,8 @@ arguments_of verbs.Ls = on_volume (maybe_path ∷ lettered (codes "long") 108 �
 arguments_of verbs.Get = on_volume (word (codes "PATH") ∷ more_words ∷ valued (codes "output") 111 values.Folder ∷ lettered (codes "preserve") 112 ∷ [])
 arguments_of verbs.Find = on_volume (maybe_path ∷ valued (codes "name") 103 values.Pattern ∷ option (codes "lost") ∷ option (codes "json") ∷ [])
 arguments_of verbs.Export =
-    on_volume (maybe_path ∷ option (codes "lost") ∷ option (codes "cut") ∷ option (codes "damaged") ∷ option (codes "status") ∷ [])
+    on_volume (maybe_path ∷ option (codes "lost") ∷ option (codes "cut") ∷ (codes "bad", kinds.Text, needs.Value None values.Map)
+    ∷ option (codes "damaged") ∷ option (codes "status") ∷ [])
 arguments_of verbs.Sums = on_volume (maybe_path ∷ option (codes "lost") ∷ option (codes "json") ∷ [])
 arguments_of verbs.Inode = on_volume (node ∷ option (codes "json") ∷ [])
 arguments_of verbs.Super = on_volume (option (codes "json") ∷ [])

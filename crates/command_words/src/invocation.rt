@@ -3,7 +3,7 @@ ghost use Rattle.std.specs.Prelude.{◌≡◌};
 ghost use Rattle.command_words.specs.Invocations.{volume_of, with_volume};
 
 use command_changes::{Change, Keep, Migration};
-use command_reads::{Comparison, Look, NodeName, OutputForm};
+use command_reads::{Comparison, ExportOptions, Look, NodeName, OutputForm};
 use vol_check::Checker;
 use vol_layout::Edition;
 use vol_mkfs::NewVolume;
@@ -154,6 +154,13 @@ pub enum Invocation<'a> {
         volume: VolumeFile<'a>,
         look: Look<'a>,
     },
+    /// Write everything below a directory as an archive, from an image in a file of which some blocks couldn't be read; the file `map` says which.
+    ExportBad {
+        volume: VolumeFile<'a>,
+        map: &'a str,
+        path: &'a str,
+        options: ExportOptions,
+    },
     /// Copy several files into the volume in a file, or out of it.
     Copy {
         volume: VolumeFile<'a>,
@@ -196,6 +203,7 @@ impl<'a> Invocation<'a> {
             | Invocation::Resize { volume, .. }
             | Invocation::Change { volume, .. }
             | Invocation::Look { volume, .. }
+            | Invocation::ExportBad { volume, .. }
             | Invocation::Copy { volume, .. }
             | Invocation::Work { volume, .. }
             | Invocation::Serve { volume, .. }
@@ -222,6 +230,14 @@ impl<'a> Invocation<'a> {
             },
             Invocation::Change { change, .. } => Invocation::Change { volume, change },
             Invocation::Look { look, .. } => Invocation::Look { volume, look },
+            Invocation::ExportBad {
+                map, path, options, ..
+            } => Invocation::ExportBad {
+                volume,
+                map,
+                path,
+                options,
+            },
             Invocation::Copy { copying, .. } => Invocation::Copy { volume, copying },
             Invocation::Work { work, .. } => Invocation::Work { volume, work },
             Invocation::Serve { serving, .. } => Invocation::Serve { volume, serving },

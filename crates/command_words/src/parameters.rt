@@ -75,6 +75,8 @@ pub enum ValueName {
     Pattern,
     /// A file outside the volume, for a rescue.
     Rescue,
+    /// A file outside the volume that says what of it was read.
+    Map,
     /// A block of a pack.
     Block,
 }
@@ -89,6 +91,7 @@ impl ValueName {
             ValueName::Owner => "UID:GID",
             ValueName::Pattern => "GLOB",
             ValueName::Rescue => "FILE",
+            ValueName::Map => "MAPFILE",
             ValueName::Block => "BLOCK",
         }
     }
@@ -467,6 +470,13 @@ const CUT: Parameter = Parameter {
     help: texts::export::CUT,
 };
 
+const BAD: Parameter = Parameter {
+    name: "bad",
+    kind: WordKind::Text,
+    need: Need::Value(None, ValueName::Map),
+    help: texts::export::BAD,
+};
+
 const DAMAGED: Parameter = Parameter {
     name: "damaged",
     kind: WordKind::Flag,
@@ -771,13 +781,14 @@ pub static IMPORT_WORDS: [Parameter; 7] = [
 ];
 
 /// The words that `export` takes.
-pub static EXPORT_WORDS: [Parameter; 8] = [
+pub static EXPORT_WORDS: [Parameter; 9] = [
     EDITION,
     IMAGE,
     AT,
     BELOW,
     LOST,
     CUT,
+    BAD,
     DAMAGED,
     EXPORT_GRADED,
 ];

@@ -191,10 +191,18 @@ fn read_export<'a, G: Given<'a>>(given: &G) -> Result<Invocation<'a>, WordFault<
             damaged: flag_in(given, "damaged"),
         },
     };
-    Ok(Invocation::Look {
-        volume,
-        look: Look::Export { path, options },
-    })
+    match given.first("bad") {
+        Some(map) => Ok(Invocation::ExportBad {
+            volume,
+            map,
+            path,
+            options,
+        }),
+        None => Ok(Invocation::Look {
+            volume,
+            look: Look::Export { path, options },
+        }),
+    }
 }
 
 /// Reads the words of `sums`.

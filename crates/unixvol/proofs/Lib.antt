@@ -1,4 +1,5 @@
 pub mod Asked
+pub mod BadExports
 pub mod Begun
 pub mod Checked
 pub mod Compared

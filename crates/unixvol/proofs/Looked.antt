@@ -33,7 +33,7 @@ use Rattle.unixvol.specs.Runs.{IsEndWithin, IsUnread, RunsLook, highest_status, 
 use Rattle.host_files.specs.declared.image_file.Stamp.{Stamp}
 
 -- a run with a status from 1 to `most` ends as `IsEndWithin` requires
-ends_badly : (most : ℕ) (streams : Streams) (status : ℕ) → 1 ≤ status → status ≤ most → IsEndWithin most streams status
+pub ends_badly : (most : ℕ) (streams : Streams) (status : ℕ) → 1 ≤ status → status ≤ most → IsEndWithin most streams status
 ends_badly most streams status least within = record { within = within; whole = λ e. absurd (omega (arith, least, e)) }
 
 pub ends_told : (most : ℕ) (streams : Streams) (fault : Fault) (status : ℕ) → 4 ≤ most → IsTold streams fault status → IsEndWithin most streams status
@@ -72,6 +72,10 @@ most_few : (graded : Bool) → 4 ≤ (if graded then 6 else 4)
 most_few true = omega arith
 most_few false = omega arith
 
+or_true : (b : Bool) → (b || true) ≡ true
+or_true true = refl
+or_true false = refl
+
 -- the highest status of an export, graded or not, of an image that may be cut off or not
 abbrev most_of : Bool → Bool → ℕ
 most_of graded cut = if graded || cut then 6 else 4
@@ -106,26 +110,27 @@ ends_lines most told streams status (line ∷ lines) least within working said i
     let one : status ≡ told = is ∙ ap (λ (b : Bool). if b then 0 else told) some in
     ends_badly most streams status (omega (arith, one, least)) (omega (arith, one, within))
 
-ends_below : (edition : Edition) (image : List ℕ) (lost : List Bool) (start : ExportStart) (options : ExportOptions) (streams : Streams) (status : ℕ)
-    → (options.losses.cut ≡ false → lost ≡ []) → ExportsBelow edition image lost start options streams status
-    → IsEndWithin (most_of options.graded options.losses.cut) streams status
-ends_below edition image lost start options streams status none (whole founds walk is) =
-    let few = told_within options.graded options.losses.cut lost is.short none in
-    ends_lines (most_of options.graded options.losses.cut) (told_status (is_graded options.graded lost) is.short) streams status is.lines few.0 few.1 is.working is.said is.status
-ends_below edition image lost start options streams status none (broken founds walk is) =
-    ends_broken (most_of options.graded options.losses.cut) streams _ status (most_four options.graded options.losses.cut) is
-ends_below edition image lost start options streams status none (short founds walk is) =
-    let few = most_four options.graded options.losses.cut in
-    ends_badly (most_of options.graded options.losses.cut) streams status (omega (arith, is.status)) (omega (arith, is.status, few))
-ends_below edition image lost start options streams status none (unbegun told) =
-    ends_told (most_of options.graded options.losses.cut) streams no_memory status (most_four options.graded options.losses.cut) told
+-- the statuses of an export that isn't printed whole are at most `most`
+pub record IsMost (graded : Bool) (lost : List Bool) (most : ℕ) : Type 0 where
+  pub four : 4 ≤ most
+  pub told : (short : Bool) → told_status (is_graded graded lost) short ≤ most
+  pub unstarted : (fault : StartFault) → unstarted_status graded fault ≤ most
 
-ends_to : (edition : Edition) (image : List ℕ) (lost : List Bool) (start : ExportStart) (options : ExportOptions) (streams : Streams) (status : ℕ) (screen : Screen)
-    → (options.losses.cut ≡ false → lost ≡ []) → ExportsTo edition image lost start options streams status screen
-    → IsEndWithin (most_of options.graded options.losses.cut) streams status
-ends_to edition image lost start options streams status screens.Stream none exports = ends_below edition image lost start options streams status none exports
-ends_to edition image lost start options streams status (screens.Terminal columns colours) none told =
-    ends_told (most_of options.graded options.losses.cut) streams _ status (most_four options.graded options.losses.cut) told
+ends_below : (most : ℕ) (edition : Edition) (image : List ℕ) (lost : List Bool) (start : ExportStart) (options : ExportOptions) (streams : Streams) (status : ℕ)
+    → IsMost options.graded lost most → ExportsBelow edition image lost start options streams status → IsEndWithin most streams status
+ends_below most edition image lost start options streams status is_most (whole founds walk is) =
+    ends_lines most (told_status (is_graded options.graded lost) is.short) streams status is.lines (told_few (is_graded options.graded lost) is.short).0
+    (is_most.told is.short) is.working is.said is.status
+ends_below most edition image lost start options streams status is_most (broken founds walk is) = ends_broken most streams _ status is_most.four is
+ends_below most edition image lost start options streams status is_most (short founds walk is) =
+    let few = is_most.four in
+    ends_badly most streams status (omega (arith, is.status)) (omega (arith, is.status, few))
+ends_below most edition image lost start options streams status is_most (unbegun told) = ends_told most streams no_memory status is_most.four told
+
+ends_to : (most : ℕ) (edition : Edition) (image : List ℕ) (lost : List Bool) (start : ExportStart) (options : ExportOptions) (streams : Streams) (status : ℕ) (screen : Screen)
+    → IsMost options.graded lost most → ExportsTo edition image lost start options streams status screen → IsEndWithin most streams status
+ends_to most edition image lost start options streams status screens.Stream is_most exports = ends_below most edition image lost start options streams status is_most exports
+ends_to most edition image lost start options streams status (screens.Terminal columns colours) is_most told = ends_told most streams _ status is_most.four told
 
 -- the status of an export that can't start is at least 1, and at most 6 if it is graded, else 4
 unstarted_few : (graded cut : Bool) (fault : StartFault) → (1 ≤ unstarted_status graded fault) × (unstarted_status graded fault ≤ most_of graded cut)
@@ -137,15 +142,29 @@ unstarted_few graded cut (starts.Refused refusal) =
     let most = most_four graded cut in
     (few.0, omega (arith, few.1, most))
 
-ends_from : (edition : Edition) (image : List ℕ) (lost : List Bool) (options : ExportOptions) (screen : Screen) (streams : Streams) (status : ℕ)
-    (found : Result ExportStart StartFault) → (options.losses.cut ≡ false → lost ≡ []) → ExportsFrom edition image lost options screen streams status found
-    → IsEndWithin (most_of options.graded options.losses.cut) streams status
-ends_from edition image lost options screen streams status (Ok start) none exports =
-    ends_to edition image lost start options streams status screen none exports
-ends_from edition image lost options screen streams status (Err fault) none told =
-    let few = unstarted_few options.graded options.losses.cut fault in
-    ends_badly (most_of options.graded options.losses.cut) streams status (subst (λ n. 1 ≤ n) (sym told.status) few.0)
-    (subst (λ n. n ≤ most_of options.graded options.losses.cut) (sym told.status) few.1)
+-- the highest status of an export, of an image that may be cut off or not
+most_is : (graded cut : Bool) (lost : List Bool) → (cut ≡ false → lost ≡ []) → IsMost graded lost (most_of graded cut)
+most_is graded cut lost none = record {
+  four = most_four graded cut;
+  told = λ short. (told_within graded cut lost short none).1;
+  unstarted = λ fault. (unstarted_few graded cut fault).1;
+}
+
+-- the highest status of an export of an image of which some blocks couldn't be read
+pub most_six : (graded : Bool) (lost : List Bool) → IsMost graded lost 6
+most_six graded lost = record {
+  four = omega arith;
+  told = λ short. (told_few (is_graded graded lost) short).1;
+  unstarted = λ fault. subst (λ n. unstarted_status graded fault ≤ n) (ap (λ b. if b then 6 else 4) (or_true graded)) (unstarted_few graded true fault).1;
+}
+
+pub ends_from : (most : ℕ) (edition : Edition) (image : List ℕ) (lost : List Bool) (options : ExportOptions) (screen : Screen) (streams : Streams) (status : ℕ)
+    (found : Result ExportStart StartFault) → IsMost options.graded lost most → ExportsFrom edition image lost options screen streams status found
+    → IsEndWithin most streams status
+ends_from most edition image lost options screen streams status (Ok start) is_most exports = ends_to most edition image lost start options streams status screen is_most exports
+ends_from most edition image lost options screen streams status (Err fault) is_most told =
+    ends_badly most streams status (subst (λ n. 1 ≤ n) (sym told.status) (unstarted_few options.graded true fault).0)
+    (subst (λ n. n ≤ most) (sym told.status) (is_most.unstarted fault))
 
 -- no block is lost of an image that may not be cut off
 none_lost : (cut : Bool) (edition : Edition) (bytes image : List ℕ) (lost : List Bool) → IsReadAs cut edition bytes image lost → cut ≡ false → lost ≡ []
@@ -161,8 +180,8 @@ incomplete_few false false is = absurd (true≢false (sym is))
 ends_exports : (edition : Edition) (bytes path : List ℕ) (options : ExportOptions) (screen : Screen) (streams : Streams) (status : ℕ)
     → Exports edition bytes path options screen streams status → IsEndWithin (most_of options.graded options.losses.cut) streams status
 ends_exports edition bytes path options screen streams status (inl (image, lost, read, exports)) =
-    ends_from edition image lost options screen streams status (begun options.lost edition image path)
-    (none_lost options.losses.cut edition bytes image lost read) exports
+    ends_from (most_of options.graded options.losses.cut) edition image lost options screen streams status (begun options.lost edition image path)
+    (most_is options.graded options.losses.cut lost (none_lost options.losses.cut edition bytes image lost read)) exports
 ends_exports edition bytes path options screen streams status (inr (cut, inl (there, blocks, fault, is, line, told))) =
     let most = incomplete_few options.graded options.losses.cut cut in
     ends_badly (most_of options.graded options.losses.cut) streams status (omega (arith, told.status)) (omega (arith, told.status, most))

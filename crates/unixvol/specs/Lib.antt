@@ -1,6 +1,7 @@
 pub mod Compare
 pub mod Copies
 pub mod Editions
+pub mod ExportBad
 pub mod Identify
 pub mod Reports
 pub mod Resize

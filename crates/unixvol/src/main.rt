@@ -7,6 +7,7 @@ mod compare;
 mod copy;
 mod editions;
 mod explain;
+mod export_bad;
 mod guesses;
 mod hints;
 mod host;
@@ -35,7 +36,7 @@ use std::process::ExitCode;
 use std::rt::Clock;
 use std::time::{SystemTime, UNIX_EPOCH};
 
-/// Reads the words of the command line, and continues in one of eight functions. Each has only the rights that it needs: only commands with several
+/// Reads the words of the command line, and continues in one of nine functions. Each has only the rights that it needs: only commands with several
 /// threads may wait, only those that show part of an image may print something and fail, only a change and a server read standard input, and only
 /// those that copy files to the host save several files.
 fn main(rt: HostRuntime) -> ExitCode {
@@ -72,6 +73,14 @@ fn main(rt: HostRuntime) -> ExitCode {
         Ok(Invocation::Serve { volume, serving }) => {
             serve::run_to_end(&host, rt.stdin(), output, errors, volume, serving)
         }
+        Ok(
+            Invocation::ExportBad {
+                volume,
+                map,
+                path,
+                options,
+            },
+        ) => export_bad::run_to_end(&host, screen, output, errors, volume, map, path, options),
         Ok(Invocation::Diff { volume, other, by }) => {
             compare::run_to_end(&host, output, errors, volume, other, by)
         }

@@ -1,3 +1,5 @@
+pub mod BadLaws
+pub mod BadMarks
 pub mod CutLaws
 pub mod Agreement
 pub mod LostPaths

@@ -1,3 +1,4 @@
+pub mod BadImages
 pub mod CutImages
 pub mod Losses
 pub mod LossTexts

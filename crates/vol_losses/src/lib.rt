@@ -1,12 +1,14 @@
 //! The lost blocks of an image, and what of it can be trusted without them.
 #![tactic(auto)]
 
+pub mod bad_images;
 pub mod cut_images;
 pub mod laws;
 pub mod loss_texts;
 pub mod ranges;
 pub mod sure_blocks;
 
+pub use bad_images::rescued;
 pub use cut_images::{CutFault, CutImage, MOST_MISSING, completed, filled};
 pub use loss_texts::loss_text;
 pub use ranges::{LostRange, losses};

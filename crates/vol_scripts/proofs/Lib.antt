@@ -1,5 +1,3 @@
-pub mod DigitLemmas
-pub mod PieceLemmas
 pub mod ReadingLemmas
 pub mod TextLemmas
 pub mod EndingLemmas

@@ -5,7 +5,6 @@ pub mod Flaws
 pub mod Grammar
 pub mod Journal
 pub mod Numbers
-pub mod Pieces
 pub mod Scripts
 pub mod Refuse
 pub mod Report

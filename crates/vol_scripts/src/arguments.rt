@@ -5,7 +5,7 @@ ghost use Rattle.vol_scripts.specs.Scripts.{Reads};
 
 use crate::lines::LineFault;
 use crate::numbers::{bytes_in, long_in, permissions_in, short_in};
-use crate::pieces::Pieces;
+use line_words::Pieces;
 use std::alloc::Global;
 use vol_dir::Cred;
 use vol_volume::Bytes;

@@ -5,8 +5,8 @@ ghost use Rattle.vol_scripts.specs.Flaws.{cannot_become, flaw_from, flaw_in, for
 use crate::commands::Command;
 use crate::lines::LineFault;
 use crate::numbers::{bytes_in, long_in, permissions_in, short_in};
-use crate::pieces::Pieces;
 use command_faults::{LineFlaw, WordForm};
+use line_words::Pieces;
 use pdp_words::Bytes;
 use std::alloc::{AllocError, Global};
 

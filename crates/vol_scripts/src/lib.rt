@@ -8,7 +8,6 @@ mod flaws;
 mod journal;
 mod lines;
 mod numbers;
-mod pieces;
 pub mod played;
 pub mod read;
 mod report;

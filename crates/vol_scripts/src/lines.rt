@@ -9,8 +9,8 @@ use crate::arguments::{
 };
 use crate::commands::Command;
 use crate::numbers::long_in;
-use crate::pieces::Pieces;
 use crate::steps::ScriptStep;
+use line_words::Pieces;
 use std::alloc::{AllocError, Global};
 use vol_dir::Cred;
 use vol_volume::{Call, Query};

@@ -1,10 +1,12 @@
 //! Reads numbers and bytes in scripts.
-ghost use Rattle.std.specs.Prelude.{◌≡◌, ◌≤◌, ◌+◌, ◌*◌, SomeIff};
-ghost use Rattle.vol_scripts.specs.Numbers.{number_in, long_in, short_in, permissions_in, bytes_in};
+ghost use Rattle.std.specs.Prelude.{◌≡◌, ◌≤◌};
+ghost use Rattle.line_words.specs.Numbers.{number_in};
+ghost use Rattle.vol_scripts.specs.Numbers.{long_in, short_in, permissions_in, bytes_in};
 ghost use Rattle.vol_scripts.specs.Scripts.{Reads};
 
 use crate::lines::LineFault;
 use hex::FromHexError;
+use line_words::number_in;
 use std::alloc::Global;
 use vol_volume::Bytes;
 
@@ -15,7 +17,8 @@ const ALL_PERMISSIONS: u16 = 0o7777;
 pub(crate) fn long_in(word: &[u8]) -> Option<u32>
     ensures { result ≡ long_in word.now }
 {
-    number_in(10, u32::MAX, word)
+    let number = number_in(10, u64::from(u32::MAX), word)?;
+    Some(number as u32)
 }
 
 /// Reads a 16-bit decimal number.
@@ -38,33 +41,8 @@ fn short_number_in(radix: u32, most: u16, word: &[u8]) -> Option<u16>
     requires greatest { radix ≤ 36 }
     ensures { result ≡ number_in radix most word.now }
 {
-    let number = number_in(radix, u32::from(most), word)?;
+    let number = number_in(radix, u64::from(most), word)?;
     Some(number as u16)
-}
-
-/// Reads a number in this radix that is at most `most`: one or more digits, with leading zeros allowed and no sign. Costs the length of the word.
-fn number_in(radix: u32, most: u32, word: &[u8]) -> Option<u32>
-    requires least { 2 ≤ radix }
-    requires greatest { radix ≤ 36 }
-    ensures { result ≡ number_in radix most word.now }
-{
-    if word.is_empty() {
-        return None;
-    }
-    let mut number = 0;
-    'digits: for byte in word {
-        let digit = char::from(*byte).to_digit(radix)?;
-        number = with_digit(radix, most, number, digit)?;
-    }
-    Some(number)
-}
-
-/// Appends a digit to a number, or returns `None` if the result is above `most`.
-fn with_digit(radix: u32, most: u32, number: u32, digit: u32) -> Option<u32>
-    ensures { SomeIff result (number * radix + digit ≤ most) (number * radix + digit) }
-{
-    let number = number.checked_mul(radix)?.checked_add(digit)?;
-    (number <= most).then_some(number)
 }
 
 /// Reads bytes: two hexadecimal digits of either case for each byte, or a hyphen for no bytes. Costs the length of the word.

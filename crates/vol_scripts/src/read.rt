@@ -5,9 +5,9 @@ ghost use Rattle.vol_scripts.specs.Scripts.{ReadsScript, has_bad_start, ReadsScr
 
 use crate::flaws::{flaw_in, has_lasting};
 use crate::lines::{FromLine, LineFault};
-use crate::pieces::Pieces;
 use crate::steps::{Script, Sequence};
 use command_faults::{LineFlaw, WordForm};
+use line_words::Pieces;
 use std::alloc::{AllocError, Global};
 use vol_views::MOST_VIEWS;
 

@@ -8,6 +8,7 @@ Examples:
   unixvol export 7 disk.img /usr > usr.tar
   unixvol export --lost --status 7 damaged.img > all.tar
   unixvol export --cut 7 cut-off.img > whole-files.tar
+  unixvol export --bad rescue.map 7 rescued.img > whole-files.tar
 
 A POSIX ustar archive is written to standard output: files, directories and special files, with their permissions,
 owners and times of modification. The second and further names of a file are links to the first. Members are
@@ -42,6 +43,12 @@ lost, the lines on standard error say what is lost, and no more:
 A path through a directory with lost bytes may not be found, and with --lost files whose names are lost are below
 lost+found. A file that is left out may be whole in another copy of the image; nothing says that it isn't.
 
+With --bad, the image was copied from a medium of which some blocks couldn't be read, and MAPFILE is the map that GNU
+ddrescue kept of it. It is of all of IMAGE, also with --at. Each block of 512 bytes that the map doesn't call
+finished (+) as a whole is lost, whatever the image has in its place; so is each that the map doesn't cover, or that
+isn't wholly there, as with --cut. All else is as with --cut. If the super-block is lost, its sizes aren't known:
+rule 2 is broken.
+
 Status:
   0  everything was exported, and the volume is sound
   1  everything that entries lead to was exported, except what standard error says; or nothing was exported:
@@ -50,15 +57,17 @@ Status:
      `unixvol: 2 NoEntry`: there is no such file or directory
      `unixvol: 20 NotDirectory`: PATH isn't a directory, or leads through something that isn't one. Of a root that
      isn't one, --lost exports what is left
-     with --cut: blocks are lost, but nothing is damaged or left out
+     with --cut or --bad: blocks are lost, but nothing is damaged or left out
   2  the command line is wrong
   3  `unixvol: cannot read IMAGE`, or `unixvol: cannot write -`: standard output failed, or is a terminal
+     `unixvol: rescue.map: line 7: the size is no number`: MAPFILE can't be read, and nothing was exported
   4  `unixvol: 12 NoMemory`
   5  with --status: something was left out, as standard error says; 1 then means that the volume isn't sound, but
      nothing was left out, or that PATH leads to no directory, and nothing was exported
-     with --cut: something is damaged or left out, as standard error says
+     with --cut or --bad: something is damaged or left out, as standard error says
   6  with --status: rule 1 or 2 doesn't hold, so the image has no volume of this edition, and nothing was exported
-     `unixvol: the image has 2 of 2000000 blocks`: more than 1048576 blocks are missing for --cut";
+     `unixvol: the image has 2 of 2000000 blocks`: more than 1048576 blocks are missing for --cut
+     or --bad";
 
 pub const BELOW: &str = "The directory's path in the volume; by default, the root";
 
@@ -67,5 +76,8 @@ pub const GRADED: &str =
 
 pub const CUT: &str = "Read an image that was cut off, and export the files that are whole";
 
+pub const BAD: &str =
+    "Export the files that are whole in what was read of IMAGE, by the map that ddrescue kept of it";
+
 pub const DAMAGED: &str =
-    "With --cut, export damaged files too, with zeros in place of the bytes that are lost";
+    "With --cut or --bad, export damaged files too, with zeros in place of the bytes that are lost";

@@ -2,7 +2,7 @@ use Rattle.std.proofs.Common.{◌∙◌, [], ◌∷◌, List, ℕ, ap, arith, sy
 use Rattle.command_faults.specs.declared.line_flaw.WordForm.{WordForm}
 use Rattle.command_faults.specs.declared.line_flaw.WordForm.TheVariants as forms
 use Rattle.vol_scripts.specs.Flaws.{flaw_from}
-use Rattle.vol_scripts.proofs.PieceLemmas.{space, space_split}
+use Rattle.line_words.proofs.PieceLemmas.{space, space_split}
 use Rattle.vol_scripts.proofs.flaws.flaw_in.Goals as goal
 
 pub words-init : goal.words-init

@@ -1,6 +1,6 @@
 use Rattle.std.proofs.Common.{◌≡◌, ◌+◌, length}
 use Rattle.vol_scripts.specs.Flaws.{flaw_from, flaw_in}
-use Rattle.vol_scripts.proofs.PieceLemmas.{space}
+use Rattle.line_words.proofs.PieceLemmas.{space}
 use Rattle.vol_scripts.proofs.flaws.flaw_in.Given as goal
 
 -- Invariant: the first flaw of the line is the first flaw of the remaining words, and they end where the line ends.

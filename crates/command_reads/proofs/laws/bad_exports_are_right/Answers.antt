@@ -1,0 +1,5 @@
+use Rattle.command_reads.proofs.BadExports.{bad_exports_right}
+use Rattle.command_reads.proofs.laws.bad_exports_are_right.Goals as goal
+
+pub returns : goal.returns
+returns c = bad_exports_right

@@ -1,0 +1,53 @@
+-- Images of which some blocks couldn't be read, with zeros in their place.
+use Rattle.std.specs.Prelude.{◌≡◌, ◌⊎◌, ℕ, ◌+◌, ◌*◌, ◌/◌, ◌<◌, ◌&&◌, not, nat_lt, if◌then◌else◌, List, [], length, slice_index, Bool, true}
+use Rattle.std.specs.List.{list_any}
+use Rattle.bad_maps.specs.Maps.{covers, is_read, is_read_from}
+use Rattle.bad_maps.specs.declared.maps.ReadRange.{ReadRange}
+use Rattle.vol_layout.specs.Geometry.{Fits}
+use Rattle.vol_layout.specs.declared.edition.Edition.{Edition}
+use Rattle.vol_layout.specs.declared.geometry.Geometry.{Geometry}
+use Rattle.vol_losses.specs.CutImages.{IsCompleted, IsIncomplete}
+use Rattle.vol_losses.specs.Losses.{is_lost, AgreesOutside}
+use Rattle.vol_losses.specs.declared.cut_images.CutFault.{CutFault}
+use Rattle.vol_losses.specs.declared.cut_images.CutFault.TheVariants.{NoMemory, TooShort}
+
+-- true if a range of the bytes that were read has all bytes of block k of a volume that begins at this block of a file (this project)
+abbrev pub is_block_in : ℕ → ℕ → ReadRange → Bool
+is_block_in at k range = covers (512 * (at + k)) 512 range
+
+-- true if all bytes of block k of a volume that begins at this block of a file were read (this project)
+abbrev pub is_block_read : List ReadRange → ℕ → ℕ → Bool
+is_block_read ranges at k = is_read_from ranges (512 * (at + k)) 512
+
+-- the whole blocks of these bytes of a volume that begins at this block of a file, with zeros in place of each block that wasn't read whole (this
+-- project)
+pub record IsCleared (ranges : List ReadRange) (at : ℕ) (bytes cleared : List ℕ) : Type 0 where
+  pub count : length cleared ≡ 512 * (length bytes / 512)
+  pub block : (k r : ℕ) → k < length bytes / 512 → r < 512
+      → slice_index cleared (512 * k + r) ≡ (if is_block_read ranges at k then slice_index bytes (512 * k + r) else 0)
+
+-- the image of a volume that begins at this block of a file, from its bytes and the ranges of the file that were read: each block that isn't whole in
+-- the bytes, or wasn't read whole, is lost, and reads as zeros; there are no marks if no block is lost (this project)
+pub record IsRescued (edition : Edition) (ranges : List ReadRange) (at : ℕ) (bytes image : List ℕ) (lost : List Bool) : Type 0 where
+  pub cleared : List ℕ
+  pub zeros : IsCleared ranges at bytes cleared
+  pub missing : List Bool
+  pub completed : IsCompleted edition cleared image missing
+  pub marks : (k : ℕ) → k < length image / 512 → is_lost lost k ≡ not (nat_lt k (length bytes / 512) && is_block_read ranges at k)
+  pub count : (lost ≡ []) ⊎ ((length lost ≡ length image / 512) × (list_any (λ mark. mark) lost ≡ true))
+
+-- the reason why the image of a volume can't be rescued: memory ran out, or its super-block, if it was read, states too many blocks that are missing
+-- (this project)
+abbrev pub IsUnrescued : Edition → List ReadRange → ℕ → List ℕ → CutFault → Type 0
+IsUnrescued edition ranges at bytes NoMemory = Unit {0}
+IsUnrescued edition ranges at bytes (TooShort there blocks) =
+    (cleared : List ℕ) × IsCleared ranges at bytes cleared × IsIncomplete edition cleared (TooShort there blocks)
+
+-- the volume, which begins at this block of a file, has each of these bytes that was read (this project)
+pub record HasRead (ranges : List ReadRange) (at : ℕ) (bytes volume : List ℕ) : Type 0 where
+  pub kept : (n : ℕ) → n < length bytes → is_read ranges (512 * at + n) ≡ true → slice_index volume n ≡ slice_index bytes n
+
+-- every volume that has the bytes that were read agrees with the rescued image outside the lost blocks (this project's law)
+abbrev pub RescuesAgree : Type 0
+RescuesAgree = (geometry : Geometry) (edition : Edition) (ranges : List ReadRange) (at : ℕ) (bytes volume image : List ℕ) (lost : List Bool) → Fits geometry image
+    → IsRescued edition ranges at bytes image lost → HasRead ranges at bytes volume → AgreesOutside geometry lost image volume

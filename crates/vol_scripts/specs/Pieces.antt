@@ -1,9 +1,0 @@
--- The remaining pieces of some bytes.
-use Rattle.std.specs.Prelude.{ℕ, ◌==◌, List, [], Option, Some, None}
-use Rattle.std.specs.Borrow.{Bor}
-use Rattle.std.specs.List.{slice_split}
-
--- the pieces of the remaining bytes, split at the separator; none if no bytes remain (this project)
-abbrev pub pieces_left : ℕ → Option (Bor (List ℕ)) → List (List ℕ)
-pieces_left separator None = []
-pieces_left separator (Some rest) = slice_split (λ b. b == separator) rest.now

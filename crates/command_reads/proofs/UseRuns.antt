@@ -1,9 +1,8 @@
 -- Runs of blocks with one use.
-use Rattle.std.proofs.Common.{◌≡◌, ◌∙◌, ap, sym, ℕ, ◌+◌, ◌<◌, Bool, true, false, if◌then◌else◌, List, [], ◌∷◌, ◌++◌, add-one, append_assoc, drop, drop-cons, get_or, length, refl}
+use Rattle.std.proofs.Common.{◌≡◌, ◌∙◌, ap, sym, Bool, true, false, if◌then◌else◌, List, [], ◌∷◌, ◌++◌, append_assoc, refl}
 use Rattle.std.specs.Str.{bytes_eq}
 use Rattle.vol_inspect.specs.Pictures.{name}
 use Rattle.vol_inspect.specs.declared.uses.Use.{Use}
-use Rattle.vol_inspect.specs.declared.uses.Use.TheVariants as uses
 use Rattle.command_reads.specs.MapJson.{longer, next, runs_from}
 use Rattle.command_reads.specs.declared.map_json.UseRun.{UseRun}
 
@@ -26,7 +25,3 @@ taken_other found run u us is =
 pub runs_end : (run : UseRun) → runs_from run [] ≡ run ∷ []
 unfolding runs_from
 runs_end run = refl
-
--- the uses that are left begin with the one at index `i`
-pub left_from : (us : List Use) (i : ℕ) → i < length us → drop i us ≡ get_or us i uses.Boot ∷ drop (i + 1) us
-left_from us i low = drop-cons us i uses.Boot low ∙ ap (λ n. get_or us i uses.Boot ∷ drop n us) (sym (add-one i))

@@ -1,5 +1,5 @@
 -- An invocation can only be read from valid words; if a word isn't valid, there is no invocation.
-use Rattle.std.proofs.Common.{◌≡◌, ◌⊎◌, ◌∙◌, ◌≤◌, ◌∷◌, ℕ, Bool, true, false, List, [], Option, None, Some, codes, length, map, sym, ap, subst, inl, inr, Result, Ok, Err, IfErr}
+use Rattle.std.proofs.Common.{slice_get, ◌≡◌, ◌⊎◌, ◌∙◌, ◌≤◌, ◌∷◌, ℕ, Bool, true, false, List, [], Option, None, Some, codes, length, map, sym, ap, subst, inl, inr, Result, Ok, Err, IfErr}
 use Rattle.std.specs.Borrow.{Bor}
 use Rattle.std.proofs.lemmas.List.{length-map}
 use Rattle.vol_dir.specs.declared.cred.Cred.{Cred}

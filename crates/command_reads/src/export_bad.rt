@@ -45,7 +45,7 @@ pub fn export_bad<O: Sink>(
     output: &mut O,
 ) -> Ending
     ensures { (errors : ErrorStream) → Hears errors result.fault
-        → ExportsBad edition image.items map path.now options screen (streams O.contents O.failed output.old output.new errors) result.status }
+        → ExportsBad edition image.items map.entry path.now options screen (streams O.contents O.failed output.old output.new errors) result.status }
 {
     match read_map(alloc, &map.text) {
         Ok(ranges) => export_rescued(

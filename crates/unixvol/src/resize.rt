@@ -1,8 +1,7 @@
 //! `resize`: opening and saving its file.
 ghost use Rattle.std.specs.Prelude.{◌≡◌, Bool, List, Option, ℕ};
 ghost use Rattle.command_faults.specs.Streams.{ErrorStream, Hears, still};
-ghost use Rattle.unixvol.specs.Resize.{RunsResize, SavesResized};
-ghost use Rattle.unixvol.specs.Runs.{Ends, EndsSaved, host_files};
+ghost use Rattle.unixvol.specs.Runs.{Ends, EndsSaved, RunsResize, SavesResized, host_files};
 
 use crate::host::Surroundings;
 use crate::place::{expect_place, has_only};

@@ -36,7 +36,9 @@ const looks = (edition, image) => [
     ['block', edition, image, '4'], ['block', edition, image, '14'], ['block', '--json', edition, image, '14'], ['find', '--json', edition, image],
     ['map', '--json', edition, image], ['check', edition, image], ['check', '--json', edition, image],
     ['check', '--status', edition, image], ['icheck', edition, image, '1'], ['icheck', edition, image, '4'], ['dcheck', edition, image, '2'],
-    ['ncheck', edition, image, '3'], ['identify', image], ['identify', image, image],
+    ['ncheck', edition, image, '3'], ['identify', image], ['identify', image, image], ['dump', edition, image, '1'],
+    ['dump', edition, image, '-i', '/etc/motd'], ['diff', edition, image, `sound.v${edition}`, '--fields'], ['export', '--cut', edition, image],
+    ['export', '--cut', '--damaged', edition, image],
 ];
 
 /** The commands that change one. */
@@ -50,8 +52,10 @@ const changes = (edition, image) => [
     ['migrate', image, 'new.v7', '400', '20', NOW],
 ];
 
-/** Those that need no image. */
+/** Those that need no image, or a pack with volumes at its blocks 9 and 30. */
 const others = [
+    ['identify', 'pack'], ['ls', '-lR', '7', 'pack', '--at', '9'], ['cat', '6', 'pack', '/etc/motd', '--at', '30'], ['check', '7', 'pack', '--at', '8'],
+    ['check', '7', 'pack', '--at', '9000'], ['put', '7', 'pack', '/new', 'text', NOW, '--at', '9'], ['rm', '-r', '6', 'pack', '/etc', NOW, '--at', '30'],
     ['mkfs', '7', 'made', '500', '20', '0', '0', NOW], ['mkfs', '6', 'made', 'rk05', '20', '1', '1', NOW],
     ['mkfs', '--new', '7', 'text', '500', '20', '0', '0', NOW], ['mkfs', '7', 'text', '300', '10', '0', '0', NOW], ['mkfs', '7', 'made', '2'],
     ['mkfs', '7', 'no/made', '300'], ['check', '7', 'missing'], ['check', '7', '.'], ['--explain', 'check', '7', 'missing'],
@@ -77,6 +81,8 @@ function base() {
     const images = ['hello.v6', 'linux_made.v7', ...lessons.sort().map((name) => path.join('lessons', name))];
     const files = new Map(images.map((name) => [path.basename(name), fs.readFileSync(path.join(samples, name))]));
     files.set('text', Buffer.from('some text\n'.repeat(700)));
+    const filler = [9, 5, 3].map((blocks) => Buffer.alloc(512 * blocks, 'filler'));
+    files.set('pack', Buffer.concat([filler[0], files.get('sound.v7'), filler[1], files.get('sound.v6'), filler[2]]));
     files.set('script', Buffer.from('1000 0 0 mkdir /made 755\n1000 3 5 create /f 644\n1000 0 0 link /f /made/g\n1000 0 0 unlink /f\n'));
     return files;
 }

@@ -15,6 +15,7 @@ HOST(close) int64_t host_close(int file);
 HOST(stats) int64_t host_stats(int file, void *found);
 HOST(stats_at) int64_t host_stats_at(const char *path, int follows, void *found);
 HOST(truncate) int64_t host_truncate(int file, int64_t size);
+HOST(seek) int64_t host_seek(int file, int64_t offset, int from);
 HOST(chmod) int64_t host_chmod(int file, int mode);
 HOST(chown) int64_t host_chown(int file, int user, int group);
 HOST(times) int64_t host_times(int file, const void *times);
@@ -36,7 +37,6 @@ enum {
     EAGAIN = 11,
     EINVAL = 22,
     ENOTTY = 25,
-    ESPIPE = 29,
     ERANGE = 34,
     ENOSYS = 38,
 };
@@ -87,13 +87,7 @@ int statx(int folder, const char *path, int flags, unsigned wanted, void *found)
 }
 
 int ftruncate(int file, int64_t size) { return (int)answered(host_truncate(file, size)); }
-
-// The host's files are read and written from their beginning on. The program seeks only in a file with holes, and here none counts as one.
-int64_t lseek(int file, int64_t offset, int from) {
-    (void)file, (void)offset, (void)from;
-    return refused(ESPIPE);
-}
-
+int64_t lseek(int file, int64_t offset, int from) { return answered(host_seek(file, offset, from)); }
 int fchmod(int file, int mode) { return (int)answered(host_chmod(file, mode)); }
 int fchown(int file, int user, int group) { return (int)answered(host_chown(file, user, group)); }
 int futimens(int file, const void *times) { return (int)answered(host_times(file, times)); }

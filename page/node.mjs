@@ -4,7 +4,7 @@ import fs from 'node:fs';
 import path from 'node:path';
 import tty from 'node:tty';
 import { fileURLToPath } from 'node:url';
-import { FLAGS, start } from './unixvol.mjs';
+import { FLAGS, HostError, sought, start } from './unixvol.mjs';
 
 /** The most bytes that one call of the system moves. */
 const MOST = 1 << 30;
@@ -40,15 +40,52 @@ function moved(move) {
 /** The name of a file as the system takes it. */
 const named = (bytes) => Buffer.from(bytes);
 
+/** Where the open files and disks are read and written, since Node itself can't seek. Pipes and terminals have no such place. */
+const places = new Map();
+
+/** Moves bytes between a file and `bytes`, at the file's place if it has one. */
+function passed(move, descriptor, bytes) {
+    const at = places.get(descriptor) ?? null;
+    const count = moved(() => move(descriptor, bytes, 0, Math.min(bytes.length, MOST), at));
+    if (at !== null) places.set(descriptor, at + count);
+    return count;
+}
+
+/** True if a disk that can be read ends before `at`. */
+function endsBefore(descriptor, at) {
+    try {
+        return at > 0 && fs.readSync(descriptor, Buffer.alloc(1), 0, 1, at - 1) === 0;
+    } catch (error) {
+        if (error.code !== 'EBADF') throw error;
+        return false;
+    }
+}
+
 /** The files of this machine. Node can't lock any. */
 const machine = {
     open(name, flags, mode) {
         const known = NODE_FLAGS.filter(([flag]) => flags & flag).reduce((all, [, flag]) => all | flag, 0);
-        return fs.openSync(named(name), known, mode);
+        const descriptor = fs.openSync(named(name), known, mode);
+        const stats = fs.fstatSync(descriptor);
+        if ((stats.isFile() || stats.isBlockDevice()) && !(flags & FLAGS.APPEND)) places.set(descriptor, 0);
+        return descriptor;
     },
-    read: (descriptor, into) => moved(() => fs.readSync(descriptor, into, 0, Math.min(into.length, MOST), null)),
-    write: (descriptor, bytes) => moved(() => fs.writeSync(descriptor, bytes, 0, Math.min(bytes.length, MOST), null)),
-    close: (descriptor) => fs.closeSync(descriptor),
+    read: (descriptor, into) => passed(fs.readSync, descriptor, into),
+    write: (descriptor, bytes) => passed(fs.writeSync, descriptor, bytes),
+    seek(descriptor, offset, from) {
+        const at = places.get(descriptor);
+        const stats = fs.fstatSync(descriptor);
+        const isDisk = !stats.isFile();
+        if (at === undefined || (isDisk && from === 2)) throw new HostError('ESPIPE');
+        const to = sought(offset, from, at, stats.size);
+        if (isDisk && endsBefore(descriptor, to)) throw new HostError('EINVAL'); // as Linux says it
+        places.set(descriptor, to);
+        return to;
+    },
+    close(descriptor) {
+        places.delete(descriptor);
+        fs.closeSync(descriptor);
+    },
     stats: (descriptor) => fs.fstatSync(descriptor, { bigint: true }),
     statsAt: (name, follows) => (follows ? fs.statSync : fs.lstatSync)(named(name), { bigint: true }),
     truncate: (descriptor, size) => fs.ftruncateSync(descriptor, size),

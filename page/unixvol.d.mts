@@ -64,6 +64,9 @@ export class HostError extends Error {
     readonly code: string;
 }
 
+/** Returns the offset that `Host.seek` leads to, in a file of `size` bytes that is read and written at `at`. */
+export function sought(offset: number, from: number, at: number, size: number): number;
+
 /** What a host knows of a file: a part of Node's `fs.BigIntStats`. The kind of the file is in its mode. */
 export type Stats = Record<'mode' | 'size' | 'blocks' | 'nlink' | 'uid' | 'gid' | 'ino' | 'dev' | 'atimeNs' | 'ctimeNs' | 'mtimeNs', bigint>;
 
@@ -77,6 +80,8 @@ export interface Host {
     stats(descriptor: number): Stats;
     statsAt(path: Uint8Array, follows: boolean): Stats;
     truncate(descriptor: number, size: number): void;
+    /** Moves to an offset from the beginning (`from` is 0), from where the file is read and written now (1) or from its end (2), and returns where that is. */
+    seek(descriptor: number, offset: number, from: number): number;
     chmod(descriptor: number, mode: number): void;
     /** -1 leaves the user or the group as it is. */
     chown(descriptor: number, user: number, group: number): void;

@@ -34,6 +34,13 @@ export class HostError extends Error {
     }
 }
 
+/** Returns the offset that a seek leads to, in a file of `size` bytes that is read and written at `at`. `from` is Linux's number. */
+export function sought(offset, from, at, size) {
+    const to = offset + [0, at, size][from];
+    if (!(to >= 0)) throw new HostError('EINVAL');
+    return to;
+}
+
 /** The end of a run at a call of the host. */
 class Ended {
     constructor(status) {
@@ -95,8 +102,7 @@ class Memory {
         view.setUint16(28, Number(stats.mode), true);
         view.setBigUint64(32, BigInt.asUintN(64, stats.ino), true);
         view.setBigUint64(40, stats.size, true);
-        // Every file counts as without holes, since the program can't seek in it to make some.
-        view.setBigUint64(48, (stats.size + 511n) / 512n, true);
+        view.setBigUint64(48, stats.blocks, true);
         this.#giveTime(view, 64, stats.atimeNs);
         this.#giveTime(view, 96, stats.ctimeNs);
         this.#giveTime(view, 112, stats.mtimeNs);
@@ -155,6 +161,7 @@ function calls(memory, words, env, host) {
         stats: (descriptor, to) => tried(() => memory.giveStats(host.stats(descriptor), to)),
         stats_at: (path, follows, to) => tried(() => memory.giveStats(host.statsAt(memory.path(path), follows !== 0), to)),
         truncate: (descriptor, size) => tried(() => host.truncate(descriptor, Number(size))),
+        seek: (descriptor, offset, from) => tried(() => host.seek(descriptor, Number(offset), from)),
         chmod: (descriptor, mode) => tried(() => host.chmod(descriptor, mode)),
         chown: (descriptor, user, group) => tried(() => host.chown(descriptor, user, group)),
         times: (descriptor, at) => tried(() => host.times(descriptor, memory.time(at), memory.time(at + 16n))),
@@ -371,6 +378,13 @@ class InMemory {
 
     truncate(descriptor, size) {
         setSize(this.#fileAt(descriptor), size);
+    }
+
+    seek(descriptor, offset, from) {
+        if (descriptor < 3) throw new HostError('ESPIPE');
+        const open = this.#at(descriptor);
+        open.at = sought(offset, from, open.at, this.#fileAt(descriptor).size);
+        return open.at;
     }
 
     chmod(descriptor, mode) {

@@ -6,6 +6,7 @@ import { start, unixvol } from './engine.mjs';
 import { showFile } from './file.mjs';
 import { lessonText, showLessons } from './lessons.mjs';
 import { showMap } from './map.mjs';
+import { showPlay } from './play.mjs';
 import { choose, go, on, open, refill, setEdition, state, undo } from './shelf.mjs';
 import { saveImage, showChanges, showImages, showShell, verdict } from './tables.mjs';
 import { readTree, showTree } from './tree.mjs';
@@ -22,6 +23,7 @@ const TABS = {
   volume: { name: 'Volume', show: showVolume, needs: 'volume' },
   find: { name: 'Find', show: showFind, needs: 'volume' },
   changes: { name: 'Changes', show: showChanges, needs: 'image' },
+  play: { name: 'Scripts', show: showPlay, needs: 'volume' },
   shell: { name: 'Command line', show: showShell },
   lessons: { name: 'Lessons', show: showLessons },
 };

@@ -211,7 +211,8 @@ export async function refill() {
 
 /** Runs a command over the image as it was after its first `count` changes, and after one more; the two are files beside the others meanwhile. */
 export async function runBetween(image, count, words) {
-  const names = [await versionOf(image, count), await versionOf(image, count + 1)];
+  const isLast = count + 1 === image.done.length;
+  const names = [await copyOf(image, count, count), isLast ? image.name : await copyOf(image, count + 1, count + 1)];
   try {
     return await runs(words(...names));
   } finally {
@@ -219,12 +220,10 @@ export async function runBetween(image, count, words) {
   }
 }
 
-/** Returns the name of a file with the image as it was after its first `count` changes: the image itself, if there were no more. */
-async function versionOf({ name, source, done, size }, count) {
-  if (count === done.length) return name;
-  const fresh = freshName(`${name}.${count}`);
-  const made = done.slice(0, count);
-  const ranges = made.flatMap((it) => it.ranges);
+/** Makes a file with the image as it was after its first `count` changes. Returns its name, which ends with `label`. */
+export async function copyOf({ name, source, done, size }, count, label) {
+  const fresh = freshName(`${name}.${label}`);
+  const ranges = done.slice(0, count).flatMap((it) => it.ranges);
   await ask('add', { name: fresh, blob: source, ranges, size: done[count]?.before ?? size });
   return fresh;
 }

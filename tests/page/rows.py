@@ -322,6 +322,42 @@ def check_scripts(page, native):
     has("a pipe", native.out("ls", 7, "played.v7").splitlines()[-1] + "\n", page.types("ls 7 played.v7 | tail -n 1"))
 
 
+def check_play(page, native):
+    """Two scripts in the tab for them: what each line came to, and what each call of the journal changed."""
+    page.lesson("sound.v7")
+    shutil.copy(f"{LESSONS}/sound.v7", native.path("scripts.v7"))
+    scripts = [
+        "1000 0 0 mkdir /a 755\n1001 0 0 create /a/b 644\n1002 0 0 write /a/b 0 616263\n1003 0 0 unlink /none\n",
+        "1000 0 0 chmod /welcome 600\n1001 0 0 stat /etc/motd\n1002 0 0 rmdir /etc",
+    ]
+    page.tab("play")
+    for k, text in enumerate(scripts, 1):
+        native.write(f"script{k}", text.rstrip("\n").encode() + b"\n")
+        page.js(f"const it = document.getElementById('script-{k}'); it.value = {text!r}; it.dispatchEvent(new Event('input'))")
+    page.click("#play")
+    page.rests()
+    page.shows("play")
+    wanted = native.out("play", "--journal", 7, "scripts.v7", "script1", "script2").splitlines()
+    rows = page.js("return [...document.querySelectorAll('#results tbody tr')].map((it) => [...it.cells].map((one) => one.textContent))")
+    # The calls of two scripts may be made in another order, so a new i-node may have another number.
+    has("the results of two scripts", [it for it in wanted if "." in it.split()[0]], [f"{line} {came.removeprefix('✗ ')}" for line, _, came in rows])
+    has("the calls beside them", [it for text in scripts for it in text.splitlines()], [call for _, call, _ in rows])
+    calls = page.text("#journal").splitlines()
+    has("the journal", sorted(it for it in wanted if re.match(r"\d+ \d+ \d+ ", it)), sorted(calls))
+    page.click("#step")
+    page.wait("document.querySelector('#fields pre')")
+    for k, call in enumerate(calls):
+        shutil.copy(f"{LESSONS}/sound.v7", native.path("older.v7"))
+        shutil.copy(f"{LESSONS}/sound.v7", native.path("newer.v7"))
+        for name, count in ("older.v7", k), ("newer.v7", k + 1):
+            native.write("calls", "".join(f"{it}\n" for it in calls[:count]).encode())
+            native.run("play", 7, name, "calls")
+        has(f"call {k + 1}", call, page.text("#call"))
+        has(f"what call {k + 1} changed", native.out("diff", 7, "older.v7", "newer.v7", "--fields"), page.text("#fields pre"))
+        page.click("[aria-label='the next one']")
+        page.rests()
+
+
 def check_packed(page, _):
     """The page is what pack.py makes of these files, byte for byte."""
     module = os.path.join(os.path.dirname(page.path), "unixvol.wasm")
@@ -501,8 +537,8 @@ def check_quiet(page, _):
 
 
 ROWS = [
-    check_packed, check_open, check_views, check_lessons, check_ten_steps, check_changes, check_scripts, check_new, check_bytes, check_damaged, check_several,
-    check_keys, check_bounds, check_large, check_quiet,
+    check_packed, check_open, check_views, check_lessons, check_ten_steps, check_changes, check_scripts, check_play, check_new, check_bytes, check_damaged,
+    check_several, check_keys, check_bounds, check_large, check_quiet,
 ]
 
 

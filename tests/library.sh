@@ -119,8 +119,9 @@ test_python() {
     runs 'list_all' grep -q '^drwxr-xr-x   2   0     688 ....-..-.. ..:.. games$' "$room/all"
     if [ -x "$program" ]; then
         runs 'saves of Python and of the program' python3 bindings/python/tests/beside_program.py "$program" "$room"
+        runs 'volumes of packs as the program finds them' python3 bindings/python/tests/packs_beside_program.py "$program" "$room"
     else
-        skips "$program is not built: saves of Python and of the program"
+        skips "$program is not built: saves of Python and of the program, and the volumes that both find"
     fi
     unset PYTHONPATH
     if python3 -m pip --version > "$room/output" 2>&1; then

@@ -20,7 +20,7 @@ from pathlib import Path
 from unittest import mock
 
 import unixvol
-from unixvol import _files
+from unixvol import _files, _scan
 
 SAMPLES = Path(__file__).resolve().parents[3] / "samples"
 MOMENT = 300000000
@@ -586,6 +586,50 @@ class Packs(InFolder):
             mended = unixvol.salvage(source, 7, at=self.AT)
             self.assertEqual((len(mended), unixvol.judge(mended, 7)), (len(whole), None))
 
+    def test_volumes(self):
+        six, seven = (bytes(made(edition)) for edition in (6, 7))
+        broken = bytearray(seven)
+        # The link count of the root, i-node 2.
+        broken[1024 + 64 + 2] += 1
+        data = bytes(512 * 5) + six + b"between " * 64 + broken + seven + bytes(700)
+        self.name.write_bytes(data)
+        wanted = [(5, 6, 400, None), (406, 7, 400, 12), (806, 7, 400, None)]
+        for source in self.name, data:
+            found = unixvol.volumes(source)
+            self.assertEqual([(it.at, it.edition, it.blocks, it.rule) for it in found], wanted)
+            self.assertEqual([it.is_sound for it in found], [True, False, True])
+            for it in found:
+                self.assertEqual(unixvol.judge(source, it.edition, at=it.at), it.rule)
+        # A volume that has all of its blocks is found, with bytes after it or none.
+        self.assertEqual(unixvol.volumes(seven), [unixvol.PackVolume(0, 7, 400, None)])
+        self.assertEqual(unixvol.volumes(seven + b"x"), [unixvol.PackVolume(0, 7, 400, None)])
+        for nothing in b"", bytes(5000), seven[:-1], seven[512:], (SAMPLES / "linux_made.txt").read_bytes():
+            self.assertEqual(unixvol.volumes(nothing), [])
+        self.assertRaises(FileNotFoundError, unixvol.volumes, self.folder / "none")
+
+    def test_volumes_that_are_far_apart(self):
+        image = bytes(made())
+        with builtins.open(self.name, "wb") as file:
+            for at in 2047, 2447, 6000:
+                file.seek(512 * at)
+                file.write(image)
+        self.assertEqual([it.at for it in unixvol.volumes(self.name)], [2047, 2447, 6000])
+
+    def test_volumes_in_a_volume(self):
+        # A volume that is a file of another one isn't a volume of the pack.
+        with unixvol.mkfs(7, 900, 12, now=MOMENT) as volume:
+            (volume / "inner").write_bytes(bytes(made()))
+            self.pack(bytes(volume))
+        self.assertEqual(unixvol.volumes(self.name), [unixvol.PackVolume(self.AT, 7, 900, None)])
+
+    def test_a_pack_that_becomes_shorter(self):
+        self.name.write_bytes(bytes(1 << 22))
+        with builtins.open(self.name, "rb") as file:
+            seek = file.seek
+            with mock.patch.object(_scan, "PIECE", 1 << 20):
+                found = _scan.find_volumes(mock.Mock(seek=lambda *to: max(seek(*to), 1 << 23), read=file.read))
+                self.assertRaisesRegex(ValueError, "became shorter", list, found)
+
     def test_a_pipe(self):
         with made() as volume:
             self.pack(bytes(volume))
@@ -595,6 +639,10 @@ class Packs(InFolder):
         writer.start()
         with unixvol.open(self.folder / "pipe", 7, at=self.AT) as volume:
             self.assertTrue((volume / "etc/motd").is_file())
+        writer.join()
+        writer = threading.Thread(target=(self.folder / "pipe").write_bytes, args=(data,))
+        writer.start()
+        self.assertEqual(unixvol.volumes(self.folder / "pipe"), [unixvol.PackVolume(self.AT, 7, 400, None)])
         writer.join()
 
     def test_holes(self):

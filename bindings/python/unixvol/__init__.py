@@ -44,7 +44,7 @@ from ._faults import (
     Unsound,
 )
 from ._paths import Stat, VolumePath
-from ._volume import About, Volume, explain, judge, mkfs, open, salvage
+from ._volume import About, PackVolume, Volume, explain, judge, mkfs, open, salvage, volumes
 
 __all__ = [
     "About",
@@ -67,6 +67,7 @@ __all__ = [
     "NotEmpty",
     "NotOwner",
     "NotRegular",
+    "PackVolume",
     "Refusal",
     "Stat",
     "TooBig",
@@ -81,4 +82,5 @@ __all__ = [
     "mkfs",
     "open",
     "salvage",
+    "volumes",
 ]

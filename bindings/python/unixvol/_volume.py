@@ -2,18 +2,20 @@
 
 from __future__ import annotations
 
+import builtins
 import ctypes
 import io
 import os
 import threading
 from dataclasses import dataclass
-from typing import Any, Literal
+from typing import Any, BinaryIO, Literal
 
 from ._faults import NoReport, Unsound, check
 from ._files import ImageFile, Part, read_image
-from ._packs import read_volume
+from ._packs import BLOCK, read_volume
 from ._library import Handle, Moment, Sizes, function, room, seconds, word
 from ._paths import VolumePath
+from ._scan import find_volumes
 
 # A file's name, or an image's bytes.
 Source = str | os.PathLike[str] | bytes | bytearray | memoryview
@@ -31,6 +33,22 @@ class About:
     data_start: int
     free_blocks: int
     last_inode: int
+
+
+@dataclass(frozen=True)
+class PackVolume:
+    """A volume that was found in a file: the block of 512 bytes that it begins at, its edition, its number of blocks, and
+    the least of the twelve rules that it breaks, or None if it is sound."""
+
+    at: int
+    edition: int
+    blocks: int
+    rule: int | None
+
+    @property
+    def is_sound(self) -> bool:
+        """True if it keeps all twelve rules, so that `open` takes it."""
+        return self.rule is None
 
 
 class Volume:
@@ -223,6 +241,20 @@ def judge(source: Source, edition: int, *, at: int | None = None) -> int | None:
     return None
 
 
+def volumes(source: Source) -> list[PackVolume]:
+    """Finds the volumes of a disk pack, a file or bytes, and judges each, as the program's `identify` does: by the sizes in
+    their super-blocks, the heads of their free lists and their roots. What is inside a volume isn't looked at.
+
+    The file is read to its end, and each volume again; one volume at a time is in memory, or all of a pipe. Bytes that are
+    no volume may look like one by chance; only one that is sound is called so."""
+    found = []
+    with _stream(source) as file:
+        for at, edition, blocks in find_volumes(file):
+            file.seek(BLOCK * at)
+            found.append(PackVolume(at, edition, blocks, judge(file.read(BLOCK * blocks), edition)))
+    return found
+
+
 def explain(source: Source, edition: int, *, at: int | None = None) -> str:
     """Returns what is found of each of the twelve rules in a file or bytes, a line for each. `at` is the volume's block
     in a pack, as for `open`."""
@@ -247,6 +279,17 @@ def _opened(data: bytes, edition: int) -> Handle:
     handle = Handle()
     check(function("open")(handle, word(edition, 8, "edition"), data, len(data)))
     return handle
+
+
+def _stream(source: Source) -> BinaryIO:
+    """A file or bytes, to be read from any place."""
+    if not isinstance(source, (str, os.PathLike)):
+        return io.BytesIO(bytes(source))
+    file = builtins.open(source, "rb")
+    if file.seekable():
+        return file
+    with file:
+        return io.BytesIO(file.read())
 
 
 def _part(at: int | None, edition: int) -> Part | None:

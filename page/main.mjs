@@ -68,6 +68,11 @@ async function render() {
   if (focused && document.activeElement === document.body) $(focused)?.focus();
 }
 
+/** On a narrow screen, where the tabs are below the tree, scrolls to them. */
+function showSide() {
+  if (matchMedia('(max-width: 760px)').matches) $('side').scrollIntoView({ block: 'start' });
+}
+
 /** Shows which image is open, and at once what is broken. */
 function showHead() {
   const { image } = state;
@@ -181,6 +186,7 @@ async function begin() {
   on('bytes', () => state.tab !== 'lessons' && render());
   on('entry', render);
   on('tab', render);
+  on('tab', showSide);
   makeTabs();
   makeButtons();
   makeDrops();

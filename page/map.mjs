@@ -9,7 +9,10 @@ const SQUARES = 128 * 128; // the most that `map --svg` draws, beyond which a sq
 const USES = { B: 'boot block', S: 'super-block', i: 'i-list', d: 'directory', f: 'file', p: 'indirect block', o: 'free', c: 'free, continues the free list',
   L: 'lost', T: 'named twice' };
 const SQUARE = `h${SIDE - 1}v${SIDE - 1}h${1 - SIDE}z`;
-const LETTERED = 4096; // squares with letters in them, at most
+const LETTERED = 4096; // squares with letters in them, at most; more have marks, one path for all of a use
+const FEW = 1024; // squares that are larger
+const MARKS = { B: 'M3 3h5v5h-5z', S: 'M3 3h5v5h-5z', i: 'M0 5h11v1h-11z', d: 'M4 1h3v9h-3z', p: 'M1 4h9v3h-9z', c: 'M0 0h6l-6 6z', L: 'M0 9l9 -9h2v2l-9 9h-2z',
+  T: 'M0 9l9 -9h2v2l-9 9h-2zM0 0h2l9 9v2h-2l-9 -9z' };
 
 const shape = (name, props) => {
   const made = document.createElementNS(SVG, name);
@@ -18,6 +21,14 @@ const shape = (name, props) => {
 };
 
 const letterAt = (letter, x, y) => Object.assign(shape('text', { class: `l-${letter}`, x: x + (SIDE - 1) / 2, y: y + 8.5 }), { textContent: letter });
+
+/** A path with the mark of each use in all of its squares, so that they are told apart without their colours too. */
+function marks(squares, place) {
+  return Object.entries(MARKS).map(([use, mark]) => {
+    const at = (x, y) => mark.replace(/M(\d+) (\d+)/g, (_, right, down) => `M${x + Number(right)} ${y + Number(down)}`);
+    return shape('path', { class: `mark l-${use}`, d: squares.map((it, k) => (it === use ? at(...place(k)) : '')).join('') });
+  });
+}
 
 /** Reads the letters of the squares out of the picture; the legend's squares follow a wider step down, so they are cut off. */
 function letters(svg, blocks) {
@@ -42,11 +53,8 @@ function draw(squares, columns, each, ranges) {
     const d = squares.map((it, k) => (it === use ? `M${place(k).join(' ')}${SQUARE}` : '')).join('');
     if (d) svg.append(shape('path', { class: `u-${use}`, d }));
   }
-  squares.forEach((it, k) => {
-    if (it === 'o' || squares.length > LETTERED) return;
-    const [x, y] = place(k);
-    svg.append(letterAt(it, x, y));
-  });
+  if (squares.length > LETTERED) svg.append(...marks(squares, place));
+  else squares.forEach((it, k) => it !== 'o' && svg.append(letterAt(it, ...place(k))));
   for (const { block, count } of ranges) {
     const [first, last] = [block, block + count - 1].map((it) => Math.floor(it / each));
     for (let k = first; k <= last; k++) svg.append(shape('path', { class: 'marked', d: `M${place(k).join(' ')}${SQUARE}` }));
@@ -86,9 +94,10 @@ function answers(svg, { squares, columns, each, tells, uses }) {
 /** The uses that the map shows, each with its square. */
 function legend(squares) {
   const shown = Object.entries(USES).filter(([letter]) => squares.includes(letter));
+  const hasMarks = squares.length > LETTERED;
   const items = shown.map(([letter, use]) => {
     const svg = shape('svg', { viewBox: `0 0 ${SIDE} ${SIDE}`, class: 'swatch', 'aria-hidden': 'true' });
-    svg.append(shape('path', { class: `u-${letter}`, d: `M0 0${SQUARE}` }), letterAt(letter, 0, 0));
+    svg.append(shape('path', { class: `u-${letter}`, d: `M0 0${SQUARE}` }), ...(hasMarks ? marks([letter], () => [0, 0]) : [letterAt(letter, 0, 0)]));
     return el('li', {}, svg, use);
   });
   return el('ul', { className: 'legend' }, items);
@@ -108,7 +117,7 @@ export async function showMap(panel) {
   const ended = await run(['map', '--svg', ...at()]);
   if (ended.status) return panel.append(el('pre', { className: 'bad' }, ended.error));
   const { each, squares } = letters(ended.text, image.use.blocks);
-  const side = squares.length > LETTERED ? 9 : 14;
+  const side = squares.length > LETTERED ? 9 : squares.length > FEW ? 14 : 20;
   const columns = Math.max(16, Math.min(128, Math.floor((panel.clientWidth || 600) / side)));
   const told = el('p', { role: 'status', id: 'block-said' });
   const use = el('div', { id: 'block-use', 'aria-live': 'polite' });

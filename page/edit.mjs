@@ -92,7 +92,7 @@ export async function exportTree(entry, limit = ASKED) {
 
 /** Adds the files of a tar archive to a directory. */
 export async function importArchive(blob, name, directory) {
-  const stdin = new Uint8Array(await blob.arrayBuffer());
+  const stdin = await bytesOf(blob);
   if (await changes(['import', ...at(), directory.word], `The files of ${name} are in ${directory.path}.`, { stdin, from: name })) await reveal(directory.path);
 }
 
@@ -134,26 +134,44 @@ export function insides(image) {
     }));
   }
   if (image.said.includes('each pair of bytes exchanged')) {
-    return [{ label: 'Exchange each pair of bytes, and open that', open: async () => opens(`swapped_${image.name}`, await swapped(image.source)) }];
+    return [{ label: 'Exchange each pair of bytes, and open that', open: async () => opens(`swapped_${image.name}`,
+      await swapped(await wholeImage(image))) }];
   }
   if (image.said.includes('packed by gzip')) {
-    return [{ label: 'Unpack it, and open that', open: async () => opens(image.name.replace(/\.gz$/, ''), await unpacked(image.source)) }];
+    return [{ label: 'Unpack it, and open that', open: async () => opens(image.name.replace(/\.gz$/, ''),
+      await unpacked(await wholeImage(image))) }];
   }
   return [];
 }
 
-/** Opens a volume of a pack as an image of its own, which knows its place in the pack. */
+const bytesOf = async (blob) => new Uint8Array(await blob.arrayBuffer());
+
+/** The bytes that a pack has now in a volume's place. */
+const partOf = async (pack, { block, blocks }) => (await wholeImage(pack)).slice(512 * block, 512 * (block + blocks));
+
+/** Opens a volume of a pack as an image of its own, which knows its place in the pack, and what was there. */
 async function opensPart(pack, place, edition) {
-  const cut = pack.source.slice(512 * place.block, 512 * (place.block + place.blocks));
+  const cut = await partOf(pack, place);
   const image = await opens(`${pack.name}.${place.block}`, cut, edition);
-  if (image) image.within = { pack, ...place };
+  if (image) image.within = { pack, cut, ...place };
 }
 
-/** The bytes of the pack that a volume was opened from, with the volume as it is now in its place. */
-export async function wholePack(image) {
-  const { pack, block, blocks } = image.within;
-  const [around, volume] = [await wholeImage(pack), await wholeImage(image)];
-  return new Blob([around.slice(0, 512 * block), volume, around.slice(512 * (block + blocks))]);
+/** Saves the pack that a volume was opened from, with the volume as it is now in its place. If that place was changed too, it is asked for first. */
+export async function saveInPack(image) {
+  const { pack, cut, block, blocks } = image.within;
+  if (image.size !== 512 * blocks) {
+    return say(`${image.name} has ${counted(image.size, 'byte')} now, and its place in ${pack.name} ${512 * blocks}: nothing was saved.`, true);
+  }
+  const [was, now] = [await bytesOf(cut), await bytesOf(await partOf(pack, image.within))];
+  const isAsItWas = was.length === now.length && was.every((it, k) => it === now[k]);
+  if (!isAsItWas && !(await asks(`Replace the volume in ${pack.name}?`, [], { ok: 'Replace',
+    note: `${pack.name} was changed in this place since ${image.name} was opened from it. That change is lost in what is saved.` }))) {
+    return say('Nothing was saved.');
+  }
+  const around = await wholeImage(pack);
+  save(pack.name, new Blob([around.slice(0, 512 * block), await wholeImage(image), around.slice(512 * (block + blocks))]));
+  image.isChanged = false;
+  say(`${pack.name} was saved as a download, with ${image.name} in its place.`);
 }
 
 async function opens(name, blob, edition) {
@@ -165,7 +183,7 @@ async function opens(name, blob, edition) {
 const unpacked = (blob) => new Response(blob.stream().pipeThrough(new DecompressionStream('gzip'))).blob();
 
 async function swapped(blob) {
-  const bytes = new Uint8Array(await blob.arrayBuffer());
+  const bytes = await bytesOf(blob);
   for (let k = 0; k + 1 < bytes.length; k += 2) [bytes[k], bytes[k + 1]] = [bytes[k + 1], bytes[k]];
   return new Blob([bytes]);
 }

@@ -1,6 +1,6 @@
 // The tabs that are about all images, what changed one, and the command line.
 import { $, Stopped, button, counted, doing, el, fill, link, save, say, table } from './dom.mjs';
-import { importArchive, insides, wholePack } from './edit.mjs';
+import { importArchive, insides, saveInPack } from './edit.mjs';
 import { log } from './engine.mjs';
 import { choose, go, removeFile, runBetween, state, tell, undo, wholeImage } from './shelf.mjs';
 import { runLine } from './shell.mjs';
@@ -28,7 +28,7 @@ export const csv = (images) => [HEADS, ...images.map(column)].map((row) => row.m
 function offers(image) {
   const made = insides(image).map((it) => button(it.label, it.open));
   const pack = image.within?.pack;
-  if (pack && state.images.includes(pack)) made.push(button(`Download ${pack.name} with it`, async () => save(pack.name, await wholePack(image))));
+  if (pack && state.images.includes(pack)) made.push(button(`Download ${pack.name} with it`, () => saveInPack(image)));
   const into = state.images.find((it) => it !== image && it.isSound);
   if (image.said.includes('archive of tar') && into) made.push(button(`Import its files into ${into.name}`, () => importsInto(into, image)));
   return [...made, button('Close', () => removeFile(image.name), { 'aria-label': `close ${image.name}` })];
@@ -36,7 +36,7 @@ function offers(image) {
 
 async function importsInto(into, archive) {
   await choose(into);
-  await importArchive(archive.source, archive.name, { word: '/', path: '/' });
+  await importArchive(await wholeImage(archive), archive.name, { word: '/', path: '/' });
 }
 
 function imageRow(image) {

@@ -446,6 +446,19 @@ def check_several(page, native):
         page.tab("images")
         page.button("Download pack.img with it")
         has("the pack with its volume changed", native.bytes("pack.img"), page.download("pack.img"))
+        # The pack's own bytes there are another change, which isn't lost without being asked for.
+        page.types("rm -r 7 pack.img /usr 1001 --at 102")
+        page.tab("images")
+        page.button("Download pack.img with it")
+        page.answers(button="cancel")
+        page.says("Nothing was saved")
+        page.button("Download pack.img with it")
+        page.answers()
+        has("the pack, as the volume has it", native.bytes("pack.img"), page.download("pack.img"))
+        page.tab("images")
+        page.button(offered[0])
+        page.rests()
+        has("the volume of a pack that was changed", False, "/usr" in page.paths())
     page.tab("images")
     before = page.texts("#images tbody .link")
     page.click(f"[aria-label='close {before[0]}']")
@@ -482,6 +495,19 @@ def check_keys(page, _):
     for tab in page.js("return [...document.querySelectorAll('[role=tab]')].map((it) => it.id.slice(4))"):
         page.tab(tab)
         has(f"{tab}: what has no name for a screen reader", [], page.js(nameless))
+
+
+def check_narrow(page, _):
+    """On a narrow screen and on a wide one each tab is shown, and is no wider than the screen."""
+    page.lesson("rule_12.v7")
+    for size in (360, 740), (1600, 900):
+        page.resize(*size)
+        for tab in page.js("return [...document.querySelectorAll('[role=tab]')].map((it) => it.id.slice(4))"):
+            page.tab(tab)
+            has(f"the width of {tab}", True, page.js("return document.documentElement.scrollWidth <= innerWidth"))
+            has(f"{tab} is seen", True, page.js("const it = document.querySelector('#panel h2').getBoundingClientRect(); "
+                                                "return it.top >= 0 && it.bottom <= innerHeight"))
+    page.resize(1280, 800)
 
 
 def sparse(native, name, size):
@@ -538,7 +564,7 @@ def check_quiet(page, _):
 
 ROWS = [
     check_packed, check_open, check_views, check_lessons, check_ten_steps, check_changes, check_scripts, check_play, check_new, check_bytes, check_damaged,
-    check_several, check_keys, check_bounds, check_large, check_quiet,
+    check_several, check_keys, check_narrow, check_bounds, check_large, check_quiet,
 ]
 
 

@@ -96,7 +96,8 @@ export async function importArchive(blob, name, directory) {
   if (await changes(['import', ...at(), directory.word], `The files of ${name} are in ${directory.path}.`, { stdin, from: name })) await reveal(directory.path);
 }
 
-const DISKS = [['rk05', 4872], ['rk06', 27126], ['rk07', 53790], ['rl01', 10240], ['rl02', 20480], ['rm03', 131680], ['rp03', 81200], ['rp04', 171798], ['rp06', 340670], ['rx01', 500], ['rx02', 1001]];
+const DISKS = [['rk05', 4872], ['rk06', 27126], ['rk07', 53790], ['rl01', 10240], ['rl02', 20480], ['rm03', 131680], ['rp03', 81200], ['rp04', 171798],
+  ['rp06', 340670], ['rx01', 500], ['rx02', 1001]];
 
 export async function newVolume() {
   const disks = DISKS.map(([value, blocks]) => ({ value, label: `${value}: ${blocks.toLocaleString('en')} blocks` }));

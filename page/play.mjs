@@ -95,6 +95,6 @@ export async function showPlay(panel) {
   const form = el('form', { onsubmit: doing(() => plays(image)) }, el('div', { className: 'scripts' }, area(0), area(1)), el('p', { className: 'row' },
     el('button', { type: 'submit', id: 'play', disabled: !image.isSound }, 'Play both'), button('Undo', () => undo(image), { disabled: !image.done.length })));
   const forms = FORMS.flatMap((it, k) => [k ? ', ' : '', el('code', {}, it)]);
-  fill(panel, el('h2', {}, 'Scripts'), el('p', {}, 'Two scripts of calls share the volume. Each line is the time, a user and a group, and then one of: ', forms, '.'),
-    form, image.played ? played(image) : null);
+  fill(panel, el('h2', {}, 'Scripts'),
+    el('p', {}, 'Two scripts of calls share the volume. Each line is the time, a user and a group, and then one of: ', forms, '.'), form, image.played ? played(image) : null);
 }

@@ -9,6 +9,7 @@
 #   commands  make bench                                   needs rustc, some minutes
 #   mounted   bench/mounted.sh ./unixvol                   needs root, /dev/fuse and fuse2fs
 #   library   bench/library.sh bindings/out
+#   page      bench/page.py ./unixvol page/out             needs node and chromium, some minutes
 set -euo pipefail
 cd "$(dirname "$0")/.."
 figures=docs/FIGURES.md
@@ -41,6 +42,8 @@ are tried, these, and the building of a program; `rt` is the tool itself.' ;;
         commands) printf '%s\n\n%s\n' '## Commands' 'By `make bench`, beside a program in plain Rust; SPEED says how, and what the columns are.' ;;
         mounted) printf '%s\n\n%s\n' '## Mounted volumes' 'By `bench/mounted.sh`, beside fuse2fs with an ext2 image of the same files.' ;;
         library) printf '%s\n\n%s\n' '## The library' 'By `bench/library.sh`, on a volume of 200 MB.' ;;
+        page) printf '%s\n\n%s\n' '## The page' 'By `bench/page.py`: the program for WebAssembly beside the native one, on volumes that are half full; the native program and Node'"'"'s command as
+whole processes, each command in the page as its worker counts it. The memory is the most of the process; in the page, of the browser'"'"'s process for it.' ;;
         *) echo "$0: there is no part $1" >&2 && exit 2 ;;
     esac
 }
@@ -55,6 +58,7 @@ measured() {
         commands) make -s bench ;;
         mounted) bench/mounted.sh ./unixvol ;;
         library) bench/library.sh bindings/out ;;
+        page) bench/page.py ./unixvol page/out ;;
     esac
 }
 
@@ -80,7 +84,7 @@ done
 What was counted and measured, each part with the day, the commit and the machine. `tools/figures.sh` writes this page; the other documents have no numbers
 that age.
 END
-    for part in counts rows gate loop commands mounted library; do
+    for part in counts rows gate loop commands mounted library page; do
         [ -e "$room/$part" ] || awk -v head="$(about "$part" | head -n 1)" '/^## / { on = $0 == head } on && /^    |^$/ { sub(/^    /, ""); print }' "$figures" |
             sed -e '/./,$!d' | sed -e :a -e '/^\n*$/{$d;N;ba' -e '}' > "$room/$part"
         [ -s "$room/$part" ] || continue

@@ -9,7 +9,8 @@
         volume.save()
 
 A `Volume` is in memory, and is sound after each call; `save` writes its bytes to a file, whole or not at all, and
-raises `Changed` if another program has changed the file meanwhile. Its paths work like those of `pathlib`. A refusal raises an exception that is named for it and has its `number`; it is also
+raises `Changed` if another program has changed the file meanwhile. Its paths work like those of `pathlib`. `volumes`
+finds the volumes of a disk pack. A refusal raises an exception that is named for it and has its `number`; it is also
 Python's own, if Python has one with that meaning: `NoEntry` is a `FileNotFoundError`.
 
 Any number of volumes may be used by any number of threads. Each takes up to two and a third times the memory of its

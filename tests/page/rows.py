@@ -4,6 +4,7 @@
 Usage: rows.py PROGRAM [NAME..]. PAGE names the page, if it isn't page/out/unixvol.html. NAME is the end of a `check_` function here; by default,
 all run. It prints a line for each row that fails, and ends with 'N passed, N failed'. Without Chromium it says so, and nothing is run.
 """
+import base64
 import glob
 import os
 import re
@@ -108,6 +109,12 @@ class Page(Browser):
         self.wait(f"document.querySelectorAll('#shell-log .entry').length === {before + 1}", seconds)
         self.shows("shell", seconds)
         return "".join(self.texts("#shell-log .entry:last-child pre"))
+
+    def drops(self, path, name, data):
+        """Drops a file on the line of a path in the tree."""
+        self.js(f"""const data = new DataTransfer();
+            data.items.add(new File([Uint8Array.from(atob('{base64.b64encode(data).decode()}'), (it) => it.charCodeAt(0))], {name!r}));
+            document.querySelector('[data-path="{path}"] > .line').dispatchEvent(new DragEvent('drop', {{ bubbles: true, dataTransfer: data }}))""")
 
     def image(self, name):
         """The bytes of the image that is open, as the page saves it."""
@@ -380,11 +387,21 @@ def check_new(page, native):
     page.says("The files of tree.tar are in /")
     native.write("new.img", page.image("new.img"))
     has("what was imported", "/empty\n/motd\n/passwd\n", native.out("find", 6, "new.img"))
-    page.js("""const data = new DataTransfer(); data.items.add(new File(['dropped\\n'], 'drop'));
-        document.querySelector('[data-path="/"] > .line').dispatchEvent(new DragEvent('drop', { bubbles: true, dataTransfer: data }))""")
+    page.drops("/", "drop", b"dropped\n")
     page.says("drop is in the volume")
     native.write("new.img", page.image("new.img"))
     has("a file that was dropped", "dropped\n", native.out("get", 6, "new.img", "/drop"))
+    names = re.findall(r"\S+$", subprocess.run(["tar", "-tf", archive], capture_output=True, check=True, text=True).stdout, re.M)
+    page.drops("/", "again.tar", native.bytes("tree.tar"))
+    page.answers()
+    page.rests()
+    has("an archive that was dropped on what it has", True, "Exists" in page.text("#said"))
+    page.types("mkdir 6 new.img /sub")
+    page.drops("/sub", "again.tar", native.bytes("tree.tar"))
+    page.answers()
+    page.says("The files of again.tar are in /sub")
+    native.write("new.img", page.image("new.img"))
+    has("an archive that was dropped", sorted(f"/sub/{it}" for it in names), sorted(native.out("find", 6, "new.img", "/sub").splitlines()))
 
 
 def check_bytes(page, _):

@@ -71,23 +71,40 @@ export async function remove(entry) {
   if (await changes(['rm', ...(isTree ? ['-r'] : []), ...at(), entry.word], `${entry.path} was removed.`)) await reveal(entry.up);
 }
 
-/** Writes everything below a directory into an archive that the user saves. A very long one is asked for first. */
-export async function exportTree(entry, limit = ASKED) {
+/** Writes everything below a directory into an archive that the user saves. */
+export async function exportTree(entry) {
+  const lost = state.image.isSound || entry.path !== '/' ? [] : ['--lost'];
   const name = `${state.image.name}${entry.path === '/' ? '' : entry.word.replaceAll('/', '_')}.tar`;
+  const ended = await savesArchive(['export', ...lost, ...at(), ...(entry.path === '/' ? [] : [entry.word])], name);
+  if (ended) say(ended.error.trim() || `${name} was saved.`, Boolean(ended.status));
+}
+
+/** Writes the files of an image that was cut off into an archive: those that are whole, or the damaged ones too. Returns what is said of the others. */
+export async function exportCut(isWithDamaged) {
+  const name = `${state.image.name}.tar`;
+  const ended = await savesArchive(['export', '--cut', ...(isWithDamaged ? ['--damaged'] : []), ...at()], name);
+  if (!ended) return '';
+  say(ended.length ? `${name} was saved.` : 'Nothing was saved.', !ended.length);
+  return ended.error;
+}
+
+/** Runs a command that writes an archive, and saves that. A very long one is asked for first. Returns what the command came to; null if nothing is saved. */
+async function savesArchive(args, name, limit = ASKED) {
   try {
-    const lost = state.image.isSound || entry.path !== '/' ? [] : ['--lost'];
-    const ended = await run(['export', ...lost, ...at(), ...(entry.path === '/' ? [] : [entry.word])], { asBlob: true, into: name, limit });
-    if (ended.cut) {
-      const goesOn = await asks('A large archive', [], { ok: 'Go on',
-        note: `The archive has more than ${limit / 1048576} MB. A damaged image can make one that is far larger than itself. Go on?` });
-      return goesOn ? exportTree(entry, limit * 8) : say('Nothing was saved.');
+    const ended = await run(args, { asBlob: true, into: name, limit });
+    if (!ended.cut) {
+      if (ended.length) save(name, ended.blob);
+      return ended;
     }
-    if (ended.length) save(name, ended.blob);
-    say(ended.error.trim() || `${name} was saved.`, Boolean(ended.status));
+    const goesOn = await asks('A large archive', [], { ok: 'Go on',
+      note: `The archive has more than ${limit / 1048576} MB. A damaged image can make one that is far larger than itself. Go on?` });
+    if (goesOn) return savesArchive(args, name, limit * 8);
+    say('Nothing was saved.');
   } catch (fault) {
     if (!(fault instanceof Stopped)) throw fault;
     say('Stopped: nothing was saved.');
   }
+  return null;
 }
 
 /** Adds the files of a tar archive to a directory. */

@@ -1,7 +1,7 @@
 // The page: its tabs, its buttons, and files that are dropped on it.
 import { $, asks, chooseFiles, counted, does, doing, el, fill, say } from './dom.mjs';
 import { showBytesOfBlock } from './bytes.mjs';
-import { exportTree, importArchive, newVolume, putFiles, salvage } from './edit.mjs';
+import { exportTree, importArchive, insides, newVolume, putFiles, salvage } from './edit.mjs';
 import { start, unixvol } from './engine.mjs';
 import { showFile } from './file.mjs';
 import { lessonText, showLessons } from './lessons.mjs';
@@ -82,7 +82,9 @@ function showHead() {
   $('image').replaceChildren(...state.images.map((it) => el('option', { value: it.name, selected: it === image }, it.name)));
   $('edition').value = image.edition;
   const use = image.use ? `${counted(image.use.blocks, 'block')}, ${image.use.free_blocks.toLocaleString('en')} free; ` : '';
-  const what = image.isReadable ? 'What can be read is shown; commands that change a volume refuse this one.' : 'Nothing of it can be read as files.';
+  const what = image.isReadable ? 'What can be read is shown; commands that change a volume refuse this one.'
+    : insides(image).length ? 'What is in it can be opened under Images.'
+      : image.isVolume && image.isCut ? 'The files that are whole can be exported under Check.' : 'Nothing of it can be read as files.';
   $('state').className = image.isSound ? 'good' : 'bad';
   $('state').textContent = image.isSound ? `${use}✓ sound` : `${use}✗ ${verdict(image)}. ${what}`;
   $('undo-last').disabled = !image.done.length;

@@ -163,6 +163,7 @@ async function judge(image) {
   image.rules = readCheck(check.text);
   image.broken = image.rules.filter((it) => it.holds === false);
   image.isSound = check.status === 0;
+  image.isCut = image.broken[0]?.rule === 1 && image.size >= 1024;
   image.isReadable = image.rules.slice(0, 2).every((it) => it.holds) && image.rules.length === 12;
   image.use = image.isReadable ? JSON.parse((await runs(['df', '--json', ...at(image)])).text) : null;
 }

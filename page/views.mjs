@@ -1,5 +1,6 @@
 // The tabs that show what the program says of a volume: check, i-node, volume, find.
 import { button, clear, counted, doing, el, fill, link, modeText, moment, save, table } from './dom.mjs';
+import { exportCut } from './edit.mjs';
 import { inodeAt } from './layout.mjs';
 import { at, go, run, state } from './shelf.mjs';
 import { plainPath, readTree, reveal } from './tree.mjs';
@@ -46,10 +47,16 @@ export async function showCheck(panel) {
   const note = image.check.split('\n').filter((it) => it.startsWith('note:')).join(' ');
   const report = el('div', { 'aria-live': 'polite' });
   const asks = async (command) => report.replaceChildren(el('h3', {}, command), printed(await run([command, ...at(), 1])));
+  const cut = (label, id, isWithDamaged) => button(label, async () => {
+    const said = await exportCut(isWithDamaged);
+    report.replaceChildren(said ? el('pre', { id: 'lost' }, said.slice(0, SAID), said.length > SAID ? `.. and ${said.length - SAID} characters more` : '') : '');
+  }, { id });
+  const rescue = image.isCut && el('p', { className: 'row' }, 'The image is cut off. Export as tar: ', cut('files that are whole', 'whole', false),
+    cut('damaged files too, with zeros for what is lost', 'damaged', true));
   fill(panel, el('h2', {}, 'Check'), image.rules.length ? el('p', { className: image.isSound ? 'good' : 'bad', id: 'verdict' }, verdict) : null, note
     ? el('p', {}, note) : null,
     image.rules.length ? rulesTable(image) : el('pre', { className: 'bad' }, image.check),
-    el('p', {}, 'The old checkers: ', ['icheck', 'dcheck', 'ncheck'].flatMap((it) => [button(it, () => asks(it)), ' '])), report);
+    rescue || null, el('p', {}, 'The old checkers: ', ['icheck', 'dcheck', 'ncheck'].flatMap((it) => [button(it, () => asks(it)), ' '])), report);
 }
 
 /** A field for a number, with buttons for the one before and the next. */
@@ -109,6 +116,7 @@ function extent({ block, count, inside, level, logical }) {
   return [link(count > 1 ? `${block}-${last}` : String(block), () => go('bytes', { block })), inside ? holds : `${holds}; this is no data block`];
 }
 
+const SAID = 1 << 18; // characters of what is said that are shown
 const LINKS = 12; // links of the free list that are shown at once
 const SHOWN = 2000; // paths that find shows
 

@@ -422,7 +422,7 @@ def check_bytes(page, _):
     page.wait("document.getElementById('state').textContent.includes('✓ sound')")
 
 
-def check_damaged(page, _):
+def check_damaged(page, native):
     """What can be read of a damaged image is shown, and nothing is put into it."""
     page.lesson("rule_12.v7")
     has("the tree of a damaged image", ["/", "/etc", "/etc/motd", "/usr", "/usr/letter", "/welcome"], page.paths())
@@ -431,6 +431,13 @@ def check_damaged(page, _):
     has("what changes it is off", [True] * 3, page.js("return ['put-files', 'import-tar', 'rm'].map((it) => document.getElementById(it).disabled)"))
     page.lesson("rule_01.v7")
     has("the tree of a cut image", ["/"], page.paths())
+    for button, options in ("whole", ["--cut"]), ("damaged", ["--cut", "--damaged"]):
+        wanted = native.run("--explain", "export", *options, 7, f"{LESSONS}/rule_01.v7")
+        page.click(f"#{button}")
+        name = page.js("return document.getElementById('image').value")
+        has(f"a cut image exported: {button}", wanted.stdout, page.download(f"{name}.tar"))
+        page.rests()
+        has(f"what is said of it: {button}", wanted.stderr.decode(), page.text("#lost"))
     page.lesson("rule_08.v7")
     page.click("#salvage")
     page.answers()

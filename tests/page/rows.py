@@ -445,11 +445,15 @@ def check_damaged(page, native):
     has("a free list that is repaired", True, "✓ sound" in page.text("#state"))
 
 
-def check_several(page, native):
-    """Two images, the table of all, and a volume within a pack, which is changed and downloaded with it."""
+def packed(native):
+    """A pack with a volume at block 102, as a file."""
     with open(LINUX_MADE, "rb") as volume:
-        pack = native.write("pack.img", b"\0" * 51200 + b"boot" * 128 + b"\0" * 512 + volume.read() + b"\1" * 5120)
-    page.open(f"{LESSONS}/sound.v6", f"{LESSONS}/rule_09.v7", pack)
+        return native.write("pack.img", b"\0" * 51200 + b"boot" * 128 + b"\0" * 512 + volume.read() + b"\1" * 5120)
+
+
+def check_several(page, native):
+    """Images of several kinds, and the table of all."""
+    page.open(f"{LESSONS}/sound.v6", f"{LESSONS}/rule_09.v7", packed(native))
     page.shows("images")
     rows = page.js("return [...document.querySelectorAll('#images tbody tr')].map((it) => [...it.cells].slice(0, 5).map((one) => one.textContent))")[-3:]
     has("a sound image in the table", ["6", "sound", "24", "7"], rows[0][1:])
@@ -459,35 +463,41 @@ def check_several(page, native):
     lines = page.download("images.csv").decode().split("\r\n")
     has("the table's head", "Image,Edition,State,Blocks,Free,Bytes", lines[0])
     has("a line of the table", "6,sound,24,7,12288", lines[-4].split(",", 1)[1])
-    offered = [it for it in page.texts("#images button") if it.startswith("Open the volume")]
-    has("what is offered of a pack", 1, len(offered))
-    if offered:
-        page.button(offered[0])
-        page.wait("document.getElementById('state').textContent.startsWith('240 blocks')")
-        has("the volume within it", True, "✓ sound" in page.text("#state"))
-        page.types("mkdir 7 pack.img.102 /new 1000")
-        native.out("mkdir", "7", "pack.img", "/new", "1000", "--at", "102")
-        page.tab("images")
-        page.button("Download pack.img with it")
-        has("the pack with its volume changed", native.bytes("pack.img"), page.download("pack.img"))
-        # The pack's own bytes there are another change, which isn't lost without being asked for.
-        page.types("rm -r 7 pack.img /usr 1001 --at 102")
-        page.tab("images")
-        page.button("Download pack.img with it")
-        page.answers(button="cancel")
-        page.says("Nothing was saved")
-        page.button("Download pack.img with it")
-        page.answers()
-        has("the pack, as the volume has it", native.bytes("pack.img"), page.download("pack.img"))
-        page.tab("images")
-        page.button(offered[0])
-        page.rests()
-        has("the volume of a pack that was changed", False, "/usr" in page.paths())
-    page.tab("images")
     before = page.texts("#images tbody .link")
     page.click(f"[aria-label='close {before[0]}']")
     page.rests()
     has("the images after one is closed", before[1:], page.texts("#images tbody .link"))
+
+
+def check_pack(page, native):
+    """A volume within a pack, which is changed and downloaded with it."""
+    page.open(packed(native))
+    name = page.js("return document.getElementById('image').value")
+    page.tab("images")
+    offered = "Open the volume of edition 7 at block 102"
+    opens = f"const row = [...document.querySelectorAll('#images tr')].find((it) => it.textContent.startsWith({name!r})); " \
+            f"[...row.querySelectorAll('button')].find((it) => it.textContent === {offered!r}).click()"
+    page.js(opens)
+    page.wait("document.getElementById('state').textContent.startsWith('240 blocks')")
+    has("the volume within a pack", True, "✓ sound" in page.text("#state"))
+    page.types(f"mkdir 7 {name}.102 /new 1000")
+    native.out("mkdir", "7", "pack.img", "/new", "1000", "--at", "102")
+    page.tab("images")
+    page.button(f"Download {name} with it")
+    has("the pack with its volume changed", native.bytes("pack.img"), page.download(name))
+    # The pack's own bytes there are another change, which isn't lost without being asked for.
+    page.types(f"rm -r 7 {name} /usr 1001 --at 102")
+    page.tab("images")
+    page.button(f"Download {name} with it")
+    page.answers(button="cancel")
+    page.says("Nothing was saved")
+    page.button(f"Download {name} with it")
+    page.answers()
+    has("the pack, as the volume has it", native.bytes("pack.img"), page.download(name))
+    page.tab("images")
+    page.js(opens)
+    page.rests()
+    has("the volume of a pack that was changed", [], [it for it in page.paths() if it.startswith("/usr")])
 
 
 def check_keys(page, _):
@@ -588,7 +598,7 @@ def check_quiet(page, _):
 
 ROWS = [
     check_packed, check_open, check_views, check_lessons, check_ten_steps, check_changes, check_scripts, check_play, check_new, check_bytes, check_damaged,
-    check_several, check_keys, check_narrow, check_bounds, check_large, check_quiet,
+    check_several, check_pack, check_keys, check_narrow, check_bounds, check_large, check_quiet,
 ]
 
 

@@ -1,5 +1,6 @@
 // What changes a volume: files put in, directories made, names removed, and the archives that go in and out.
 import { Stopped, asks, chooseFiles, counted, save, say } from './dom.mjs';
+import { ask } from './engine.mjs';
 import { addFile, at, choose, open, removeFile, run, state, wholeImage } from './shelf.mjs';
 import { reveal } from './tree.mjs';
 
@@ -165,11 +166,11 @@ export function insides(image) {
 const bytesOf = async (blob) => new Uint8Array(await blob.arrayBuffer());
 
 /** The bytes that a pack has now in a volume's place. */
-const partOf = async (pack, { block, blocks }) => (await wholeImage(pack)).slice(512 * block, 512 * (block + blocks));
+const partOf = async (pack, { block, blocks }) => (await ask('slice', { name: pack.name, at: 512 * block, length: 512 * blocks })).bytes;
 
 /** Opens a volume of a pack as an image of its own, which knows its place in the pack, and what was there. */
 async function opensPart(pack, place, edition) {
-  const cut = await partOf(pack, place);
+  const cut = new Blob([await partOf(pack, place)]);
   const image = await opens(`${pack.name}.${place.block}`, cut, edition);
   if (image) image.within = { pack, cut, ...place };
 }
@@ -180,7 +181,7 @@ export async function saveInPack(image) {
   if (image.size !== 512 * blocks) {
     return say(`${image.name} has ${counted(image.size, 'byte')} now, and its place in ${pack.name} ${512 * blocks}: nothing was saved.`, true);
   }
-  const [was, now] = [await bytesOf(cut), await bytesOf(await partOf(pack, image.within))];
+  const [was, now] = [await bytesOf(cut), await partOf(pack, image.within)];
   const isAsItWas = was.length === now.length && was.every((it, k) => it === now[k]);
   if (!isAsItWas && !(await asks(`Replace the volume in ${pack.name}?`, [], { ok: 'Replace',
     note: `${pack.name} was changed in this place since ${image.name} was opened from it. That change is lost in what is saved.` }))) {

@@ -3,8 +3,8 @@ import { button, doing, el, fill } from './dom.mjs';
 import { hex } from './dumps.mjs';
 import { ask } from './engine.mjs';
 import { byteOf } from './layout.mjs';
-import { go, poke, run, at, state, undo } from './shelf.mjs';
-import { chooser, lines, rulesTable } from './views.mjs';
+import { go, poke, state, undo } from './shelf.mjs';
+import { chooser, lines, rulesTable, usesOf } from './views.mjs';
 
 const octal = (byte) => byte.toString(8).padStart(3, '0');
 
@@ -13,8 +13,7 @@ export async function showBytesOfBlock(panel) {
   const most = Math.max(0, Math.ceil(image.size / 512) - 1);
   const block = Math.max(0, Math.min(state.block, most));
   const { bytes } = await ask('slice', { name: image.name, at: 512 * block, length: 512 });
-  const said = image.isReadable ? await run(['block', ...at(), block]) : { text: '', error: '' };
-  const use = said.text.trim();
+  const use = image.isReadable ? await usesOf(block) : '';
   const chosen = el('div', { id: 'byte', 'aria-live': 'polite' });
   const grid = el('table', { className: 'code hex', role: 'grid', 'aria-label': `bytes of block ${block}` });
   const view = { image, block, bytes, use, chosen, grid };

@@ -58,12 +58,29 @@ export const button = (label, onclick, props = {}) => el('button', { type: 'butt
 /** A button that looks like a link, since it leads to another view. */
 export const link = (label, onclick, props = {}) => button(label, onclick, { className: 'link', ...props });
 
+/** A row of a table. In a table without heads the first cell is one. */
+const rowOf = (row, heads) => el('tr', {}, row.map((it, k) => (k || heads.length ? el('td', {}, it) : el('th', { scope: 'row' }, it))));
+
 /** Makes a table. `rows` are lists of cells; a cell is text or an element. */
 export function table(caption, heads, rows, props = {}) {
-  const cell = (tag, of, more = {}) => el(tag, more, of);
-  const head = heads.length ? [el('thead', {}, el('tr', {}, heads.map((it) => cell('th', it, { scope: 'col' }))))] : [];
-  const body = rows.map((row) => el('tr', {}, row.map((it, k) => (k || heads.length ? cell('td', it) : cell('th', it, { scope: 'row' })))));
+  const head = heads.length ? [el('thead', {}, el('tr', {}, heads.map((it) => el('th', { scope: 'col' }, it))))] : [];
+  const body = rows.map((row) => rowOf(row, heads));
   return el('div', { className: 'wide' }, el('table', props, el('caption', {}, caption), head, el('tbody', {}, body)));
+}
+
+const ROWS = 500; // rows of a long table that are shown at once
+
+/** Makes a table that may be long: its first rows are shown, and a button shows more. `cells` makes the row of an item. */
+export function longTable(caption, heads, items, cells, props = {}) {
+  const box = table(caption, heads, [], props);
+  const more = el('p');
+  const shows = (from) => {
+    box.querySelector('tbody').append(...items.slice(from, from + ROWS).map((it) => rowOf(cells(it), heads)));
+    const left = items.length - from - ROWS;
+    more.replaceChildren(...(left > 0 ? [button(`Show more: ${counted(left, 'row')} follow`, () => shows(from + ROWS))] : []));
+  };
+  shows(0);
+  return el('div', {}, box, more);
 }
 
 /** Says `message` on the page's status line, which screen readers read aloud. */

@@ -1,11 +1,12 @@
 // The tab of the selected file or directory: what it is, its bytes in three forms, and what can be done with it.
-import { button, counted, el, link, modeText, moment, save, say, table } from './dom.mjs';
+import { button, counted, el, link, longTable, modeText, moment, save, say } from './dom.mjs';
 import { asText, isText, od } from './dumps.mjs';
 import { changeMode, exportTree, makeDirectory, move, putChosen, remove } from './edit.mjs';
 import { at, go, run, state } from './shelf.mjs';
 
 const FIRST = 1 << 16; // bytes that are shown at first
 const READ = 1 << 25; // bytes of a file that are read to be shown
+const SLOTS = 1 << 24; // characters of a directory's slots that are read
 const FORMS = { text: asText, octal: (bytes) => od(bytes), hexadecimal: (bytes) => od(bytes, 'x1z', true) };
 
 /** What a command calls the file: its path, or its i-number if the path is no text. */
@@ -61,13 +62,14 @@ async function download(entry) {
 /** The slots of a directory, with the names that were removed. */
 async function showSlots(panel, entry) {
   if (entry.word === null) return panel.append(el('p', {}, 'Its path is no text, so only its bytes can be shown: look at its i-node.'));
-  const ended = await run(['ls', '--slots', ...at(), entry.word]);
+  const ended = await run(['ls', '--slots', ...at(), entry.word], { limit: SLOTS });
   const slots = (ended.text ?? '').split('\n').map((it) => /^ *(\d+) +(\d+) (.*)$/.exec(it)).filter(Boolean);
-  const rows = slots.map(([, slot, number, name]) => {
+  const cells = ([, slot, number, name]) => {
     const inode = Number(number);
     return inode ? [slot, link(number, () => go('inode', { inode })), name] : [slot, '0', el('span', { className: 'dim' }, `${name} (removed)`)];
-  });
-  panel.append(table('Its slots', ['Slot', 'I-node', 'Name'], rows, { id: 'slots' }));
+  };
+  panel.append(longTable('Its slots', ['Slot', 'I-node', 'Name'], slots, cells, { id: 'slots' }));
+  if (ended.cut) panel.append(el('p', {}, 'The directory has more slots than this page reads; ', el('code', {}, 'ls --slots'), ' shows all.'));
   if (ended.error) panel.append(el('pre', { className: 'bad' }, ended.error));
 }
 

@@ -56,7 +56,7 @@ export function readInode(edition, list, ino) {
   const mode = of('mode');
   if (mode === 0) return { kind: 'free i-node' };
   const high = edition === '6' ? 65536 * list[from + 5] : 0;
-  return { kind: KINDS[edition](mode), permissions: mode & 0o7777, links: of('links'), uid: of('user'), gid: of('group'), size: high + of('size'),
+  return { mode, kind: KINDS[edition](mode), permissions: mode & 0o7777, links: of('links'), uid: of('user'), gid: of('group'), size: high + of('size'),
     modified: of('modified') };
 }
 

@@ -1,7 +1,7 @@
 // The map: the squares that `map --svg` draws, in as many columns as fit, one path for all squares of a use. A block's square says what uses it.
 import { button, does, el } from './dom.mjs';
 import { at, go, run, state } from './shelf.mjs';
-import { chooser, lines } from './views.mjs';
+import { chooser, inodeOf, lines, usesOf } from './views.mjs';
 
 const SVG = 'http://www.w3.org/2000/svg';
 const SIDE = 12;
@@ -40,8 +40,8 @@ function letters(svg, blocks) {
 /** Returns the blocks of the selected i-node, as ranges. */
 async function marked() {
   if (!state.inode) return [];
-  const ended = await run(['inode', '--json', ...at(), state.inode]);
-  return ended.text ? JSON.parse(ended.text).extents.filter((it) => it.inside) : [];
+  const { it } = await inodeOf(state.image, state.inode);
+  return it ? it.extents.filter((one) => one.inside) : [];
 }
 
 function draw(squares, columns, each, ranges) {
@@ -55,10 +55,9 @@ function draw(squares, columns, each, ranges) {
   }
   if (squares.length > LETTERED) svg.append(...marks(squares, place));
   else squares.forEach((it, k) => it !== 'o' && svg.append(letterAt(it, ...place(k))));
-  for (const { block, count } of ranges) {
-    const [first, last] = [block, block + count - 1].map((it) => Math.floor(it / each));
-    for (let k = first; k <= last; k++) svg.append(shape('path', { class: 'marked', d: `M${place(k).join(' ')}${SQUARE}` }));
-  }
+  const outlined = new Set();
+  for (const { block, count } of ranges) for (let k = Math.floor(block / each); k <= Math.floor((block + count - 1) / each); k++) outlined.add(k);
+  if (outlined.size) svg.append(shape('path', { class: 'marked', d: [...outlined].map((k) => `M${place(k).join(' ')}${SQUARE}`).join('') }));
   return svg;
 }
 
@@ -123,8 +122,7 @@ export async function showMap(panel) {
   const use = el('div', { id: 'block-use', 'aria-live': 'polite' });
   const uses = async (block) => {
     state.block = block;
-    const said = await run(['block', ...at(), block]);
-    use.replaceChildren(lines((said.text || said.error).trim()), button('Show its bytes', () => go('bytes', { block })));
+    use.replaceChildren(lines(await usesOf(block)), button('Show its bytes', () => go('bytes', { block })));
   };
   const ranges = await marked();
   const svg = draw(squares, columns, each, ranges);

@@ -1,11 +1,10 @@
 // The tab that plays two scripts of calls on the volume: what each line came to, and what each call changed, field by field.
-import { button, counted, doing, el, fill, table } from './dom.mjs';
+import { button, counted, doing, el, fill, longTable } from './dom.mjs';
 import { ask, runs } from './engine.mjs';
 import { at, copyOf, go, run, state, undo, writeFile } from './shelf.mjs';
 import { chooser, printed } from './views.mjs';
 
 const NAMES = ['first.script', 'second.script'];
-const SHOWN = 500; // lines whose results are shown
 const FORMS = ['create PATH PERM', 'mkdir PATH PERM', 'link FROM TO', 'unlink PATH', 'rmdir PATH', 'write PATH OFFSET HEX', 'truncate PATH LENGTH',
   'chmod PATH PERM', 'chown PATH UID GID', 'times PATH ATIME MTIME', 'stat PATH', 'read PATH OFFSET LEN', 'list PATH'];
 const texts = ['1000 0 0 mkdir /made 755\n1001 3 5 stat /\n1002 0 0 create /made/note 644\n1003 0 0 write /made/note 0 48692e0a\n',
@@ -59,12 +58,12 @@ async function showCall(image, number, place) {
 
 /** The result of each line, beside the line. */
 function resultsTable({ scripts, results }) {
-  const rows = results.slice(0, SHOWN).map(({ script, line, came }) => {
+  const calls = scripts.map(linesOf);
+  const cells = ({ script, line, came }) => {
     const isRefused = /^\d/.test(came);
-    return [`${script}.${line}`, el('code', {}, linesOf(scripts[script - 1])[line - 1]), el('span', { className: isRefused ? 'bad' : 'code' },
-      isRefused ? `✗ ${came}` : came)];
-  });
-  return table('What each line came to', ['Line', 'Call', 'Result'], rows, { id: 'results' });
+    return [`${script}.${line}`, el('code', {}, calls[script - 1][line - 1]), el('span', { className: isRefused ? 'bad' : 'code' }, isRefused ? `✗ ${came}` : came)];
+  };
+  return longTable('What each line came to', ['Line', 'Call', 'Result'], results, cells, { id: 'results' });
 }
 
 /** What was played last on this image, with its calls to be stepped through if the image still has them. */
@@ -75,7 +74,7 @@ function played(image) {
   const wasCut = results.some((it) => it.came.startsWith('cut '));
   const isThere = change && image.done[before] === change;
   return [
-    resultsTable(image.played), results.length > SHOWN ? el('p', {}, `The first ${SHOWN} of ${results.length} lines are shown.`) : null,
+    resultsTable(image.played),
     el('p', {}, `${counts.join(', ')}. `, calls.length && isThere && !wasCut ? button('Step through the calls', () => showCall(image, 1, steps), { id: 'step' })
       : null, wasCut ? 'The journal begins at the last cut, so its calls cannot be stepped through.' : null),
     calls.length ? el('details', {}, el('summary', {}, `The journal: ${counted(calls.length, 'call')}, in the order in which they were made`),

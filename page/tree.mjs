@@ -1,11 +1,12 @@
 // The tree of a volume, by the tree pattern of WAI-ARIA.
-import { $, counted, does, el, modeText, moment } from './dom.mjs';
+import { $, counted, does, el, modeText, moment, say } from './dom.mjs';
 import { ask } from './engine.mjs';
 import { INODE_BYTES, readInode } from './layout.mjs';
 import { at, go, run, state, tell } from './shelf.mjs';
 
 const FEW = 40; // names of a volume whose directories are all shown open
 const MANY = 200; // names of a directory that are shown at once
+const READ = 1 << 27; // characters of names that are read
 
 /** Turns a path as `--json` shows it into its bytes, and these into text, if they are text. */
 export function plainPath(escaped) {
@@ -33,14 +34,20 @@ export async function readTree(image) {
   return root;
 }
 
-const listed = async (image) => JSON.parse((await run(['ls', '-R', '--json', ...at(image)])).text).entries.map(asEntry);
+/** Runs a command over all names, and reads what it prints. A hostile image may have far more of it than this page reads; then there is nothing. */
+async function readNames(args) {
+  const { text, cut } = await run(args, { limit: READ });
+  if (cut) say('The volume has more names, or longer paths, than this page reads: its tree is not shown.', true);
+  return text && !cut ? JSON.parse(text) : {};
+}
 
 const asEntry = ({ ino, mtime, permissions, ...it }) => ({ ...it, inode: ino, modified: mtime, permissions: parseInt(permissions, 8) });
 
+const listed = async (image) => ((await readNames(['ls', '-R', '--json', ...at(image)])).entries ?? []).map(asEntry);
+
 /** The entries of a damaged volume: their paths as `ncheck` has them, and their i-nodes. Those that no way leads to from the root are below `...`. */
 async function salvaged(image, root) {
-  const ended = await run(['ncheck', '--json', ...at(image), 1]);
-  const entries = ended.text ? JSON.parse(ended.text).lines : [];
+  const entries = (await readNames(['ncheck', '--json', ...at(image), 1])).lines ?? [];
   const { bytes } = await ask('slice', { name: image.name, at: 1024, length: INODE_BYTES[image.edition] * image.use.inodes });
   Object.assign(root, readInode(image.edition, bytes, root.inode));
   if (entries.some((it) => it.path.startsWith('...'))) grow(root, { path: '/...', kind: 'directory', inode: 0 });

@@ -1,7 +1,8 @@
 // The tabs that show what the program says of a volume: check, i-node, volume, find.
-import { button, clear, counted, doing, el, fill, link, modeText, moment, save, table } from './dom.mjs';
+import { button, clear, counted, doing, el, fill, link, longTable, modeText, moment, save, table } from './dom.mjs';
 import { exportCut } from './edit.mjs';
-import { inodeAt } from './layout.mjs';
+import { ask } from './engine.mjs';
+import { INODE_BYTES, inodeAt, readInode } from './layout.mjs';
 import { at, go, run, state } from './shelf.mjs';
 import { plainPath, readTree, reveal } from './tree.mjs';
 
@@ -25,8 +26,18 @@ const place = (text, kind, number) => (kind.startsWith('block') ? link(text, () 
 /** Shows lines of text, with links in them. */
 export const lines = (text, props = {}) => el('pre', props, text.split('\n').flatMap((it, k) => [k ? '\n' : '', ...linked(it)]));
 
+const SAID = 1 << 18; // characters of a report that are shown
+const CUT = '.. and more, which a command line shows';
+
 /** Shows what a command printed: its output, then its errors. */
-export const printed = ({ text, error }) => el('div', {}, text ? lines(text) : null, error ? el('pre', { className: 'bad' }, error) : null);
+export const printed = ({ text, error, cut }) => el('div', {}, text ? lines(text) : null, cut ? el('p', { className: 'dim' }, CUT) : null,
+  error ? el('pre', { className: 'bad' }, error) : null);
+
+/** Returns what uses a block. Of a hostile image that may be more than is shown. */
+export async function usesOf(block) {
+  const { text, error, cut } = await run(['block', ...at(), block], { limit: SAID });
+  return cut ? `${text.slice(0, text.lastIndexOf('\n', SAID))}\n${CUT}` : (text || error).trim();
+}
 
 const MARKS = new Map([[true, ['✓', 'holds', 'good']], [false, ['✗', 'broken', 'bad']], [null, ['–', 'not checked', 'dim']]]);
 
@@ -46,7 +57,7 @@ export async function showCheck(panel) {
     : `This volume breaks ${counted(image.broken.length, 'rule')}: ${image.broken.map((it) => it.rule).join(', ')}.`;
   const note = image.check.split('\n').filter((it) => it.startsWith('note:')).join(' ');
   const report = el('div', { 'aria-live': 'polite' });
-  const asks = async (command) => report.replaceChildren(el('h3', {}, command), printed(await run([command, ...at(), 1])));
+  const asks = async (command) => report.replaceChildren(el('h3', {}, command), printed(await run([command, ...at(), 1], { limit: SAID })));
   const cut = (label, id, isWithDamaged) => button(label, async () => {
     const said = await exportCut(isWithDamaged);
     report.replaceChildren(said ? el('pre', { id: 'lost' }, said.slice(0, SAID), said.length > SAID ? `.. and ${said.length - SAID} characters more` : '') : '');
@@ -72,6 +83,21 @@ export function chooser(label, value, least, most, choose) {
     button('▸', () => takes(Number(input.value) + 1), { 'aria-label': 'the next one' }));
 }
 
+const NAMES = 100; // names of an i-node that are shown
+const READ = 1 << 24; // characters of an i-node's blocks that are read
+
+/** Returns an i-node as `inode --json` prints it, or null with what it says. Of a hostile one, which may have far more blocks than the image, the first
+  blocks are read, and `isCut` is true. */
+export async function inodeOf(image, number) {
+  const ended = await run(['inode', '--json', ...at(image), number], { limit: READ });
+  if (!ended.text) return { ended, it: null };
+  if (!ended.cut) return { ended, it: JSON.parse(ended.text) };
+  const front = JSON.parse(`${ended.text.slice(0, ended.text.lastIndexOf('},') + 1)}]}`);
+  const { bytes } = await ask('slice', { name: image.name, at: 1024, length: INODE_BYTES[image.edition] * number });
+  const { modified, mode, permissions, ...rest } = readInode(image.edition, bytes, number);
+  return { ended, it: { ...front, ...rest, mtime: modified, mode: `0${mode.toString(8)}`, permissions: permissions.toString(8), isCut: true } };
+}
+
 const time = (seconds) => (seconds === null ? 'none' : `${seconds}: ${moment(seconds)} UTC`);
 
 /** The fields of an i-node, with links to its bytes and to the files that have it. */
@@ -89,7 +115,8 @@ function fields(it, names) {
     ['modified', time(it.mtime)],
     ['changed', time(it.ctime)],
     ['its bytes', link(`bytes ${from} on, block ${block}`, () => go('bytes', { block, byte: from }))],
-    ['names', el('span', {}, names.flatMap((node) => [link(node.path, () => shows(node.path)), ' ']), names.length ? '' : 'none')],
+    ['names', el('span', {}, names.slice(0, NAMES).flatMap((node) => [link(node.path, () => shows(node.path)), ' ']), names.length ? '' : 'none',
+      names.length > NAMES ? `and ${counted(names.length - NAMES, 'more name', 'more names')}` : '')],
   ]);
 }
 
@@ -102,11 +129,11 @@ async function shows(path) {
 export async function showInode(panel) {
   const most = state.image.use?.inodes ?? 65535;
   panel.append(el('h2', {}, 'I-node'), chooser('I-node', state.inode, 1, most, (inode) => go('inode', { inode })));
-  const ended = await run(['inode', '--json', ...at(), state.inode]);
-  if (!ended.text) return panel.append(printed(ended));
-  const it = JSON.parse(ended.text);
+  const { ended, it } = await inodeOf(state.image, state.inode);
+  if (!it) return panel.append(printed(ended));
   const names = [...(await readTree(state.image)).all.values()].filter((node) => node.inode === state.inode);
-  panel.append(fields(it, names), table('Its blocks', ['Blocks', 'Hold'], it.extents.map(extent)));
+  panel.append(fields(it, names), longTable('Its blocks', ['Blocks', 'Hold'], it.extents, extent));
+  if (it.isCut) panel.append(el('p', {}, `It names more than these ${counted(it.extents.length, 'piece')}, which is all that this page reads.`));
   panel.append(el('p', {}, button('Mark them on the map', () => go('map'))));
 }
 
@@ -116,7 +143,6 @@ function extent({ block, count, inside, level, logical }) {
   return [link(count > 1 ? `${block}-${last}` : String(block), () => go('bytes', { block })), inside ? holds : `${holds}; this is no data block`];
 }
 
-const SAID = 1 << 18; // characters of what is said that are shown
 const LINKS = 12; // links of the free list that are shown at once
 const SHOWN = 2000; // paths that find shows
 
@@ -174,14 +200,14 @@ export async function showFind(panel) {
     const ended = await run(['find', ...at(), '--name', input.value], { limit: 1 << 22 });
     const paths = (ended.text ?? '').split('\n').filter(Boolean);
     const list = paths.slice(0, SHOWN).map((path) => el('li', {}, link(path, () => shows(escaped(path)))));
-    fill(clear(found), el('p', {}, counted(paths.length, 'path'), paths.length > SHOWN ? `, of which the first ${SHOWN} are shown` : ''),
+    fill(clear(found), el('p', {}, ended.cut ? 'More than ' : '', counted(paths.length, 'path'), paths.length > SHOWN ? `, of which the first ${SHOWN} are shown` : ''),
       el('ul', { className: 'code', id: 'found' }, list), ended.error ? el('pre', { className: 'bad' }, ended.error) : '');
   };
   const sums = async () => {
     const name = `${state.image.name}.sums`;
     const ended = await run(['sums', ...at()], { into: name });
     found.replaceChildren(el('p', {}, button('Download the manifest', () => save(name, new Blob([ended.output])))),
-      printed({ text: ended.text.slice(0, 1 << 18), error: ended.error }));
+      printed({ ...ended, text: ended.text.slice(0, SAID), cut: ended.text.length > SAID }));
   };
   panel.append(el('h2', {}, 'Find'), el('form', { className: 'row', onsubmit: doing(find) }, el('label', { htmlFor: 'pattern' }, 'Names like'), input,
     el('button', { type: 'submit' }, 'Find'),

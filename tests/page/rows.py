@@ -556,6 +556,28 @@ def sparse(native, name, size):
     return native.write(name, bytes(data))
 
 
+def check_hostile(page, native):
+    """An i-node that names one block two million times doesn't freeze the page."""
+    native.run("mkfs", 7, "endless.img", 60, 2, 0, 0, 1000)
+    native.write("nothing", b"x")
+    native.run("put", 7, "endless.img", "/big", "nothing", 1000)
+    data = bytearray(native.bytes("endless.img"))
+    at = 1024 + 64 * (int(re.search(r"i-node (\d+)", native.out("inode", 7, "endless.img", "/big"))[1]) - 1)
+    data[at + 8:at + 51] = (1082201088 >> 16).to_bytes(2, "little") + (1082201088 & 0xFFFF).to_bytes(2, "little") + bytes([0, 30, 0]) * 13
+    data[512 * 30:512 * 31] = bytes([0, 0, 30, 0]) * 128
+    page.open(native.write("endless.img", bytes(data)))
+    page.select("/big")
+    begun = time.time()
+    for tab in "inode", "map", "bytes", "check":
+        page.tab(tab)
+    has("four tabs of an endless i-node are soon shown", True, time.time() - begun < 60)
+    page.tab("inode")
+    has("its mode", "0100644: file, -rw-r--r--", page.text("#panel td"))
+    has("it is said that there is more", 1, len([it for it in page.texts("#panel p") if it.startswith("It names more than these")]))
+    page.js("[...document.querySelectorAll('#panel button')].find((it) => it.textContent.startsWith('Show more')).click()")
+    has("its blocks", 1000, page.js("return [...document.querySelectorAll('#panel table')].at(-1).tBodies[0].rows.length"))
+
+
 def check_bounds(page, native):
     """A hostile archive is asked for first, a long command can be stopped, and the page goes on."""
     page.open(sparse(native, "hostile.img", 1000000000))
@@ -598,7 +620,7 @@ def check_quiet(page, _):
 
 ROWS = [
     check_packed, check_open, check_views, check_lessons, check_ten_steps, check_changes, check_scripts, check_play, check_new, check_bytes, check_damaged,
-    check_several, check_pack, check_keys, check_narrow, check_bounds, check_large, check_quiet,
+    check_several, check_pack, check_keys, check_narrow, check_hostile, check_bounds, check_large, check_quiet,
 ]
 
 

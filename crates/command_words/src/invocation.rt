@@ -231,7 +231,10 @@ impl<'a> Invocation<'a> {
             Invocation::Change { change, .. } => Invocation::Change { volume, change },
             Invocation::Look { look, .. } => Invocation::Look { volume, look },
             Invocation::ExportBad {
-                map, path, options, ..
+                map,
+                path,
+                options,
+                ..
             } => Invocation::ExportBad {
                 volume,
                 map,

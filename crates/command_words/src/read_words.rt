@@ -7,9 +7,9 @@ ghost use Rattle.command_words.specs.declared.verbs.Verb.TheVariants as verbs;
 
 use crate::fault::{Said, WordFault, WrongWord};
 use crate::given::{
-    EditionWord, Given, edition_in, flag_in, long_in, long_or, moment_in, node_in,
-    owner_in, path_in, permissions_in, radix_in, rescue_in, scripts_in, target_in, text_in,
-    threads_in, word_in,
+    EditionWord, Given, edition_in, flag_in, long_in, long_or, moment_in, node_in, owner_in,
+    path_in, permissions_in, radix_in, rescue_in, scripts_in, target_in, text_in, threads_in,
+    word_in,
 };
 use crate::identify_words::read_identify;
 use crate::invocation::{Copying, Invocation, MadeFile, Serving, VolumeFile, Work};

@@ -25,10 +25,11 @@ same_work (invocations.Salvage old copy) found volume work is = absurd (cc)
 same_work (invocations.Resize old blocks is_trial) found volume work is = absurd (cc)
 same_work (invocations.Change old change) found volume work is = absurd (cc)
 same_work (invocations.Look old look) found volume work is = absurd (cc)
+same_work (invocations.ExportBad old map p options) found volume work is = absurd (cc)
 same_work (invocations.Copy old copying) found volume work is = absurd (cc)
 same_work (invocations.Serve old serving) found volume work is = absurd (cc)
-same_work (invocations.Diff old other all) found volume work is = absurd (cc)
-same_work (invocations.Identify images) found volume work is = absurd (cc)
+same_work (invocations.Diff old other by) found volume work is = absurd (cc)
+same_work (invocations.Identify images form) found volume work is = absurd (cc)
 
 -- if a command with its edition found is work with several threads, the command that was asked for is that work
 settled_work : {F : Type 0} (remaining : F → Option (List ℕ)) (asked settled : Invocation) (volume : VolumeFile) (work : Work) → IsSettled remaining asked settled

@@ -19,11 +19,11 @@ returns-in-Err g c errors hears =
 
 pub images-preserved : goal.images-preserved
 images-preserved g c =
-    let line = c.in-Ok.ensures.printed in (
+    let line = c.in-Ok-print_line.ensures.printed in (
       subst (λ (status : ℕ). ArePrinted g.R.File.Read.remaining g.R.ImageFiles.had g.R.ImageFiles.stood c.args.form c.args.images.now (c.images.image-index + 1) (g.O.Sink.contents c.args.output.now)
           (g.O.Sink.contents c.print_line.new.output) status) (sym c.max-status.ensures)
           (printed_more g.R.File.Read.remaining g.R.ImageFiles.had g.R.ImageFiles.stood c.args.form c.args.images.now c.images.image-index _ (g.O.Sink.contents c.args.output.now) (g.O.Sink.contents c.images.output)
-          (g.O.Sink.contents c.print_line.new.output) c.images.status c.in-Ok.one (omega arith) c.images.invariant.0 (line.0, line.1, line.2)),
+          (g.O.Sink.contents c.print_line.new.output) c.images.status c.in-Ok-print_line.one (omega arith) c.images.invariant.0 (line.0, line.1, line.2)),
       line.3 ∙ c.images.invariant.1,
     )
 

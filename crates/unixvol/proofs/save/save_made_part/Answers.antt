@@ -9,7 +9,7 @@ returns-in-Ok-save_volume g c =
       c.in-Ok-to_bytes.ensures,
       (
         c.in_default.ensures.room,
-        (_, refl, c.deref.ensures.value, c.in-Ok-save_volume.ensures.saved),
+        (record { at = c.args.place.at; bytes = c.deref.result }, refl, c.deref.ensures.value, c.in-Ok-save_volume.ensures.saved),
         _,
         c.in-Ok-save_volume.ensures.unchanged,
       ),

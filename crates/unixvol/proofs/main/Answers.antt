@@ -6,5 +6,5 @@ use Rattle.unixvol.proofs.main.Goals as goal
 pub run_to_end-requires-after_bounds : goal.run_to_end-requires-after_bounds
 run_to_end-requires-after_bounds g c κs =
     let is : c.in-Ok-read_settled.read ≡ Ok (invocations.Work c.in-Ok-Work.volume c.in-Ok-Work.work) = search rules in
-    settled_workable g.R.File.Read.remaining c.moment.result _ c.in-Ok-read_settled.read c.in-Ok-Work.volume c.in-Ok-Work.work
+    settled_workable _ c.moment.result _ c.in-Ok-read_settled.read c.in-Ok-Work.volume c.in-Ok-Work.work
     c.in-Ok-read_settled.ensures.read is

@@ -1,4 +1,4 @@
-use Rattle.std.proofs.Common.{◌∙◌, ℕ, ap, inl, inr, length, refl, subst}
+use Rattle.std.proofs.Common.{◌≡◌, ◌∙◌, ℕ, ap, arith, inl, inr, length, refl, subst}
 use Rattle.std.proofs.KnownBytes.{Keeps-refl}
 use Rattle.command_faults.specs.Streams.{still}
 use Rattle.command_changes.specs.Resize.{of_resize}
@@ -18,6 +18,7 @@ returns-in-Err-clause-ends g c known failed errors hears =
 pub returns-clause-runs : goal.returns-clause-runs
 returns-clause-runs g c known failed errors hears =
     let files = host_files c.args.volume.at g.R.File.Read.remaining g.R.File.Write.contents g.R.ImageFiles.had g.R.ImageFiles.stood in
+    let size : c.len.result ≡ length c.in-Ok.read.0.bytes.items = omega (arith, c.len.ensures, c.in-Ok.read.0.bytes.ok.0) in
     inr (
       c.in-Ok.read.0.bytes.items,
       c.in-Ok.read.1,
@@ -26,14 +27,13 @@ returns-clause-runs g c known failed errors hears =
       concluded _ _ _ _ (among _ _ _ _ _ refl c.resize_image-resized.ensures.resized c.resize_image-resized.ensures.fault c.unremarked.ensures)
           c.conclude-answer.ensures.made c.conclude-answer.ensures.fault hears (Keeps-refl known) refl,
       subst (λ (had : ℕ). EndsSaved (SavesResized files c.in-Ok.read.1 (record { at = c.args.volume.at; had = had; gets = c.args.blocks }) c.args.is_trial)
-          c.conclude-answer.result c.save_resized-status.result) (c.blocks_in.ensures ∙ ap blocks_in c.len.ensures) c.save_resized-status.ensures,
+          c.conclude-answer.result c.save_resized-status.result) (c.blocks_in.ensures ∙ ap blocks_in size) c.save_resized-status.ensures,
     )
 
 pub returns-clause-ends : goal.returns-clause-ends
 returns-clause-ends g c known failed errors hears =
     let files = host_files c.args.volume.at g.R.File.Read.remaining g.R.File.Write.contents g.R.ImageFiles.had g.R.ImageFiles.stood in
-    let growth = record { at = c.args.volume.at; had = c.blocks_in.result; gets = c.args.blocks } in
     ends_concluded (of_resize c.args.volume.edition c.in-Ok.read.0.bytes.items c.args.blocks) (still known failed errors)
-    (SavesResized files c.in-Ok.read.1 growth c.args.is_trial) c.conclude-answer.result c.save_resized-status.result
+    (SavesResized files c.in-Ok.read.1 (record { at = c.args.volume.at; had = c.blocks_in.result; gets = c.args.blocks }) c.args.is_trial) c.conclude-answer.result c.save_resized-status.result
     (concluded _ _ _ _ (among _ _ _ _ _ refl c.resize_image-resized.ensures.resized c.resize_image-resized.ensures.fault c.unremarked.ensures)
     c.conclude-answer.ensures.made c.conclude-answer.ensures.fault hears (Keeps-refl known) refl) c.save_resized-status.ensures

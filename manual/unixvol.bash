@@ -28,7 +28,7 @@ _unixvol() {
     while [[ ${before[0]:-} == -* ]]; do before=("${before[@]:1}"); done
     command=${before[0]:-}
     if [ -z "$command" ]; then
-        mapfile -t COMPREPLY < <(compgen -W 'cat ls get find export sums inode super free block dump diff df map check icheck dcheck ncheck mkfs put import rm rmdir mkdir ln mv chmod chown touch salvage play migrate serve identify help --explain -h --help -V --version' -- "$current")
+        mapfile -t COMPREPLY < <(compgen -W 'cat ls get find export sums inode super free block dump diff df map check icheck dcheck ncheck mkfs put import rm rmdir mkdir ln mv chmod chown touch salvage resize play migrate serve identify help --explain -h --help -V --version' -- "$current")
         return
     fi
     case $command in
@@ -36,7 +36,7 @@ _unixvol() {
         ls) kinds='edition file path' options='--at -l --long -R --recursive -d --directory --json --slots --explain -h --help' valued='--at=any' others='' ;;
         get) kinds='edition file path any...' options='--at -o --output -p --preserve --explain -h --help' valued='--at=any -o=file --output=file' others='edition file path...' ;;
         find) kinds='edition file path' options='--at -g --name --lost --json --explain -h --help' valued='--at=any -g=any --name=any' others='' ;;
-        export) kinds='edition file path' options='--at --lost --cut --damaged --status --explain -h --help' valued='--at=any' others='' ;;
+        export) kinds='edition file path' options='--at --lost --cut --bad --damaged --status --explain -h --help' valued='--at=any --bad=file' others='' ;;
         sums) kinds='edition file path' options='--at --lost --json --explain -h --help' valued='--at=any' others='' ;;
         inode) kinds='edition file any' options='--at --json --explain -h --help' valued='--at=any' others='' ;;
         super) kinds='edition file' options='--at --json --explain -h --help' valued='--at=any' others='' ;;
@@ -50,7 +50,7 @@ _unixvol() {
         icheck) kinds='edition file any' options='--at --json --explain -h --help' valued='--at=any' others='' ;;
         dcheck) kinds='edition file any' options='--at --json --explain -h --help' valued='--at=any' others='' ;;
         ncheck) kinds='edition file any' options='--at --json --explain -h --help' valued='--at=any' others='' ;;
-        mkfs) kinds='edition file any any any any any' options='--new --explain -h --help' ;;
+        mkfs) kinds='new_edition file any any any any any' options='--new --at --explain -h --help' valued='--at=any' others='' ;;
         put) kinds='edition file path file any any...' options='--at -t --target-directory -p --preserve -x --executable --explain -h --help' valued='--at=any -t=path --target-directory=path' others='edition file file...' ;;
         import) kinds='edition file path any' options='--at --skip-special -o --owner --explain -h --help' valued='--at=any -o=any --owner=any' others='' ;;
         rm) kinds='edition file path any' options='--at -r --recursive --explain -h --help' valued='--at=any' others='' ;;
@@ -62,10 +62,11 @@ _unixvol() {
         chown) kinds='edition file path any any any' options='--at --explain -h --help' valued='--at=any' others='' ;;
         touch) kinds='edition file path any' options='--at --explain -h --help' valued='--at=any' others='' ;;
         salvage) kinds='edition file' options='--at -o --output -n --dry-run --explain -h --help' valued='--at=any -o=file --output=file' others='' ;;
+        resize) kinds='edition file any' options='--at -n --dry-run --explain -h --help' valued='--at=any' others='' ;;
         play) kinds='edition file file...' options='--at --journal --trace --explain -h --help' valued='--at=any' others='' ;;
         migrate) kinds='file file any any any' options='--new --at --explain -h --help' valued='--at=any' others='' ;;
         serve) kinds='edition file' options='--at --read-only --mine -r --rescue --explain -h --help' valued='--at=any -r=file --rescue=file' others='' ;;
-        identify) kinds='file...' options='--explain -h --help' ;;
+        identify) kinds='file...' options='--json --csv --explain -h --help' ;;
     esac
     if [[ $current == -* ]]; then
         mapfile -t COMPREPLY < <(compgen -W "$options" -- "$current")
@@ -90,7 +91,8 @@ _unixvol() {
         expected=${expected%% *}
     fi
     case ${expected%...} in
-        edition) mapfile -t COMPREPLY < <(compgen -W '6 7' -- "$current") ;;
+        edition) mapfile -t COMPREPLY < <(compgen -W '6 7 any' -- "$current") ;;
+        new_edition) mapfile -t COMPREPLY < <(compgen -W '6 7' -- "$current") ;;
         file) mapfile -t COMPREPLY < <(compgen -f -- "$current") ;;
         path) _unixvol_paths "${given[0]}" "${given[1]}" "$current" ;;
     esac

@@ -60,7 +60,7 @@ build:
 
 # The gate leaves the program that it proved and built in out/.
 test:
-	$(RT) ci
+	RT=$(RT) tools/gate.sh
 	cp -f crates/unixvol/out/unixvol unixvol
 	RT=$(RT) tools/sources.sh > crates/unixvol/out/sources
 	RT=$(RT) tests/run.sh ./unixvol $(ROWS)

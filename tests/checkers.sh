@@ -101,13 +101,13 @@ wants 'dcheck of an image that was made to keep it busy' 1 lines none
 # Eight directories of the greatest size in an image of 6 KB: all of their blocks are one block, with an entry or without.
 ringed rings 40755 1082201088 1 8 0100030000000b0000000b0000000b00
 (echo '1 228878848 1' && printf '%d 0 1\n' {2..8}) > lines
-(ulimit -t 6; runs dcheck 7 rings 1)
+(ulimit -t "$(seconds 6)"; runs dcheck 7 rings 1)
 wants 'dcheck of directories whose entries are in a ring' 1 lines none
 ringed rings 40755 1082201088 1 8 00000b00
 printf '%d 0 1\n' {1..8} > lines
-(ulimit -t 6; runs dcheck 7 rings 1)
+(ulimit -t "$(seconds 6)"; runs dcheck 7 rings 1)
 wants 'dcheck of directories in a ring, without entries' 1 lines none
-(ulimit -t 6; in_memory 300000 runs ncheck 7 rings 1)
+(ulimit -t "$(seconds 6)"; in_memory 300000 runs ncheck 7 rings 1)
 wants 'ncheck of directories in a ring, without entries' 0 none none
 
 # A root of 16,522 blocks that are one block: the lines of 298,304 names are kept, but not their JSON.

@@ -145,7 +145,7 @@ printf '%s\n' '3 i-node 1 is neither free nor a file' '5 no data block: i-node 1
     '9 no i-number of the volume: directory 1, slot 0' '10 not asked' '11 a second entry for a directory: directory 1, slot 1' \
     '12 a wrong link count: i-node 1, entries 228878848, links 1' > lines
 reported > wanted
-(ulimit -t 8; runs check 7 ringed.7)
+(ulimit -t "$(seconds 8)"; runs check 7 ringed.7)
 wants 'check of directories whose entries are in a ring' 1 wanted none
 
 # 65,502 directories of the greatest size, which are holes: 70 TB in all.
@@ -158,7 +158,7 @@ open("holes.7", "wb").write(image)
 PYTHON
 printf '%s\n' '10 no . for itself: directory 3' '11 not reached from the root: directory 3' '12 a wrong link count: i-node 3, entries 0, links 1' > lines
 reported > wanted
-(ulimit -t 1; runs check 7 holes.7)
+(ulimit -t "$(seconds 1)"; runs check 7 holes.7)
 wants 'check of directories that are holes' 1 wanted none
 
 # I-nodes and super-blocks, as text and as JSON.

@@ -531,7 +531,7 @@ has 'an export of directories that name one block everywhere' '1 31 993' "$(cat 
 
 # Eight directories whose entries are in a ring: what they name is collected once.
 ringed ringed.v7 40755 1082201088 1 8 0100030000000b0000000b0000000b00
-(ulimit -t 8; runs export --lost 7 ringed.v7 /)
+(ulimit -t "$(seconds 8)"; runs export --lost 7 ringed.v7 /)
 has 'an export of directories in a ring, with what is lost' '1 8 unixvol: unsound, rule 3' "$(cat status) $(tar tf output | wc -l) $(tail -n 1 error)"
 
 # Times on long lines, compared with those of Python's datetime: those of a table, and one every fifth day up to 2105. Each is the time of

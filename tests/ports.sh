@@ -19,6 +19,8 @@ test_program() {
     local program=$built/$1/unixvol script run
     has "$1: what it needs of the system" '' "$(readelf -ldW "$program" | grep -E 'INTERP|NEEDED')"
     read -ra run < <(runner "$1")
+    export SLOWER=1
+    [ ${#run[@]} = 0 ] || SLOWER=10
     stands_for "${run[@]}" "$program"
     has "$1: --version" "unixvol $version" "$("$room/unixvol" --version)"
     for script in $rows; do runs "$1: $script" "tests/$script.sh" "$room/unixvol"; done

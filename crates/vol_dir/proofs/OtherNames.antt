@@ -1,15 +1,13 @@
 -- Slots with another name than the one that is searched for.
-use Rattle.std.proofs.Common.{◌≡◌, ◌≢◌, ◌∙◌, sym, ap, ℕ, ◌+◌, ◌==◌, ◌<◌, Bool, true, false, List, Some, length, take, get_or, refl, inl, inr, arith}
+use Rattle.std.proofs.Common.{◌≡◌, ◌≢◌, ◌∙◌, sym, ap, ℕ, ◌+◌, ◌==◌, ◌<◌, false, List, length, take, get_or, inl, inr, arith}
 use Rattle.std.specs.Prelude.{slice_range}
 use Rattle.std.specs.List.{position_or_len}
 use Rattle.std.specs.Str.{bytes_eq}
-use Rattle.std.proofs.lemmas.Bool.{cases_Bool, ne_eqb}
+use Rattle.std.proofs.lemmas.Bool.{cases_Bool}
 use Rattle.std.proofs.lemmas.List.{get_or-take, length-take}
 use Rattle.vol_layout.specs.Slot.{slot_at, name_of}
 use Rattle.vol_layout.proofs.BodyLaws.{get_or-slice_range}
 use Rattle.vol_file.proofs.PlaceLists.{same_bytes}
-use Rattle.vol_dir.specs.Entries.{entry_in}
-use Rattle.vol_dir.specs.Search.{holds}
 
 -- a byte of a name is the byte of the list that the name begins
 name_byte : (xs name : List ℕ) (k : ℕ) → name ≡ name_of xs → k < length name → get_or name k 0 ≡ get_or xs k 0

@@ -17,7 +17,7 @@ pub use access::{Access, grants};
 pub use add_entry::{add, add_at};
 pub use cred::Cred;
 pub use entries::{Entry, find, is_dots, is_empty_dir, lookup, next_entry, place_for};
-pub use listing::list_names;
+pub use listing::{list_names, name_key};
 pub use path_walk::{walk, walk_parent};
 pub use paths::split_component;
 pub use refusal::Refusal;

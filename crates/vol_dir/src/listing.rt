@@ -3,7 +3,7 @@ ghost use Rattle.std.specs.Prelude.{◌≡◌, ◌<◌, ◌≤◌, ℕ, false, l
 ghost use Rattle.vol_layout.specs.Geometry.{Fits};
 ghost use Rattle.vol_layout.specs.Slot.{name_of};
 ghost use Rattle.vol_dir.specs.Entries.{slots, IsDirectory};
-ghost use Rattle.vol_dir.specs.NameKeys.{key_of};
+ghost use Rattle.vol_dir.specs.NameKeys.{key_of, IsSlotName};
 ghost use Rattle.vol_dir.specs.NameList.{IsKeyed, by_bytes, put_first};
 ghost use Rattle.vol_dir.specs.Names.{names_of};
 
@@ -110,18 +110,25 @@ fn put_first(
     ensures put { OnOk result (by_bytes names.new.entries ≡ put_first (by_bytes names.old.entries) (name_of slot.name) slot.inode) }
     ensures keyed { OnOk result (IsKeyed names.new.entries) }
 {
-    let name = slot.name();
-    let key = key_from(name);
+    let key = name_key(slot);
     if !names.contains_key(&key) {
-        let name = Vec::from_slice(alloc, name)?;
+        let name = Vec::from_slice(alloc, slot.name())?;
         let inode = slot.inode;
         names.insert(key, NameEntry { name, inode })?;
     }
     Ok(())
 }
 
-/// Returns the number of a name: its bytes as digits in base 256, and zeros up to 14 digits. Numbers are in the order of their names, and compared at
-/// once.
+/// Returns the number of the name in a slot: its bytes as digits in base 256, and zeros up to 14 digits. Numbers are in the order of their names, and
+/// compared at once; only one name has a number.
+pub fn name_key(slot: Slot) -> u128
+    ensures key { result ≡ key_of (name_of slot.name) }
+    ensures stored { IsSlotName (name_of slot.name) }
+{
+    key_from(slot.name())
+}
+
+/// Does the work of [`name_key`].
 fn key_from(name: &[u8]) -> u128
     requires { length name.now ≤ 14 }
     ensures key { result ≡ key_of name.now }

@@ -1,53 +1,23 @@
 -- Collecting the names of one directory.
-use Rattle.std.proofs.Common.{◌≡◌, ℕ, zero, suc, ◌+◌, ◌-◌, ◌/◌, ◌%◌, ◌<◌, ◌≤◌, min, ◌==◌, ◌⊎◌, inl, inr, true, false, cond, List, [], ◌∷◌, ◌++◌, Option, None, Some, length, take, replicate, refl, sym, ap, ◌∙◌, arith}
-use Rattle.std.specs.List.{position_or_len}
+use Rattle.std.proofs.Common.{◌≡◌, ℕ, ◌+◌, ◌/◌, ◌%◌, ◌<◌, ◌≤◌, min, ◌⊎◌, inl, inr, true, false, cond, List, Option, None, Some, refl, sym, ap, subst, ◌∙◌, arith}
 use Rattle.std.specs.BTreeSet.{BTreeSet, Updates}
-use Rattle.std.specs.Cmp.Lexicographic.{slice_cmp}
 use Rattle.std.specs.Ordering.{nat_cmp, eq_by_cmp}
 use borrow.Author.Count.{below_more}
 use Rattle.std.proofs.lemmas.Bool.{cases_lt, cases_eq, cases_Bool}
 use Rattle.std.proofs.lemmas.Map.Views.{tells_apart}
-use Rattle.std.proofs.lemmas.Map.Lookups.{exact_bytes}
 use Rattle.vol_layout.specs.Edition.{constants}
-use Rattle.vol_layout.specs.Slot.{name_of, padded_name}
+use Rattle.vol_layout.specs.Slot.{name_of}
 use Rattle.vol_layout.specs.declared.edition.Edition.{Edition}
 use Rattle.vol_layout.specs.declared.edition.Edition.TheVariants.{V6, V7}
 use Rattle.vol_layout.specs.declared.geometry.Geometry.{Geometry}
 use Rattle.vol_layout.specs.declared.slot.Slot.{Slot}
 use Rattle.vol_file.specs.Rules.{size_of}
 use Rattle.vol_dir.specs.Entries.{entry_at, slot_count, IsDirectory, HasEntry, HasEntries}
+use Rattle.vol_dir.specs.NameKeys.{key_of, IsSlotName}
 use Rattle.vol_dir.specs.Scan.{IsNextEntry}
-use Rattle.vol_judge.specs.DirectoryNames.{IsValidEntry, HasEntriesBelow, HasEntriesIn, is_in, HoldsNamesBelow}
+use Rattle.vol_judge.specs.DirectoryNames.{IsValidEntry, HasEntriesBelow, HasEntriesIn, IsNamedBelow, is_in, HoldsNamesBelow}
+use Rattle.vol_dir.proofs.NameKeys.{exact_nat, key_same}
 use Rattle.vol_dir.proofs.NextEntries.{entry_next, none_from}
-
--- zero bytes read as an empty name
-zeros : (k : ℕ) → name_of (replicate k 0) ≡ []
-zeros zero = refl
-zeros (suc k) = refl
-
--- the first n + 1 items of a list are its head and the first n items of its tail
-take_next : (n m x : ℕ) (xs : List ℕ) → m ≡ suc n → take m (x ∷ xs) ≡ x ∷ take n xs
-take_next n m x xs e = rw e
-
--- a first byte that isn't zero belongs to the name
-name_of-more : (x : ℕ) (xs : List ℕ) → (x == 0) ≡ false → name_of (x ∷ xs) ≡ x ∷ name_of xs
-name_of-more x xs e =
-    let more : position_or_len (λ c. c == 0) (x ∷ xs) ≡ suc (position_or_len (λ c. c == 0) xs) = rw e (omega arith) in
-    take_next (position_or_len (λ c. c == 0) xs) (position_or_len (λ c. c == 0) (x ∷ xs)) x xs more
-
--- a zero byte ends the name
-name_of-end : (x : ℕ) (xs : List ℕ) → (x == 0) ≡ true → name_of (x ∷ xs) ≡ []
-name_of-end x xs e = rw e
-
--- a name ends at its first zero byte, however many zero bytes follow
-stops : (k : ℕ) (xs : List ℕ) → name_of (name_of xs ++ replicate k 0) ≡ name_of xs
-stops k [] = zeros k
-stops k (x ∷ xs) =
-    let rest = stops k xs in
-    elim (cases_Bool (x == 0)) [
-      | inl e ↦ rw (name_of-end x xs e) (zeros k)
-      | inr e ↦ rw (name_of-more x xs e) (name_of-more x (name_of xs ++ replicate k 0) e ∙ ap (λ ys. x ∷ ys) rest)
-    ]
 
 -- a slot that has an entry isn't empty
 pub none_some : (slot : Option (List ℕ × ℕ)) (entry : List ℕ × ℕ) → slot ≡ Some entry → slot ≡ None → ⊥
@@ -59,10 +29,6 @@ same_entry slot name other i j one two =
     let both : Some (name, i) ≡ Some (other, j) = sym one ∙ two in
     let pair : (name, i) ≡ (other, j) = cc in
     (ap (λ (e : List ℕ × ℕ). e.0) pair, ap (λ (e : List ℕ × ℕ). e.1) pair)
-
--- a stored name reads back as the same name
-pub name_of-padded : (xs : List ℕ) → name_of (padded_name (name_of xs)) ≡ name_of xs
-name_of-padded xs = stops (14 - length (name_of xs)) xs
 
 -- the number of a directory's slots fits in 32 bits
 pub count_low : (edition : Edition) (size : ℕ) → min size (constants edition).greatest / 16 < 67637569
@@ -91,17 +57,17 @@ entry_split geometry image d {from = from} {s = s} {slot = slot} t i name next l
       ]
     ]
 
--- if a name isn't in the set of the names below slot `from`, no entry below `from` has it
-below_in : {geometry : Geometry} {image : List ℕ} {d from t i : ℕ} {names : BTreeSet (List ℕ)} (name other : List ℕ) → HoldsNamesBelow geometry image d from names
-    → t < from → entry_at geometry image d t ≡ Some (name, i) → name ≡ other → is_in names (padded_name other) ≡ false → ⊥
+-- if a name's number isn't in the set of those below slot `from`, no entry below `from` has the name
+below_in : {geometry : Geometry} {image : List ℕ} {d from t i : ℕ} {names : BTreeSet ℕ} (name other : List ℕ) → HoldsNamesBelow geometry image d from names
+    → t < from → entry_at geometry image d t ≡ Some (name, i) → name ≡ other → is_in names (key_of other) ≡ false → ⊥
 below_in {names = names} name other held low entry same new =
-    let there : is_in names (padded_name name) ≡ true = held.all _ _ name low entry in
+    let there : is_in names (key_of name) ≡ true = held.all _ _ name low entry in
     let there' = rw same at there in cc
 
 -- if the slots below `from` keep rule 9, and the next entry is valid and its name isn't in the set, the slots up to that entry keep rule 9
-pub below_next : {geometry : Geometry} {image : List ℕ} {d from s : ℕ} {slot : Slot} {names : BTreeSet (List ℕ)} → HasEntriesBelow geometry image d from
+pub below_next : {geometry : Geometry} {image : List ℕ} {d from s : ℕ} {slot : Slot} {names : BTreeSet ℕ} → HasEntriesBelow geometry image d from
     → HoldsNamesBelow geometry image d from names → IsNextEntry (entry_at geometry image d) from (slot_count geometry image d) s slot → IsValidEntry geometry image (name_of slot.name) slot.inode
-    → is_in names (padded_name (name_of slot.name)) ≡ false → HasEntriesBelow geometry image d (s + 1)
+    → is_in names (key_of (name_of slot.name)) ≡ false → HasEntriesBelow geometry image d (s + 1)
 below_next {geometry = geometry} {image = image} {d = d} {slot = slot} {names = names} below held next good new = record {
   entries = λ t i name low entry.
       elim (entry_split geometry image d t i name next low entry) [
@@ -122,46 +88,54 @@ below_next {geometry = geometry} {image = image} {d = d} {slot = slot} {names = 
 }
 
 -- with the name of the next entry added, the set has the names of the entries up to that entry
-pub names_next : {geometry : Geometry} {image : List ℕ} {d from s : ℕ} {slot : Slot} {names after : BTreeSet (List ℕ)}
+pub names_next : {geometry : Geometry} {image : List ℕ} {d from s : ℕ} {slot : Slot} {names after : BTreeSet ℕ}
     → HoldsNamesBelow geometry image d from names → IsNextEntry (entry_at geometry image d) from (slot_count geometry image d) s slot
-    → Updates (slice_cmp nat_cmp) names after (padded_name (name_of slot.name)) true → HoldsNamesBelow geometry image d (s + 1) after
-names_next {geometry = geometry} {image = image} {d = d} {from = from} {s = s} {slot = slot} {names = names} {after = after} held next updates =
-    let key = padded_name (name_of slot.name) in
+    → IsSlotName (name_of slot.name) → Updates nat_cmp names after (key_of (name_of slot.name)) true → HoldsNamesBelow geometry image d (s + 1) after
+names_next {geometry = geometry} {image = image} {d = d} {from = from} {s = s} {slot = slot} {names = names} {after = after} held next stored updates =
+    let key = key_of (name_of slot.name) in
     record {
       all = λ t i name low entry.
           elim (entry_split geometry image d t i name next low entry) [
             | inl before ↦
-                let there : is_in names (padded_name name) ≡ true = held.all t i name before entry in
-                let now : is_in after (padded_name name) ≡ cond (eq_by_cmp (slice_cmp nat_cmp) key (padded_name name)) true (is_in names (padded_name name)) = updates.0 (padded_name name) in
-                now ∙ rw there (elim (eq_by_cmp (slice_cmp nat_cmp) key (padded_name name)) as (λ t. cond t true true ≡ true) [ true ↦ refl | false ↦ refl ])
-            | inr here ↦ ap (λ n. is_in after (padded_name n)) here.1 ∙ updates.1
+                let there : is_in names (key_of name) ≡ true = held.all t i name before entry in
+                let now : is_in after (key_of name) ≡ cond (eq_by_cmp nat_cmp key (key_of name)) true (is_in names (key_of name)) = updates.0 (key_of name) in
+                now ∙ rw there (elim (eq_by_cmp nat_cmp key (key_of name)) as (λ t. cond t true true ≡ true) [ true ↦ refl | false ↦ refl ])
+            | inr here ↦ ap (λ n. is_in after (key_of n)) here.1 ∙ updates.1
           ];
-      only = λ name there.
-          let now : is_in after name ≡ cond (eq_by_cmp (slice_cmp nat_cmp) key name) true (is_in names name) = updates.0 name in
-          elim (cases_Bool (eq_by_cmp (slice_cmp nat_cmp) key name)) [
-            | inl same ↦
-                let is : key ≡ name = tells_apart exact_bytes key name same in
-                let read : name_of name ≡ name_of slot.name = ap name_of (sym is) ∙ name_of-padded slot.name in
-                record {
-                  slot = s;
-                  inode = slot.inode;
-                  below = omega arith;
-                  entry = entry_next next ∙ ap (λ n. Some (n, slot.inode)) (sym read);
-                }
+      only = λ other there.
+          let now : is_in after other ≡ cond (eq_by_cmp nat_cmp key other) true (is_in names other) = updates.0 other in
+          elim (cases_Bool (eq_by_cmp nat_cmp key other)) [
+            | inl same ↦ record {
+              name = name_of slot.name;
+              stored = stored;
+              numbered = tells_apart exact_nat key other same;
+              named = record { slot = s; inode = slot.inode; below = omega arith; entry = entry_next next };
+            }
             | inr apart ↦
-                let before : is_in names name ≡ true = sym (now ∙ rw apart refl) ∙ there in
-                let had = held.only name before in
-                record { slot = had.slot; inode = had.inode; below = omega (arith, had.below, next.reached); entry = had.entry }
+                let before : is_in names other ≡ true = sym (now ∙ rw apart refl) ∙ there in
+                let had = held.only other before in
+                let named = had.named in
+                record {
+                  name = had.name;
+                  stored = had.stored;
+                  numbered = had.numbered;
+                  named = record { slot = named.slot; inode = named.inode; below = omega (arith, named.below, next.reached); entry = named.entry };
+                }
           ];
     }
 
--- if the name of the next entry is already in the set, the directory breaks rule 9
-pub twice : {geometry : Geometry} {image : List ℕ} {d from s : ℕ} {slot : Slot} {names : BTreeSet (List ℕ)} → HoldsNamesBelow geometry image d from names
-    → IsNextEntry (entry_at geometry image d) from (slot_count geometry image d) s slot → is_in names (padded_name (name_of slot.name)) ≡ true → HasEntriesIn geometry image d → ⊥
-twice {slot = slot} held next there rule =
-    let had = held.only (padded_name (name_of slot.name)) there in
-    let entry = rw name_of-padded at had.entry in
-    let same : had.slot ≡ _ = rule.once had.slot _ had.inode slot.inode (name_of slot.name) entry (entry_next next) in
+-- if a name's number is in the set, an earlier entry has the name
+pub named_before : {geometry : Geometry} {image : List ℕ} {d from : ℕ} {names : BTreeSet ℕ} (name : List ℕ) → HoldsNamesBelow geometry image d from names
+    → IsSlotName name → is_in names (key_of name) ≡ true → IsNamedBelow geometry image d from name
+named_before {geometry = geometry} {image = image} {d = d} {from = from} name held stored there =
+    let had = held.only (key_of name) there in
+    subst (λ is. IsNamedBelow geometry image d from is) (key_same had.name name had.stored stored had.numbered) had.named
+
+-- if an earlier entry has the name of the next entry, the directory breaks rule 9
+pub twice : {geometry : Geometry} {image : List ℕ} {d from s : ℕ} {slot : Slot} → IsNamedBelow geometry image d from (name_of slot.name)
+    → IsNextEntry (entry_at geometry image d) from (slot_count geometry image d) s slot → HasEntriesIn geometry image d → ⊥
+twice {slot = slot} had next rule =
+    let same : had.slot ≡ _ = rule.once had.slot _ had.inode slot.inode (name_of slot.name) had.entry (entry_next next) in
     omega (arith, had.below, next.reached, same)
 
 -- if the slots below `from` keep rule 9 and no later slot has an entry, the directory keeps rule 9

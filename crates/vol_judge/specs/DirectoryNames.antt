@@ -2,12 +2,11 @@
 use Rattle.std.specs.Prelude.{◌≡◌, ◌≢◌, ℕ, ◌%◌, ◌<◌, ◌≤◌, ◌==◌, Bool, true, false, List, [], Some}
 use Rattle.std.specs.List.{list_any}
 use Rattle.std.specs.BTreeSet.{BTreeSet, contains}
-use Rattle.std.specs.Cmp.Lexicographic.{slice_cmp}
 use Rattle.std.specs.Ordering.{nat_cmp}
 use Rattle.vol_layout.specs.Edition.{constants}
-use Rattle.vol_layout.specs.Slot.{name_of, padded_name}
 use Rattle.vol_file.specs.Rules.{size_of, kind_at}
 use Rattle.vol_dir.specs.Entries.{entry_at}
+use Rattle.vol_dir.specs.NameKeys.{key_of, IsSlotName}
 use Rattle.vol_layout.specs.declared.geometry.Geometry.{Geometry}
 use Rattle.vol_layout.specs.declared.mode.Kind.TheVariants as kinds
 
@@ -39,11 +38,18 @@ pub record IsNamedBelow (geometry : Geometry) (image : List ℕ) (d n : ℕ) (na
   pub below : slot < n
   pub entry : entry_at geometry image d slot ≡ Some (name, inode)
 
--- true if a name is in a set of names, written as slots store them (this project)
-abbrev pub is_in : BTreeSet (List ℕ) → List ℕ → Bool
-is_in names name = contains (slice_cmp nat_cmp) names name
+-- a set of numbers of names has this one (this project)
+abbrev pub is_in : BTreeSet ℕ → ℕ → Bool
+is_in keys key = contains nat_cmp keys key
 
--- the set has exactly the names of the entries of directory d below slot n, written as slots store them (this project)
-pub record HoldsNamesBelow (geometry : Geometry) (image : List ℕ) (d n : ℕ) (names : BTreeSet (List ℕ)) : Type 0 where
-  pub all : (t i : ℕ) (name : List ℕ) → t < n → entry_at geometry image d t ≡ Some (name, i) → is_in names (padded_name name) ≡ true
-  pub only : (name : List ℕ) → is_in names name ≡ true → IsNamedBelow geometry image d n (name_of name)
+-- an entry of directory d below slot n has a name with this number (this project)
+pub record IsKeyedBelow (geometry : Geometry) (image : List ℕ) (d n key : ℕ) : Type 0 where
+  pub name : List ℕ
+  pub stored : IsSlotName name
+  pub numbered : key_of name ≡ key
+  pub named : IsNamedBelow geometry image d n name
+
+-- the set has exactly the numbers of the names of the entries of directory d below slot n (this project)
+pub record HoldsNamesBelow (geometry : Geometry) (image : List ℕ) (d n : ℕ) (keys : BTreeSet ℕ) : Type 0 where
+  pub all : (t i : ℕ) (name : List ℕ) → t < n → entry_at geometry image d t ≡ Some (name, i) → is_in keys (key_of name) ≡ true
+  pub only : (key : ℕ) → is_in keys key ≡ true → IsKeyedBelow geometry image d n key

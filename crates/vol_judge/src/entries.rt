@@ -2,7 +2,7 @@
 ghost use Rattle.std.specs.Prelude.{◌≡◌, IfOk, IsTrue, ◌↔◌};
 ghost use Rattle.vol_dir.specs.Repeats.{MarksEmpty};
 ghost use Rattle.vol_layout.specs.Geometry.{Fits};
-ghost use Rattle.vol_layout.specs.Slot.{name_of, padded_name};
+ghost use Rattle.vol_layout.specs.Slot.{name_of};
 ghost use Rattle.vol_dir.specs.Entries.{IsDirectory, HasEntries};
 ghost use Rattle.vol_judge.specs.DirectoryNames.{IsValidEntry, HasEntriesIn};
 ghost use Rattle.vol_judge.specs.Finds.{Finds};
@@ -13,8 +13,9 @@ use crate::finding::Finding;
 use pdp_words::Image;
 use std::alloc::{AllocError, Global};
 use std::collections::BTreeSet;
+use vol_dir::name_key;
 use vol_layout::i_list::{kind, size};
-use vol_layout::slot::{NAME, SLOT};
+use vol_layout::slot::SLOT;
 use vol_layout::{Geometry, Kind, Slot};
 
 /// Returns the first violation of rule 9. In the first directory that breaks the rule, it is the size if that isn't a whole number of slots, else the
@@ -78,7 +79,7 @@ fn find_in(
         if let Some(finding) = find_wrong(image, geometry, d, s, &slot) {
             return Ok(Some(finding));
         }
-        if !names.insert(stored_name(&slot))? {
+        if !names.insert(name_key(slot))? {
             return Ok(Some(Finding::SameName(d, s)));
         }
         from = s + 1;
@@ -113,11 +114,4 @@ fn is_numbered(geometry: &Geometry, i: u16) -> bool
     ensures { IsTrue result ↔ IsNumbered geometry.now i }
 {
     geometry.edition.constants().root <= i && i <= geometry.last_inode
-}
-
-/// Returns the name of a slot, with all bytes after its first zero byte replaced by zeros.
-fn stored_name(slot: &Slot) -> [u8; NAME]
-    ensures { result ≡ padded_name (name_of slot.now.name) }
-{
-    Slot::new(slot.inode, slot.name()).name
 }

@@ -1,7 +1,6 @@
-use Rattle.std.proofs.Common.{◌≡◌, ℕ, subst, sym, arith, rules}
+use Rattle.std.proofs.Common.{subst, sym, arith, rules}
 use Rattle.std.proofs.lemmas.Grind.{common_steps}
 use Rattle.vol_dir.specs.Entries.{IsDirectory}
-use Rattle.vol_judge.specs.Entered.{NotesUpTo}
 use Rattle.vol_judge.specs.Steps.{rank}
 use Rattle.vol_judge.proofs.Counts.{counts_first, counts_all}
 use Rattle.vol_judge.proofs.NotedEntries.{noted_at, next_found, past_all}

@@ -1,5 +1,6 @@
 pub mod Components
 mod ParentLaws
+mod GrantedNodes
 pub mod PathJoins
 pub mod Searches
 pub mod GoneEntries

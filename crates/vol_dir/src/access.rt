@@ -6,7 +6,8 @@ ghost use Rattle.vol_dir.specs.Access.{bit_of, has_bit, grants, grants_at};
 
 use crate::cred::Cred;
 use pdp_words::Image;
-use vol_layout::{Geometry, inode};
+use vol_layout::Geometry;
+use vol_layout::i_list::{mode, owner_of};
 
 /// An access to a file or directory.
 #[derive(Clone, Copy)]
@@ -36,7 +37,7 @@ impl Access {
 
 /// True if i-node `i`, an i-number of the volume, grants an access. User 0 gets every access. The first three permission bits apply to the owner, the
 /// next three to the owner's group, and the last three to all others (Lions on access).
-#[tactic(auto, unfolding(crate::specs::Tree::node_of))]
+#[tactic(auto, using(crate::proofs::GrantedNodes::node_grants))]
 pub fn grants(image: &Image, geometry: &Geometry, i: u16, access: Access, cred: Cred) -> bool
     requires fits { Fits geometry.now image.now }
     requires first { 1 ≤ i }
@@ -44,14 +45,26 @@ pub fn grants(image: &Image, geometry: &Geometry, i: u16, access: Access, cred: 
     ensures stored { result ≡ grants_at geometry.now image.now i (bit_of access) cred }
     ensures node { (node : Node) → node_of geometry.now image.now i ≡ Some node → result ≡ grants (bit_of access) cred node }
 {
-    let node = inode(image, geometry, i);
-    let permissions = node.mode.permissions();
-    let bit = access.bit();
+    grants_at(image, geometry, i, access, cred)
+}
+
+/// Does the work of [`grants`].
+#[tactic(auto, using(vol_layout::proofs::InodeLaws::inode_mode))]
+fn grants_at(image: &Image, geometry: &Geometry, i: u16, access: Access, cred: Cred) -> bool
+    requires fits { Fits geometry.now image.now }
+    requires first { 1 ≤ i }
+    requires last { i ≤ geometry.now.last_inode }
+    ensures { result ≡ grants_at geometry.now image.now i (bit_of access) cred }
+{
     if cred.uid == 0 {
-        true
-    } else if cred.uid == node.uid {
+        return true;
+    }
+    let permissions = mode(image, geometry, i).permissions();
+    let bit = access.bit();
+    let owner = owner_of(image, geometry, i);
+    if cred.uid == owner.uid {
         has_bit(permissions, 64 * bit)
-    } else if cred.gid == node.gid {
+    } else if cred.gid == owner.gid {
         has_bit(permissions, 8 * bit)
     } else {
         has_bit(permissions, bit)

@@ -165,6 +165,34 @@ fn put_addresses(image: &mut Image, edition: Edition, at: usize, addresses: &[u3
     }
 }
 
+/// The owner of an i-node: a user and a group.
+#[derive(Clone, Copy)]
+pub struct Owner {
+    pub uid: u16,
+    pub gid: u16,
+}
+
+/// Returns the owner in the i-node at byte `at`: a byte each in the sixth edition, a word each in the seventh.
+#[tactic(auto, unfolding(crate::specs::Inode::inode_at))]
+fn owner_in(image: &Image, edition: Edition, at: usize) -> Owner
+    requires { at + (constants edition).inode_bytes ≤ length image.now }
+    ensures uid { result.uid ≡ (inode_at edition image.now at).uid }
+    ensures gid { result.gid ≡ (inode_at edition image.now at).gid }
+    ensures bound { edition ≡ Edition.V6 → (result.uid < 256) × (result.gid < 256) }
+{
+    image.fits_in_memory();
+    match edition {
+        Edition::V6 => Owner {
+            uid: u16::from(image.byte(at + SIXTH.uid)),
+            gid: u16::from(image.byte(at + SIXTH.gid)),
+        },
+        Edition::V7 => Owner {
+            uid: image.word(at + SEVENTH.uid),
+            gid: image.word(at + SEVENTH.gid),
+        },
+    }
+}
+
 /// Returns i-node `i`, an i-number of the volume. [`put_inode`] can write it back, changed or not.
 #[tactic(auto, unfolding(crate::specs::Inode::inode_at))]
 pub fn inode(image: &Image, geometry: &Geometry, i: u16) -> Inode
@@ -177,6 +205,7 @@ pub fn inode(image: &Image, geometry: &Geometry, i: u16) -> Inode
     let at = place_of(geometry.edition, i);
     let size = size_in(image, geometry.edition, at);
     let addresses = addresses(image, geometry.edition, at);
+    let owner = owner_in(image, geometry.edition, at);
     let mode = Mode {
         bits: image.word(at),
     };
@@ -184,8 +213,8 @@ pub fn inode(image: &Image, geometry: &Geometry, i: u16) -> Inode
         Edition::V6 => Inode {
             mode,
             links: u16::from(image.byte(at + SIXTH.links)),
-            uid: u16::from(image.byte(at + SIXTH.uid)),
-            gid: u16::from(image.byte(at + SIXTH.gid)),
+            uid: owner.uid,
+            gid: owner.gid,
             size,
             addresses,
             accessed: image.long(at + SIXTH.times),
@@ -195,8 +224,8 @@ pub fn inode(image: &Image, geometry: &Geometry, i: u16) -> Inode
         Edition::V7 => Inode {
             mode,
             links: image.word(at + SEVENTH.links),
-            uid: image.word(at + SEVENTH.uid),
-            gid: image.word(at + SEVENTH.gid),
+            uid: owner.uid,
+            gid: owner.gid,
             size,
             addresses,
             accessed: image.long(at + SEVENTH.times),
@@ -226,6 +255,17 @@ pub fn kind(image: &Image, geometry: &Geometry, i: u16) -> Kind
     ensures { result ≡ kind_of geometry.now.edition (mode_of geometry.now image.now i) }
 {
     mode(image, geometry, i).kind(geometry.edition)
+}
+
+/// Returns the owner of i-node `i`, an i-number of the volume.
+pub fn owner_of(image: &Image, geometry: &Geometry, i: u16) -> Owner
+    requires fits { Fits geometry.now image.now }
+    requires first { 1 ≤ i }
+    requires last { i ≤ geometry.now.last_inode }
+    ensures uid { result.uid ≡ (inode_of geometry.now.edition image.now i).uid }
+    ensures gid { result.gid ≡ (inode_of geometry.now.edition image.now i).gid }
+{
+    owner_in(image, geometry.edition, place_of(geometry.edition, i))
 }
 
 /// Returns the size of i-node `i`, an i-number of the volume, in bytes.

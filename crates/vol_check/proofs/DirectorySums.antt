@@ -29,7 +29,7 @@ is_directory kinds.Regular = inr (λ e. absurd (cc))
 is_directory kinds.Special = inr (λ e. absurd (cc))
 is_directory kinds.Odd = inr (λ e. absurd (cc))
 
-none_in : (kind : Kind) (n : ℕ) → kind ≢ kinds.Directory → in_directory kind n ≡ 0
+pub none_in : (kind : Kind) (n : ℕ) → kind ≢ kinds.Directory → in_directory kind n ≡ 0
 none_in kinds.Directory n other = absurd (other refl)
 none_in kinds.Free n other = refl
 none_in kinds.Regular n other = refl

@@ -11,6 +11,7 @@ pub mod DirectoryPieces
 pub mod DirectorySums
 pub mod EntriesReported
 pub mod NamesReported
+pub mod LineCounts
 pub mod Draws
 pub mod Drawn
 pub mod BlockWords

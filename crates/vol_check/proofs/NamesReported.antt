@@ -39,7 +39,7 @@ abbrev rank_at : Placed → ℕ
 rank_at e = rank e.directory e.slot
 
 -- the sum over the entries of a directory is the sum over its slots
-sum_in : (g : Geometry) (image : List ℕ) (weight : Placed → ℕ) (d : ℕ) (kind : Kind)
+pub sum_in : (g : Geometry) (image : List ℕ) (weight : Placed → ℕ) (d : ℕ) (kind : Kind)
     → total weight (entries_in g image d kind) ≡ in_directory kind (below (λ s. total weight (entered d s (entry_at g image d s))) (slot_count g image d))
 unfolding entries_of
 sum_in g image weight d kinds.Directory =
@@ -51,7 +51,7 @@ sum_in g image weight d kinds.Special = total_nil weight
 sum_in g image weight d kinds.Odd = total_nil weight
 
 -- the sum over all entries is the sum over the slots of all directories
-sum_all : (g : Geometry) (image : List ℕ) (weight : Placed → ℕ)
+pub sum_all : (g : Geometry) (image : List ℕ) (weight : Placed → ℕ)
     → total weight (all_entries g image) ≡ below (λ k. directory_sum g image (slot_kept Names weight) (k + 1)) g.last_inode
 unfolding all_entries
 sum_all g image weight =

@@ -23,4 +23,5 @@ pub mod Notes
 pub mod Steps
 pub mod Gather
 pub mod SweepReports
+pub mod LineCounts
 pub mod SalvagedImages

@@ -22,14 +22,18 @@ use Rattle.vol_check.specs.Parts.{part_count, piece_value}
 abbrev pub SlotWeight : Type 0
 SlotWeight = ℕ → ℕ → Option (List ℕ × ℕ) → ℕ
 
+-- a weight of a slot, computed from its entry alone (manual section 5, directories)
+abbrev pub EntryWeight : Type 0
+EntryWeight = Option (List ℕ × ℕ) → ℕ
+
 -- an entry marks the word of its i-number, unless that is past the last (dcheck)
-abbrev pub entry_weight : Geometry → (Mark → ℕ) → Option (List ℕ × ℕ) → ℕ
+abbrev pub entry_weight : Geometry → (Mark → ℕ) → EntryWeight
 entry_weight g weight None = 0
 entry_weight g weight (Some entry) = if nat_le entry.1 g.last_inode then weight (mark (entry_word entry.1) 1) else 0
 
--- the marks of the slots of data block `k` (dcheck)
-abbrev pub entries_of : Geometry → List ℕ → (Mark → ℕ) → ℕ → ℕ
-entries_of g image weight k = below (λ t. entry_weight g weight (entry_in (slot_at image (512 * k + 16 * t)))) 32
+-- the sum of a weight over the 32 slots of data block `k` (manual section 5, directories)
+abbrev pub block_sum : List ℕ → EntryWeight → ℕ → ℕ
+block_sum image weight k = below (λ t. weight (entry_in (slot_at image (512 * k + 16 * t)))) 32
 
 -- an entry whose name is neither `.` nor `..` marks its rank on the word of its i-number, unless that is past the last (ncheck)
 abbrev pub name_weight : Geometry → (Mark → ℕ) → SlotWeight

@@ -92,7 +92,7 @@ pub fn ncheck<R: Threads + Sync, W: Wait, G: Gate>(
     requires last { workers ≤ MOST_WORKERS }
     ensures { IfOk result (λ report. IsNameReport edition image.now report) }
 {
-    try_room(alloc, edition, image)?;
+    let _lines = try_room(alloc, edition, image)?;
     check(
         threads,
         alloc,

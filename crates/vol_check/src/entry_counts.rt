@@ -1,16 +1,15 @@
 //! Counts the entries of a directory block by block. Each block of a piece is read once, however often the directory has it.
-ghost use Rattle.std.specs.Prelude.{◌≡◌, ℕ, ◌+◌, ◌-◌, ◌*◌, ◌<◌, ◌≤◌, nat_le, if◌then◌else◌, All, IfOk};
+ghost use Rattle.std.specs.Prelude.{◌≡◌, ℕ, ◌+◌, ◌-◌, ◌*◌, ◌<◌, ◌≤◌, nat_le, if◌then◌else◌, None, All, IfOk};
 ghost use Rattle.std.specs.List.{sum_by};
 ghost use Rattle.vol_layout.specs.Geometry.{Fits};
 ghost use Rattle.vol_dir.specs.Entries.{entry_in, entry_at, slot_count};
-ghost use Rattle.count_table.specs.declared.rule.Mark.{Mark};
 ghost use Rattle.count_table.specs.Sums.{below};
 ghost use Rattle.count_table.specs.Tallies.{IsSeatAt, table_shape};
 ghost use Rattle.count_table.specs.Views.{mark};
 ghost use Rattle.vol_file.specs.Runs.{LooksUp};
 ghost use Rattle.vol_reports.specs.Words.{HasEntryWords, entry_word};
 ghost use Rattle.vol_check.specs.Pieces.{Adds};
-ghost use Rattle.vol_check.specs.Slots.{entry_weight, entries_of};
+ghost use Rattle.vol_check.specs.Slots.{EntryWeight, entry_weight, block_sum};
 ghost use Rattle.vol_check.specs.Levels.{IsNamed, KeepsDraws, by_times};
 
 use crate::levels::{NamedBlock, each_once};
@@ -58,7 +57,7 @@ pub(crate) fn count_blocks(
 }
 
 /// Returns the data blocks that hold these logical blocks; a data block that holds several of them occurs once for each.
-fn stored_blocks(
+pub(crate) fn stored_blocks(
     alloc: Global,
     image: &Image,
     geometry: &Geometry,
@@ -72,8 +71,8 @@ fn stored_blocks(
     requires order { from ≤ end }
     requires whole { 32 * end ≤ slot_count geometry.now image.now d }
     ensures named { IfOk result (λ named. All (IsNamed geometry.now) named.items) }
-    ensures same { IfOk result (λ named. (weight : Mark → ℕ) → sum_by (by_times (entries_of geometry.now image.now weight)) named.items
-        ≡ below (λ t. entry_weight geometry.now weight (entry_at geometry.now image.now d (32 * from + t))) (32 * (end - from))) }
+    ensures same { IfOk result (λ named. (weight : EntryWeight) → weight None ≡ 0 → sum_by (by_times (block_sum image.now weight)) named.items
+        ≡ below (λ t. weight (entry_at geometry.now image.now d (32 * from + t))) (32 * (end - from))) }
 {
     let mut numbers = BlockNumbers::of(image, geometry, d);
     let mut b = next_block(image, geometry, d, from, end);
@@ -105,9 +104,9 @@ fn push_next(
     ensures order { IfOk result (λ next. (b < next) × (next ≤ end)) }
     ensures numbers { IfOk result (λ _. LooksUp geometry.now image.now d numbers.new) }
     ensures named { IfOk result (λ _. All (IsNamed geometry.now) named.new.items) }
-    ensures same { IfOk result (λ next. (weight : Mark → ℕ) → sum_by (by_times (entries_of geometry.now image.now weight)) named.new.items
-        ≡ sum_by (by_times (entries_of geometry.now image.now weight)) named.old.items
-        + below (λ t. entry_weight geometry.now weight (entry_at geometry.now image.now d (32 * b + t))) (32 * (next - b))) }
+    ensures same { IfOk result (λ next. (weight : EntryWeight) → weight None ≡ 0 → sum_by (by_times (block_sum image.now weight)) named.new.items
+        ≡ sum_by (by_times (block_sum image.now weight)) named.old.items
+        + below (λ t. weight (entry_at geometry.now image.now d (32 * b + t))) (32 * (next - b))) }
 {
     let Some(number) = numbers.block_at(image, geometry, b) else {
         return Ok(next_block(image, geometry, d, b, end));
@@ -132,7 +131,7 @@ fn count_block(
     requires own { IsSeatAt tally.now seat.old }
     requires parts { 1 ≤ seat.old.me.0.parts }
     requires n { IsNamed geometry.now n }
-    ensures { Adds tally.now seat.old seat.new (λ weight. by_times (entries_of geometry.now image.now weight) n) }
+    ensures { Adds tally.now seat.old seat.new (λ weight. by_times (block_sum image.now (entry_weight geometry.now weight)) n) }
 {
     for s in 0..SLOTS {
         let at = BLOCK * n.number as usize + SLOT * s as usize;

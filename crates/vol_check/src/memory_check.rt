@@ -1,172 +1,158 @@
-//! Checks that memory has room for the lines of a name report that can be counted block by block.
-ghost use Rattle.std.specs.Prelude.{◌≤◌};
-ghost use Rattle.vol_layout.specs.Geometry.{Fits};
+//! Counts the lines of a name report, and checks that memory has room for them, before any of them is made.
+ghost use Rattle.std.specs.Prelude.{◌≡◌, ◌+◌, ◌-◌, ◌*◌, ◌≤◌, true, IfOk};
+ghost use Rattle.vol_layout.specs.Geometry.{Fits, in_zone, geometry_read};
+ghost use Rattle.vol_layout.specs.Slot.{slot_at};
+ghost use Rattle.vol_dir.specs.Entries.{entry_in, entry_at, slot_count};
+ghost use Rattle.count_table.specs.Sums.{below};
+ghost use Rattle.vol_check.specs.LineCounts.{HasLines, line_count, named_one, name_count};
 
-use crate::levels::{NamedBlock, each_once};
+use crate::entry_counts::stored_blocks;
+use crate::levels::each_once;
+use crate::parts::PART_BLOCKS;
 use pdp_words::{BLOCK, Image};
 use std::alloc::{AllocError, Global};
+use vol_dir::entries::{SLOTS, slot_count};
 use vol_dir::is_dots;
-use vol_layout::i_list::{address, kind, mode, size};
+use vol_file::block_at;
+use vol_layout::i_list::kind;
 use vol_layout::slot::SLOT;
-use vol_layout::{BlockMap, Edition, Geometry, Kind, Slot, number};
+use vol_layout::{Edition, Geometry, Kind, Slot};
 use vol_reports::{EnteredName, Line};
 
-/// Allocates the least memory that the lines of an image's name report need, all at once, and frees it. So a report that doesn't fit is refused
-/// before the memory is filled.
+/// Returns the number of lines of an image's name report, or 0 if rule 1 or 2 doesn't hold. After each directory it allocates the least memory that
+/// the lines up to there need, all at once, and frees it. So a report that doesn't fit is refused before the memory is filled.
 ///
-/// Counts the entries in the blocks that lie completely within a directory's size. Reads each of these once for each directory, and each indirect
-/// block once for each level, however many block-map positions point to it. Takes sixteen bytes for each such position.
-pub(crate) fn try_room(alloc: Global, edition: Edition, image: &Image) -> Result<(), AllocError> {
+/// Costs one number for each logical block of a directory, and a read of each slot of the data blocks of each 64 of them. Takes 2 KB besides.
+pub(crate) fn try_room(alloc: Global, edition: Edition, image: &Image) -> Result<u64, AllocError>
+    ensures counted { IfOk result (λ count. count ≡ line_count (geometry_read edition image.now) image.now) }
+    ensures lines { IfOk result (HasLines edition image.now) }
+{
     let Ok(geometry) = Geometry::read(edition, image) else {
-        return Ok(());
+        return Ok(0);
     };
-    let mut count: u64 = 0;
+    let mut count = 0;
     for d in 1..=geometry.last_inode {
-        if kind(image, &geometry, d) == Kind::Directory {
-            let entries = entry_count(alloc, image, &geometry, d)?;
-            if entries > 0 {
-                count = count.saturating_add(entries);
-                try_lines(alloc, count)?;
-            }
+        let names = count_names(alloc, image, &geometry, d)?;
+        count += names;
+        if names > 0 {
+            try_lines(alloc, edition, image, count)?;
         }
     }
-    Ok(())
+    Ok(count)
 }
 
-/// Allocates the memory for `count` entries, paths and lines at once, and frees it: a system that grants more memory than it has in small steps
-/// refuses it in one piece.
-fn try_lines(alloc: Global, count: u64) -> Result<(), AllocError> {
+/// Allocates the memory for `count` entries, paths and lines of an image's name report at once, and frees it: a system that grants more memory than it
+/// has in small steps refuses it in one piece.
+fn try_lines(alloc: Global, _edition: Edition, _image: &Image, count: u64) -> Result<(), AllocError>
+    requires lines { HasLines _edition _image.now count }
+{
     let mut room: Vec<(EnteredName, (u16, Vec<u8>), Line)> = Vec::new(alloc);
     room.reserve_exact(count as usize)?;
     Ok(())
 }
 
-/// Returns the number of entries, except `.` and `..`, in the blocks that lie completely within the size of directory `d`.
-fn entry_count(alloc: Global, image: &Image, geometry: &Geometry, d: u16) -> Result<u64, AllocError>
+/// Returns the number of entries, except `.` and `..`, of i-number `d`; 0 if it isn't a directory.
+fn count_names(alloc: Global, image: &Image, geometry: &Geometry, d: u16) -> Result<u64, AllocError>
     requires fits { Fits geometry.now image.now }
     requires first { 1 ≤ d }
     requires last { d ≤ geometry.now.last_inode }
+    ensures exact { IfOk result (λ count. count ≡ name_count geometry.now image.now d) }
+    ensures few { IfOk result (λ count. count ≤ 4294967296) }
 {
-    let form = BlockMap::of(geometry.edition, mode(image, geometry, d));
-    let bytes = size(image, geometry, d).min(geometry.edition.constants().greatest);
-    let mut left = u64::from(bytes / BLOCK as u32);
-    let mut count: u64 = 0;
-    for k in 0..form.address_count() {
-        let top = address(image, geometry, d, k);
-        let levels = form.levels(k);
-        let blocks = left.min(blocks_below(geometry, levels));
-        count = count.saturating_add(count_first(alloc, image, geometry, top, levels, blocks)?);
-        left -= blocks;
-    }
-    Ok(count)
-}
-
-/// Returns the number of logical blocks below a block number with `levels` levels of indirect blocks.
-fn blocks_below(geometry: &Geometry, levels: u8) -> u64
-    ensures { 1 ≤ result }
-{
-    let pointers = u64::from(geometry.edition.constants().pointers);
-    match levels {
-        0 => 1,
-        1 => pointers,
-        2 => pointers * pointers,
-        _ => pointers * pointers * pointers,
+    match kind(image, geometry, d) {
+        Kind::Directory => count_directory(alloc, image, geometry, d),
+        _ => Ok(0),
     }
 }
 
-/// Returns the number of entries in the first `blocks` logical blocks below a block number with `levels` levels of indirect blocks.
-fn count_first(
+/// Returns the number of entries, except `.` and `..`, in the slots of directory `d`.
+fn count_directory(
     alloc: Global,
     image: &Image,
     geometry: &Geometry,
-    top: u32,
-    levels: u8,
-    blocks: u64,
+    d: u16,
 ) -> Result<u64, AllocError>
     requires fits { Fits geometry.now image.now }
+    requires first { 1 ≤ d }
+    requires last { d ≤ geometry.now.last_inode }
+    ensures exact { IfOk result (λ count. count ≡ below (λ s. named_one (entry_at geometry.now image.now d s)) (slot_count geometry.now image.now d)) }
+    ensures few { IfOk result (λ count. count ≤ 4294967296) }
 {
-    let mut first = NamedBlock {
-        number: top,
-        times: 1,
-    };
-    if blocks == blocks_below(geometry, levels) {
-        return count_below(alloc, image, geometry, vec![in alloc; first]?, levels);
+    let slots = slot_count(image, geometry, d);
+    let whole = slots / SLOTS;
+    let mut count = 0;
+    let mut b = 0;
+    while b < whole {
+        let end = whole.min(b + PART_BLOCKS);
+        count += count_range(alloc, image, geometry, d, b, end)?;
+        b = end;
     }
-    let mut count: u64 = 0;
-    let mut left = blocks;
-    for level in (0..levels).rev() {
-        let each = blocks_below(geometry, level);
-        let mut whole = Vec::new(alloc);
-        push_entries(image, geometry, first, &mut whole)?;
-        let end = (left / each) as usize;
-        left %= each;
-        first = whole.get(end).copied().unwrap_or(first);
-        whole.truncate(end);
-        count = count.saturating_add(count_below(alloc, image, geometry, whole, level)?);
-    }
-    Ok(count)
+    Ok(count + count_front(image, geometry, d, whole, slots % SLOTS))
 }
 
-/// Returns the number of entries in all logical blocks below some block numbers, each with `levels` levels of indirect blocks.
-fn count_below(
+/// Returns the number of entries, except `.` and `..`, in the logical blocks `from..end` of directory `d`. The directory's size covers these blocks
+/// completely.
+fn count_range(
     alloc: Global,
     image: &Image,
     geometry: &Geometry,
-    mut named: Vec<NamedBlock>,
-    levels: u8,
+    d: u16,
+    from: u32,
+    end: u32,
 ) -> Result<u64, AllocError>
     requires fits { Fits geometry.now image.now }
+    requires first { 1 ≤ d }
+    requires last { d ≤ geometry.now.last_inode }
+    requires order { from ≤ end }
+    requires whole { 32 * end ≤ slot_count geometry.now image.now d }
+    ensures { IfOk result (λ count. count ≡ below (λ t. named_one (entry_at geometry.now image.now d (32 * from + t))) (32 * (end - from))) }
 {
-    for _level in 0..levels {
-        let mut next = Vec::new(alloc);
-        for n in &each_once(alloc, named)? {
-            push_entries(image, geometry, *n, &mut next)?;
-        }
-        named = next;
-    }
-    let mut count: u64 = 0;
-    for n in &each_once(alloc, named)? {
-        count = count.saturating_add(
-            n.times
-                .saturating_mul(entries_in(image, geometry, n.number)),
-        );
+    let named = stored_blocks(alloc, image, geometry, d, from, end)?;
+    let mut once = each_once(alloc, named)?;
+    let mut count = 0;
+    while let Some(n) = once.pop() {
+        count += n.times * count_slots(image, geometry, n.number, SLOTS);
     }
     Ok(count)
 }
 
-/// Adds the entries of an indirect block, each as many times as block-map positions point to the block. Adds nothing if it isn't a data block.
-fn push_entries(
-    image: &Image,
-    geometry: &Geometry,
-    block: NamedBlock,
-    next: &mut Vec<NamedBlock>,
-) -> Result<(), AllocError>
+/// Returns the number of entries, except `.` and `..`, in the first `slots` slots of logical block `b` of directory `d`.
+fn count_front(image: &Image, geometry: &Geometry, d: u16, b: u32, slots: u32) -> u64
     requires fits { Fits geometry.now image.now }
+    requires first { 1 ≤ d }
+    requires last { d ≤ geometry.now.last_inode }
+    requires few { slots ≤ 32 }
+    requires within { 32 * b + slots ≤ slot_count geometry.now image.now d }
+    ensures { result ≡ below (λ t. named_one (entry_at geometry.now image.now d (32 * b + t))) slots }
 {
-    if !geometry.in_zone(block.number) {
-        return Ok(());
+    match block_at(image, geometry, d, b) {
+        Some(k) if geometry.in_zone(k) => count_slots(image, geometry, k, slots),
+        _ => 0,
     }
-    for j in 0..geometry.edition.constants().pointers {
-        let at = BLOCK * block.number as usize;
-        let number = number(image, geometry.edition, at, j as usize);
-        next.push(NamedBlock { number, ..block })?;
-    }
-    Ok(())
 }
 
-/// Returns the number of entries in block `k`, except `.` and `..`; 0 if it isn't a data block.
-fn entries_in(image: &Image, geometry: &Geometry, k: u32) -> u64
+/// Returns the number of entries, except `.` and `..`, in the first `slots` slots of data block `k`.
+fn count_slots(image: &Image, geometry: &Geometry, k: u32, slots: u32) -> u64
     requires fits { Fits geometry.now image.now }
+    requires zone { in_zone geometry.now k ≡ true }
+    requires few { slots ≤ 32 }
+    ensures { result ≡ below (λ t. named_one (entry_in (slot_at image.now (512 * k + 16 * t)))) slots }
 {
     let mut count = 0;
-    if !geometry.in_zone(k) {
-        return count;
-    }
-    for s in 0..BLOCK / SLOT {
-        let slot = Slot::read(image.as_bytes(), BLOCK * k as usize + SLOT * s);
-        if slot.inode != 0 && !is_dots(slot.name()) {
-            count += 1;
-        }
+    for s in 0..slots {
+        let slot = Slot::read(image.as_bytes(), BLOCK * k as usize + SLOT * s as usize);
+        count += count_slot(&slot);
     }
     count
+}
+
+/// Returns 1 if a slot has an entry other than `.` and `..`, else 0.
+fn count_slot(slot: &Slot) -> u64
+    ensures { result ≡ named_one (entry_in slot.now) }
+{
+    if slot.inode == 0 || is_dots(slot.name()) {
+        0
+    } else {
+        1
+    }
 }

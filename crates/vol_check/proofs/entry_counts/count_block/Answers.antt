@@ -3,7 +3,7 @@ use Rattle.count_table.specs.Sums.{below}
 use Rattle.count_table.proofs.Totals.{below_more, below_none}
 use Rattle.vol_layout.specs.Slot.{slot_at}
 use Rattle.vol_dir.specs.Entries.{entry_in}
-use Rattle.vol_check.specs.Slots.{entry_weight, entries_of}
+use Rattle.vol_check.specs.Slots.{entry_weight, block_sum}
 use Rattle.vol_check.proofs.AddedMarks.{adds_none, adds_then, adds_as}
 use Rattle.vol_check.proofs.LevelLaws.{spread, no_times}
 use Rattle.vol_check.proofs.entry_counts.count_block.Goals as goal
@@ -43,5 +43,5 @@ returns c =
     let end : c.loop-s.s ≡ 32 = omega (arith, c.loop-s-test.false, c.loop-s.auto.s-end) in
     adds_as c.args.tally.now c.args.seat.now c.loop-s.seat
     (λ weight. n.times * below (λ t. entry_weight g weight (entry_in (slot_at image (512 * n.number + 16 * t)))) c.loop-s.s)
-    (λ weight. n.times * entries_of g image weight n.number) c.loop-s.invariant
+    (λ weight. n.times * block_sum image (entry_weight g weight) n.number) c.loop-s.invariant
     (λ weight. ap (λ k. n.times * below (λ t. entry_weight g weight (entry_in (slot_at image (512 * n.number + 16 * t)))) k) (sym end))

@@ -4,7 +4,7 @@ use Rattle.std.specs.List.{sum_by}
 use Rattle.std.proofs.lemmas.List.Elements.{All-pop}
 use Rattle.std.proofs.lemmas.List.Sums.{sum_by_push}
 use Rattle.vol_check.specs.Levels.{IsNamed, by_times}
-use Rattle.vol_check.specs.Slots.{entries_of}
+use Rattle.vol_check.specs.Slots.{entry_weight, block_sum}
 use Rattle.vol_check.proofs.entry_counts.count_blocks.Goals as goal
 
 pub loop-n-init : goal.loop-n-init
@@ -14,8 +14,8 @@ loop-n-init c =
       kept = record { own = c.requires.own; parts = refl; draws = refl };
       named = c.in_ok-once.ensures.named g c.in_ok-named.ensures.named;
       marks = λ weight.
-          let all = c.in_ok-named.ensures.same weight in
-          let once = c.in_ok-once.ensures.same (entries_of g c.args.image.now weight) in
+          let all = c.in_ok-named.ensures.same (entry_weight g weight) refl in
+          let once = c.in_ok-once.ensures.same (block_sum c.args.image.now (entry_weight g weight)) in
           omega arith;
     }
 
@@ -29,7 +29,7 @@ loop-n-preserved c =
       kept = record { own = adds.own; parts = adds.parts ∙ inv.kept.parts; draws = adds.draws ∙ inv.kept.draws };
       named = parts.0;
       marks = λ weight.
-          let f = by_times (entries_of g c.args.image.now weight) in
+          let f = by_times (block_sum c.args.image.now (entry_weight g weight)) in
           let m = inv.marks weight in
           let n = adds.marks weight in
           let s = ap (sum_by f) c.in-Some.ensures.items ∙ sum_by_push f c.pop.new.self.items c.in-Some.n in

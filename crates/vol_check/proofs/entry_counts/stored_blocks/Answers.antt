@@ -1,10 +1,10 @@
 use Rattle.std.proofs.Common.{◌≡◌, ◌∙◌, ◌-◌, ◌*◌, ◌≤◌, All, ap, sym, subst, arith}
 use Rattle.std.specs.List.{sum_by}
 use Rattle.std.proofs.lemmas.List.Elements.{All-nil}
-use Rattle.vol_check.specs.declared.checker.Checker.TheVariants.{Entries}
 use Rattle.vol_check.specs.Levels.{IsNamed, by_times}
-use Rattle.vol_check.specs.Slots.{slot_weight, entries_of}
-use Rattle.vol_check.proofs.Noted.{marked_over, blank_weight, over_blank, over_two, entry_hole}
+use Rattle.vol_check.specs.Slots.{block_sum}
+use Rattle.vol_check.proofs.Noted.{over_blank, over_two, entry_hole}
+use Rattle.vol_check.proofs.EntryCounts.{slots_over, for_slots}
 use Rattle.vol_check.proofs.entry_counts.stored_blocks.Goals as goal
 
 pub loop-b-init : goal.loop-b-init
@@ -21,9 +21,9 @@ loop-b-init c =
       low = low;
       high = next.within;
       named = subst (All (IsNamed g)) (sym c.in_ok-named.ensures.items) (All-nil (IsNamed g));
-      same = λ weight.
-          let none = ap (sum_by (by_times (entries_of g image weight))) c.in_ok-named.ensures.items in
-          let blank = over_blank g image d (slot_weight Entries g weight) (blank_weight Entries g weight d) (32 * from) (32 * (b - from))
+      same = λ weight blank.
+          let none = ap (sum_by (by_times (block_sum image weight))) c.in_ok-named.ensures.items in
+          let hole = over_blank g image d (for_slots weight) (λ s. blank) (32 * from) (32 * (b - from))
           (λ s at before. entry_hole g image d from b s c.requires.fits next.hole at (omega (arith, before, low))) in
           omega arith;
     }
@@ -39,17 +39,17 @@ loop-b-preserved c =
       low = omega (arith, inv.low, order.0);
       high = order.1;
       named = c.in_ok-b.ensures.named;
-      same = λ weight.
-          let before = inv.same weight in
-          let now = c.in_ok-b.ensures.same weight in
-          let more = over_two g image c.args.d (slot_weight Entries g weight) (blank_weight Entries g weight c.args.d) c.args.from c.loop-b.b c.in_ok-b.b
+      same = λ weight blank.
+          let before = inv.same weight blank in
+          let now = c.in_ok-b.ensures.same weight blank in
+          let more = over_two g image c.args.d (for_slots weight) (λ s. blank) c.args.from c.loop-b.b c.in_ok-b.b
           inv.low (omega (arith, order.0)) in
           omega arith;
     }
 
 pub returns-clause-same : goal.returns-clause-same
-returns-clause-same c = λ weight.
+returns-clause-same c = λ weight blank.
     let g = c.args.geometry.now in
     let image = c.args.image.now in
     let end : c.loop-b.b ≡ c.args.end = omega (arith, c.loop-b-test.false, c.loop-b.invariant.high) in
-    c.loop-b.invariant.same weight ∙ ap (λ b. marked_over Entries g image c.args.d (32 * c.args.from) (32 * (b - c.args.from)) weight) end
+    c.loop-b.invariant.same weight blank ∙ ap (λ b. slots_over g image c.args.d (32 * c.args.from) (32 * (b - c.args.from)) weight) end

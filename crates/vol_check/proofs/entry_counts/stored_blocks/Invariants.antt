@@ -1,11 +1,9 @@
-use Rattle.std.proofs.Common.{◌≡◌, ℕ, ◌-◌, ◌*◌, ◌≤◌, All}
+use Rattle.std.proofs.Common.{◌≡◌, ◌-◌, ◌*◌, ◌≤◌, All, None}
 use Rattle.std.specs.List.{sum_by}
-use Rattle.count_table.specs.declared.rule.Mark.{Mark}
 use Rattle.vol_file.specs.Runs.{LooksUp}
-use Rattle.vol_check.specs.declared.checker.Checker.TheVariants.{Entries}
 use Rattle.vol_check.specs.Levels.{IsNamed, by_times}
-use Rattle.vol_check.specs.Slots.{entries_of}
-use Rattle.vol_check.proofs.Noted.{marked_over}
+use Rattle.vol_check.specs.Slots.{EntryWeight, block_sum}
+use Rattle.vol_check.proofs.EntryCounts.{slots_over}
 use Rattle.vol_check.proofs.entry_counts.stored_blocks.Given as goal
 
 -- Invariant: the data blocks of the logical blocks before `b` are collected.
@@ -15,8 +13,8 @@ invariant-loop-b l = record {
   low : l.from ≤ l.b;
   high : l.b ≤ l.end;
   named : All (IsNamed l.geometry) l.named.items;
-  same : (weight : Mark → ℕ) → sum_by (by_times (entries_of l.geometry l.image weight)) l.named.items
-      ≡ marked_over Entries l.geometry l.image l.d (32 * l.from) (32 * (l.b - l.from)) weight;
+  same : (weight : EntryWeight) → weight None ≡ 0 → sum_by (by_times (block_sum l.image weight)) l.named.items
+      ≡ slots_over l.geometry l.image l.d (32 * l.from) (32 * (l.b - l.from)) weight;
 }
 
 abbrev pub decreases-loop-b : goal.decreases-loop-b

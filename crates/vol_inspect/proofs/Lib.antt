@@ -12,3 +12,4 @@ pub mod Shared
 pub mod LaidOut
 pub mod Named
 pub mod Columns
+mod LostBlocks

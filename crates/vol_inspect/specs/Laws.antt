@@ -1,13 +1,16 @@
--- The law about the report on an i-node, as a statement.
-use Rattle.std.specs.Prelude.{◌≡◌, ℕ, ◌+◌, ◌==◌, if◌then◌else◌, List, [], ◌∷◌, map}
+-- Laws of the reports on an i-node and on a block, as statements.
+use Rattle.std.specs.Prelude.{◌≡◌, ◌↔◌, ℕ, ◌+◌, ◌==◌, true, if◌then◌else◌, List, [], ◌∷◌, map}
 use Rattle.std.specs.List.{flat_map, range_with_len}
-use Rattle.vol_layout.specs.Geometry.{Fits}
+use Rattle.vol_layout.specs.Geometry.{Fits, in_zone}
 use Rattle.vol_layout.specs.BlockMaps.{levels_below, places}
 use Rattle.vol_layout.specs.BlockPointers.{form_at, named}
 use Rattle.vol_layout.specs.declared.geometry.Geometry.{Geometry}
 use Rattle.vol_file.specs.Clears.{first_block}
+use Rattle.vol_reports.specs.Icheck.{is_lost}
 use Rattle.vol_inspect.specs.Extents.{single, extents_of}
+use Rattle.vol_inspect.specs.Owners.{owners_of}
 use Rattle.vol_inspect.specs.declared.extent.Extent.{Extent}
+use Rattle.vol_inspect.specs.declared.owners.Owner.TheVariants as owners
 
 -- the blocks of an extent, one by one (this project)
 abbrev pub laid_out : Extent → List Extent
@@ -26,3 +29,8 @@ seen_at g image i p = seen g (levels_below (form_at g image i) p) (first_block (
 abbrev pub ShowsPlaces : Type 0
 ShowsPlaces = (g : Geometry) (image : List ℕ) (i : ℕ) → Fits g image
     → flat_map laid_out (extents_of g image i) ≡ flat_map (seen_at g image i) (places (form_at g image i))
+
+-- a data block has no owner but `Lost` if and only if the block report has it as lost (icheck)
+abbrev pub ShowsLost : Type 0
+ShowsLost = (g : Geometry) (image : List ℕ) (b : ℕ) → Fits g image → in_zone g b ≡ true
+    → (owners_of g image b ≡ owners.Lost ∷ []) ↔ (is_lost g image b ≡ true)

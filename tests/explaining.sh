@@ -163,6 +163,40 @@ has 'the sentence of a rule is the one of check' 0 $?
 "$program" export 6 broken.v6 --explain > archive 2> error
 has 'what is told last of an archive' 'unixvol: broken.v6: it breaks rule 12, that each link count is the number of entries; `unixvol check` says what breaks it' "$(tail -n 1 error)"
 
+# After a report in which a rule is broken, `check` says where the rules and their definitions are; what it prints, and its status, are the same.
+place='unixvol: docs/FORMATS.md has the twelve rules, and docs/PROOFS.md the file that defines each, under "Where each definition is"'
+while IFS='|' read -r status words second; do
+    # shellcheck disable=SC2086
+    "$program" $words > plain 2> error
+    has "the status and the errors of $words" "$status " "$? $(cat error)"
+    # shellcheck disable=SC2086
+    "$program" --explain $words > output 2> error
+    has "the status and the errors of $words, explained" "$status $second" "$? $(cat error)"
+    has "what $words prints, explained" "$(cat plain)" "$(cat output)"
+done << END
+1|check 6 broken.v6|$place
+1|check 7 cut.v7|$place
+6|check --status 7 cut.v7|$place
+1|check --json 7 broken.v7|$place
+0|check 6 disk.v6|
+END
+
+# That page has a row for each rule and for each part of the headline, and the file of a row has the definitions that the row names.
+sources=${samples%/*}
+sed -n '/^## Where each definition is/,/^## What no clause says/p' "$sources/docs/PROOFS.md" | grep -E '^\|[ 0-9]+\|' > rows
+defined=
+while IFS='|' read -r _ number words last _; do
+    at=$(grep -oE '`[a-z_0-9]+/specs/[A-Za-z0-9]+\.antt`' <<< "$last" | tr -d '`')
+    defined=${at:-$defined}
+    names=$(grep -oE '`[A-Za-z_0-9]+`' <<< "$last" || grep -oE '`[A-Za-z_0-9]+`' <<< "$words")
+    for name in ${names//'`'/}; do
+        grep -qE "^(abbrev |unfoldable )?pub (record |data )?$name( |:)" "$sources/crates/$defined" || echo "$name isn't in $defined"
+    done
+    echo "$number" >> numbers
+done < rows > lacking
+has 'the definitions on the page that check names' '' "$(cat lacking)"
+has 'the rules and parts on the page that check names' "$(echo $(seq 12) $(seq 23))" "$(echo $(cat numbers))"
+
 # New volumes.
 explains 1 'unixvol: bounds' 'unixvol: new.img: no volume of the edition has these sizes' mkfs 6 new.img 9 9 0 0
 explains 1 'unixvol: 104 BadId' "unixvol: new.img: the user or the group is above the edition's highest, 255 in the sixth and 32767 in the seventh" mkfs 6 new.img 400 10 256 0

@@ -311,7 +311,8 @@ Examples:
 Each rule has a line: what it requires, and whether it holds. If it doesn't, the line says what breaks it first,
 with the i-number, the block, or the directory and its slot. A rule is not checked if it needs another rule that
 doesn't hold; its line says so. If rule 1 or 2 fails and the image could be of the other edition, a last line says
-so. Nothing is changed.
+so. Nothing is changed. With --explain, if a rule doesn't hold, a line on standard error names the documents that
+have the rules and the definition of each.
 
 With --json, one object is printed on one line: \"edition\", \"other_edition\" (the one that fits instead, or null),
 \"sound\", and \"rules\", an object for each rule: \"rule\", \"needs\" (what it requires), \"holds\" (null if it isn't

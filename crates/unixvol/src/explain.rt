@@ -190,6 +190,14 @@ fn sizes_of<R: ImageFiles + AllocGlobal>(
     }
 }
 
+/// Prints which documents have the rules and their definitions, if the user asked for a second line and `status` is that of a check which found a rule broken.
+pub fn explain_rules<R: Eprint>(host: &Surroundings<'_, R>, status: u8) {
+    if host.explains && !matches!(status, DONE | BAD_FILE | NO_MEMORY) {
+        let place = meanings::RULES_ARE_IN;
+        let _ = eprintln!(host.rt; "unixvol: {place}");
+    }
+}
+
 /// Prints the line of a fault of `cat`, and returns its status. The second line for standard output is printed when the run has ended.
 pub fn explain_cat<R: ImageFiles + Eprint + AllocGlobal>(
     host: &Surroundings<'_, R>,

@@ -5,7 +5,7 @@ ghost use Rattle.std.specs.Process.{exit_status};
 ghost use Rattle.command_faults.specs.Streams.{ErrorStream, Hears, streams};
 ghost use Rattle.unixvol.specs.Runs.{Ends, IsEndWithin, IsSeen, IsShownBy, IsUnread, LooksToEnd, RunsGetOne, RunsLook, highest_status, host_files};
 
-use crate::explain::{finish_printed, tell_fault};
+use crate::explain::{explain_rules, finish_printed, tell_fault};
 use crate::host::Surroundings;
 use crate::read::{read_checked, read_volume};
 use crate::subject::Subject;
@@ -95,6 +95,9 @@ pub fn run_to_end<R: ImageFiles + Eprint + AllocGlobal, O: Write + Drop, E: Writ
         output.error(),
         Some(subject),
     );
+    if let Look::Check { .. } = look {
+        explain_rules(host, ending.status);
+    }
     ExitCode::from(finish_printed(host, output.into_inner().into_inner(), ending.status))
 }
 

@@ -16,6 +16,10 @@ use vol_layout::Edition;
 /// The meaning of NoMemory.
 pub const NO_MEMORY: &str = "there was too little memory for this";
 
+/// Where the rules of soundness are, and their definitions.
+pub const RULES_ARE_IN: &str =
+    "docs/FORMATS.md has the twelve rules, and docs/PROOFS.md the file that defines each, under \"Where each definition is\"";
+
 /// The meaning of BadId.
 const BAD_ID: &str =
     "the user or the group is above the edition's highest, 255 in the sixth and 32767 in the seventh";

@@ -288,6 +288,55 @@ limited 1 none 'unixvol: unsound, rule 1' ls 7 /dev/stdin / < <(cat lying)
 limited 3 none $'unixvol: cannot read /dev/stdin\nunixvol: /dev/stdin: it has more blocks than any volume, and its super-block says so' \
     ls 7 /dev/stdin / --explain < <(cat lying /dev/zero)
 
+# A full disk: a volume of 500 blocks on a disk of 400 KB, which has no room for a second one, stays as it is, and nothing is left beside it.
+mkdir disk
+if mount -t tmpfs -o size=400k none disk 2> error; then
+    trap 'umount "$folder/disk"; rm -rf "$folder"' EXIT
+    prints none mkfs 7 disk/image 500 4 0 0 1
+    cp disk/image before
+    for command in 'mkdir /d 2' 'put /a hello 2' 'touch / 2'; do
+        read -r -a given <<< "$command"
+        refuses 3 $'unixvol: cannot write disk/image\nunixvol: disk/image: No space left on device (os error 28)' \
+            --explain "${given[0]}" 7 disk/image "${given[@]:1}"
+        saves "a volume on a full disk after ${given[0]}" disk/image before
+        has "the files on a full disk after ${given[0]}" image "$(ls -A disk)"
+    done
+    mount -o remount,size=800k disk
+    prints none mkdir 7 disk/image /d 2
+    has 'the files on a disk that has room again' image "$(ls -A disk)"
+    umount disk
+    trap 'rm -rf "$folder"' EXIT
+else
+    echo 'skipped: a full disk, since no disk can be mounted here'
+fi
+
+# What a save asks the system for, in this order: a new file, its bytes, that they are on the disk, its lock, where both names lead, the rename; and then that
+# the folder is on the disk.
+# acts NEW OLD: reads a trace, and prints each act of a save once, the new file's descriptor and both names left out
+acts() {
+    awk -v new="\"$1\"" -v old="\"$2\"" '
+        function act(name) { if (name != last) printf "%s%s", (last == "" ? "" : " "), name; last = name }
+        /^openat/ && index($0, new) { fd = $NF; act(/O_CREAT\|O_EXCL/ ? "create" : "open") }
+        fd == "" { next }
+        /^write\(/ && $0 ~ "^write\\(" fd "," { act("fill") }
+        /^(fsync|fdatasync)\(/ { act($0 ~ "\\(" fd "\\)" ? "sync" : "sync-folder") }
+        /^flock\(/ && $0 ~ "^flock\\(" fd ",.*= 0$" { act("lock") }
+        /^statx\(AT_FDCWD/ && last != "fill" && (index($0, new) || index($0, old)) { seen = seen (index($0, new) ? "new" : "old"); if (last == "lock") act("compare") }
+        /^rename/ { act(seen ~ /old/ && seen ~ /new/ && index($0, new) < index($0, old) && / = 0$/ ? "rename" : "other-rename") }
+        /^unlink/ { act("remove") }'
+}
+if strace -qq -o trace true 2> error; then
+    prints none mkfs 7 image 100 4 0 0 1
+    for command in 'mkdir /a 2' 'put /b hello 2' 'rm /b 2'; do
+        read -r -a given <<< "$command"
+        strace -qq -s 0 -o trace "$program" "${given[0]}" 7 image "${given[@]:1}" > output 2> error
+        has "the status of ${given[0]} under strace" 0 $?
+        has "what ${given[0]} asks the system for" 'create fill sync lock compare rename sync-folder' "$(acts .unixvol-0 image < trace)"
+    done
+else
+    echo 'skipped: the order of a save, since strace traces nothing here'
+fi
+
 # Another program that writes the image, or replaces it, after a command has read it and before it saves: nothing is saved.
 # meddled LABEL SHELL-COMMAND: runs the command once `play` has read the image, and before it has printed everything
 meddled() {

@@ -18,7 +18,7 @@ use command_faults::Fault;
 use command_faults::answer::tell;
 use command_faults::status::{BAD_COMMAND_LINE, BAD_FILE, DONE, NO_MEMORY};
 use command_line::reworded;
-use command_reads::CatFault;
+use command_reads::{CatFault, Look};
 use host_files::ImageFiles;
 use pdp_words::{Sink, write_all};
 use std::io::{self, Write};
@@ -190,9 +190,11 @@ fn sizes_of<R: ImageFiles + AllocGlobal>(
     }
 }
 
-/// Prints which documents have the rules and their definitions, if the user asked for a second line and `status` is that of a check which found a rule broken.
-pub fn explain_rules<R: Eprint>(host: &Surroundings<'_, R>, status: u8) {
-    if host.explains && !matches!(status, DONE | BAD_FILE | NO_MEMORY) {
+/// Prints which documents have the rules and their definitions, if the user asked for a second line and the look was a check that ended with the `status` of
+/// a broken rule.
+pub fn explain_rules<R: Eprint>(host: &Surroundings<'_, R>, look: Look<'_>, status: u8) {
+    let is_broken = !matches!(status, DONE | BAD_FILE | NO_MEMORY);
+    if host.explains && is_broken && matches!(look, Look::Check { .. }) {
         let place = meanings::RULES_ARE_IN;
         let _ = eprintln!(host.rt; "unixvol: {place}");
     }

@@ -95,9 +95,7 @@ pub fn run_to_end<R: ImageFiles + Eprint + AllocGlobal, O: Write + Drop, E: Writ
         output.error(),
         Some(subject),
     );
-    if let Look::Check { .. } = look {
-        explain_rules(host, ending.status);
-    }
+    explain_rules(host, look, ending.status);
     ExitCode::from(finish_printed(host, output.into_inner().into_inner(), ending.status))
 }
 

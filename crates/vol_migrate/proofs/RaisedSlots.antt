@@ -1,14 +1,16 @@
 -- The slots of a directory, raised byte by byte.
-use Rattle.std.proofs.Common.{◌≡◌, ◌≢◌, ◌∙◌, sym, ap, refl, ℕ, suc, ◌+◌, ◌-◌, ◌*◌, ◌/◌, ◌%◌, ◌<◌, ◌≤◌, cond, List, length, get_or, slice_range, replicate, length-append, Option, None, Some, inl, inr, arith}
+use Rattle.std.proofs.Common.{◌≡◌, ◌≢◌, ◌∙◌, ◌==◌, true≢false, sym, ap, refl, ℕ, suc, ◌+◌, ◌-◌, ◌*◌, ◌/◌, ◌%◌, ◌<◌, ◌≤◌, cond, List, length, get_or, slice_range, replicate, length-append, Option, None, Some, inl, inr, arith}
+use Rattle.std.specs.List.{position_or_len}
 use Rattle.std.proofs.lemmas.Bool.{cases_eq, cases_lt, eq-eqb, ne_eqb}
 use Rattle.std.proofs.lemmas.Grind.{common_steps}
-use Rattle.std.proofs.lemmas.List.{ext_get_or, length-replicate}
+use Rattle.std.proofs.lemmas.List.{ext_get_or, get_or-take, length-replicate, length-take}
+use Rattle.std.proofs.lemmas.List.Sums.{fails_before_first}
 use Rattle.pdp_words.specs.Words.{word, SameOutside}
 use Rattle.vol_layout.specs.Slot.{slot_at, name_of, padded_name}
 use Rattle.vol_layout.specs.declared.slot.Slot.{Slot}
 use Rattle.vol_layout.proofs.BodyLaws.{get_or-slice_range, length-slice_range}
 use Rattle.vol_dir.specs.Entries.{entry_in}
-use Rattle.vol_judge.proofs.CollectedNames.{name_of-padded}
+use Rattle.vol_dir.proofs.NewEntries.{name_padded}
 use Rattle.vol_migrate.specs.Raised.{raised_slot}
 use Rattle.vol_migrate.specs.Stages.{raised_byte, bytes_of_slot}
 use Rattle.vol_migrate.proofs.RaisedGraphs.{raised_entry}
@@ -100,6 +102,14 @@ slot_raised bytes raised s room size each =
     ∙ byte_of_slot bytes s (suc (suc r)) (16 * s + 2 + r) (omega (arith, h, short)) (omega arith)))) in
     λ i. record { inode = number i; name = name i }
 
+-- a stored name reads back as the same name
+name_back : (xs : List ℕ) → name_of (padded_name (name_of xs)) ≡ name_of xs
+name_back xs =
+    let first = position_or_len (λ c. c == 0) xs in
+    name_padded (name_of xs) (λ k low.
+    let before : k < first = omega (arith, length-take first xs, low) in
+    λ zero. true≢false (sym (eq-eqb (get_or xs k 0) 0 (sym (get_or-take first xs k 0 before) ∙ zero)) ∙ fails_before_first (λ c. c == 0) xs k 0 before))
+
 -- the entry of a raised slot is the raised entry
 pub entry_raised : (slot : Slot) → entry_in (raised_slot slot) ≡ raised_entry (entry_in slot)
 entry_raised slot =
@@ -111,6 +121,6 @@ entry_raised slot =
           ap entry_in (raised_some slot some)
           ∙ (ap (λ t. cond {A = Option (List ℕ × ℕ)} t None (Some (name_of (padded_name (name_of slot.name)), slot.inode + 1)))
           (ne_eqb (slot.inode + 1) 0 (λ e. omega (arith, e)))
-          ∙ (ap (λ n. Some (n, slot.inode + 1)) (name_of-padded slot.name)
+          ∙ (ap (λ n. Some (n, slot.inode + 1)) (name_back slot.name)
           ∙ sym (ap (λ t. raised_entry (cond {A = Option (List ℕ × ℕ)} t None (Some (name_of slot.name, slot.inode)))) (ne_eqb slot.inode 0 some))))
     ]

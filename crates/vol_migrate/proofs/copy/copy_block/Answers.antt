@@ -2,7 +2,6 @@
 use Rattle.std.proofs.Common.{◌≡◌, ◌∙◌, sym, ap, ℕ, ◌+◌, ◌-◌, ◌*◌, ◌≤◌, subst, min, length, length-take-le, take, arith}
 use Rattle.pdp_words.specs.Words.{block_of}
 use Rattle.vol_layout.specs.Edition.{constants}
-use Rattle.vol_layout.specs.BlockPointers.{form_at, stored}
 use Rattle.vol_layout.proofs.BodyLaws.{zone_room}
 use Rattle.vol_file.specs.Need.{need}
 use Rattle.vol_file.specs.Rules.{size_of}

@@ -154,6 +154,21 @@ refuses 1 'unixvol: unsound, rule 1: short.img' diff 7 d.img short.img
 changed d.img bounds.img 512 ffff
 refuses 1 'unixvol: unsound, rule 2: bounds.img' diff 7 d.img bounds.img
 
+# A path above 4,096 bytes, in both volumes: what is below it isn't compared, and that is said. The 274th of nested directories has such a path.
+"$program" mkfs 7 far.img 600 40 0 0 1000
+path=
+for k in $(seq 276); do
+    path=$path/abcdefghijk$((100 + k % 100))
+    [ "$k" = 274 ] && echo "U $path path above 4096 bytes" > wanted
+    echo "1000 3 5 mkdir $path 755"
+done > script
+"$program" play 7 far.img script > output
+cp far.img further.img
+echo "2000 0 0 create $path/new 644" > script
+"$program" play 7 further.img script > output
+tells 1 wanted diff 7 far.img further.img
+tells 1 wanted diff 7 far.img far.img
+
 # A volume inside a pack; files that can't be read, a device that is full, and wrong words.
 { head -c 5120 /dev/zero; cat d.img; } > pack.img
 { head -c 5120 /dev/zero; cat e.img; } > other_pack.img

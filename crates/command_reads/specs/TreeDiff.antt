@@ -21,7 +21,8 @@ pub record IsTreeOf (g : Geometry) (bytes : List ℕ) (tree : MetTree) : Type 0 
   pub root : tree.root ≡ root_entry g bytes
   pub founds : AreMet g bytes tree.founds.items
 
--- the text is the differences between the trees of two images: by the law of `vol_compare`, it is empty if and only if they have the same members (diff)
+-- the text is the differences between the trees of two images: by the law of `vol_compare`, it is empty if and only if they have the same members, no path
+-- of which is too long to be followed (diff)
 abbrev pub IsTreeDiff : Edition → List ℕ → List ℕ → Bool → List ℕ → Type 0
 IsTreeDiff edition old new times text =
     (g : Geometry) × (geometry_read edition old ≡ Ok g) × ((h : Geometry) × (geometry_read edition new ≡ Ok h) × IsTreeText times g old h new text)

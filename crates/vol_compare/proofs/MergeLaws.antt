@@ -1,9 +1,11 @@
 -- When two lists of members have no lines.
-use Rattle.std.proofs.Common.{◌≡◌, ◌∙◌, ap, refl, ℕ, List, [], ◌∷◌}
+use Rattle.std.proofs.Common.{◌≡◌, ◌∙◌, ap, refl, ℕ, ◌&&◌, Bool, true, List, [], ◌∷◌}
+use Rattle.std.specs.List.{list_all}
+use Rattle.std.proofs.lemmas.Bool.{and_parts}
 use Rattle.std.specs.declared.cmp.Ordering.{Ordering}
 use Rattle.std.specs.declared.cmp.Ordering.TheVariants.{Less, Equal, Greater}
 use Rattle.vol_compare.specs.Lines.{pair_line}
-use Rattle.vol_compare.specs.Members.{Content, Member}
+use Rattle.vol_compare.specs.Members.{Content, Member, is_seen}
 use Rattle.vol_compare.specs.Merge.{member_lines, merged_lines, path_order, turn_lines}
 use Rattle.vol_compare.proofs.PathOrders.{order_equal, order_same}
 use Rattle.vol_compare.proofs.SilentLines.{both_empty, first_empty, pair_equal, pair_same, rest_empty, some_text}
@@ -12,29 +14,36 @@ use Rattle.vol_compare.proofs.SilentLines.{both_empty, first_empty, pair_equal, 
 abbrev member : List ℕ → Content → Member
 member path content = record { path = path; content = content }
 
--- equal lists have no line
-pub merged_same : (members : List Member) → merged_lines members members ≡ []
-unfolding merged_lines member_lines
-merged_same [] = refl
-merged_same (m ∷ members) =
-    ap (turn_lines m (merged_lines members) m members (member_lines m (merged_lines members) members)) (order_same m.path)
-    ∙ both_empty (pair_line m.path m.content m.content) (merged_lines members members) (pair_same m.path m.content) (merged_same members)
+-- it is known of each path of these members what it leads to
+abbrev are_seen : List Member → Bool
+are_seen members = list_all (λ (m : Member). is_seen m.content) members
 
--- members without a line are equal, and those after them if they are
+-- equal lists have no line, if it is known of each path what it leads to
+pub merged_same : (members : List Member) → are_seen members ≡ true → merged_lines members members ≡ []
+unfolding merged_lines member_lines
+merged_same [] seen = refl
+merged_same (m ∷ members) seen =
+    let parts = and_parts (is_seen m.content) (are_seen members) seen in
+    ap (turn_lines m (merged_lines members) m members (member_lines m (merged_lines members) members)) (order_same m.path)
+    ∙ both_empty (pair_line m.path m.content m.content) (merged_lines members members) (pair_same m.path m.content parts.0) (merged_same members parts.1)
+
+-- members without a line are equal, and those after them if they are; and it is known what their paths lead to
 turned_equal : (old new : Member) (olds news : List Member) (more : List ℕ) (t : Ordering) → path_order old.path new.path ≡ t
-    → turn_lines old (merged_lines olds) new news more t ≡ [] → (merged_lines olds news ≡ [] → olds ≡ news) → old ∷ olds ≡ new ∷ news
+    → turn_lines old (merged_lines olds) new news more t ≡ [] → (merged_lines olds news ≡ [] → (olds ≡ news) × (are_seen olds ≡ true))
+    → (old ∷ olds ≡ new ∷ news) × (are_seen (old ∷ olds) ≡ true)
 turned_equal old new olds news more Less is e rest = absurd (some_text 68 _ e)
 turned_equal old new olds news more Greater is e rest = absurd (some_text 65 _ e)
 turned_equal old new olds news more Equal is e rest =
     let path : old.path ≡ new.path = order_equal old.path new.path is in
-    let content : old.content ≡ new.content = pair_equal old.path old.content new.content (first_empty _ _ e) in
-    let one : old ≡ new = ap (λ p. member p old.content) path ∙ ap (member new.path) content in
-    ap (λ m. m ∷ olds) one ∙ ap (λ ms. new ∷ ms) (rest (rest_empty (pair_line old.path old.content new.content) _ e))
+    let content = pair_equal old.path old.content new.content (first_empty _ _ e) in
+    let one : old ≡ new = ap (λ p. member p old.content) path ∙ ap (member new.path) content.0 in
+    let others = rest (rest_empty (pair_line old.path old.content new.content) _ e) in
+    (ap (λ m. m ∷ olds) one ∙ ap (λ ms. new ∷ ms) others.0, ap (λ b. b && are_seen olds) content.1 ∙ others.1)
 
--- lists without a line are equal
-pub merged_equal : (olds news : List Member) → merged_lines olds news ≡ [] → olds ≡ news
+-- lists without a line are equal, and it is known of each path what it leads to
+pub merged_equal : (olds news : List Member) → merged_lines olds news ≡ [] → (olds ≡ news) × (are_seen olds ≡ true)
 unfolding merged_lines member_lines
-merged_equal [] [] e = refl
+merged_equal [] [] e = (refl, refl)
 merged_equal [] (new ∷ news) e = absurd (some_text 65 _ e)
 merged_equal (old ∷ olds) [] e = absurd (some_text 68 _ e)
 merged_equal (old ∷ olds) (new ∷ news) e =

@@ -1,5 +1,5 @@
 -- When two trees have no lines: lemmas on the lines of members.
-use Rattle.std.proofs.Common.{◌≡◌, ◌∙◌, sym, ap, refl, ℕ, suc, ◌==◌, if◌then◌else◌, Bool, true, false, List, [], ◌∷◌, ◌++◌, codes, length, inl, inr, Option, None, Some, arith}
+use Rattle.std.proofs.Common.{◌≡◌, ◌∙◌, sym, ap, refl, ℕ, suc, ◌==◌, if◌then◌else◌, Bool, true, false, not, List, [], ◌∷◌, ◌++◌, codes, length, inl, inr, Option, None, Some, arith}
 use Rattle.std.specs.Option.{option_map}
 use Rattle.std.specs.Str.{bytes_eq}
 use Rattle.std.proofs.lemmas.Bool.{cases_eq, eq-eqb, ne_eqb, true≢false}
@@ -8,8 +8,8 @@ use Rattle.std.proofs.lemmas.Slice.Eq.{bytes_eq-Decides}
 use Rattle.vol_archive.specs.declared.met_entries.Reason.{Reason}
 use Rattle.vol_archive.specs.declared.met_entries.Reason.TheVariants as reasons
 use Rattle.vol_compare.specs.Bodies.{first_difference}
-use Rattle.vol_compare.specs.Lines.{bytes_change, change, changed_line, fact_changes, is_one_kind, is_one_reason, kind_change, kind_text, left_text, content_text, mode_change, nodes_line, number_change, owner_changes, pair_line, time_change, time_changes, turned_line}
-use Rattle.vol_compare.specs.Members.{Content, Own, Further, LeftOut}
+use Rattle.vol_compare.specs.Lines.{bytes_change, change, changed_line, fact_changes, is_one_kind, is_one_reason, kind_change, kind_text, left_text, content_text, mode_change, nodes_line, number_change, owner_changes, pair_line, reasons_line, time_change, time_changes, turned_line, unseen_line}
+use Rattle.vol_compare.specs.Members.{Content, Own, Further, LeftOut, is_seen, is_unseen}
 use Rattle.vol_compare.specs.declared.members.Facts.{Facts}
 use Rattle.vol_compare.specs.declared.members.NodeKind.{NodeKind}
 use Rattle.vol_compare.specs.declared.members.NodeKind.TheVariants as nodes
@@ -233,22 +233,47 @@ same_bytes a = (bytes_eq-Decides a a).1 refl
 equal_bytes : (a b : List ℕ) → bytes_eq a b ≡ true → a ≡ b
 equal_bytes a b = (bytes_eq-Decides a b).0
 
--- nothing is told of a path that leads to the same
-pub pair_same : (path : List ℕ) (content : Content) → pair_line path content content ≡ []
-pair_same path (Own f xs) = nodes_same path f xs
-pair_same path (Further a) = ap (λ t. if t then [] else turned_line 77 path (content_text (Further a)) (content_text (Further a))) (same_bytes a)
-pair_same path (LeftOut r) = ap (λ t. if t then [] else turned_line 84 path (left_text r) (left_text r)) (one_reason r)
+-- nothing is told of a path that is left out for one reason and leads to nothing
+reasons_same : (path : List ℕ) (reason : Reason) → is_unseen reason ≡ false → reasons_line path reason reason ≡ []
+reasons_same path r seen =
+    ap (λ t. if t then (if is_unseen r then unseen_line path r else []) else turned_line 84 path (left_text r) (left_text r)) (one_reason r)
+    ∙ ap (λ t. if t then unseen_line path r else []) seen
+
+-- a test whose opposite is true is false
+opposite : (t : Bool) → not t ≡ true → t ≡ false
+opposite true e = absurd (true≢false (sym e))
+opposite false e = refl
+
+-- nothing is told of a path that leads to the same, if it is known what it leads to
+pub pair_same : (path : List ℕ) (content : Content) → is_seen content ≡ true → pair_line path content content ≡ []
+pair_same path (Own f xs) seen = nodes_same path f xs
+pair_same path (Further a) seen = ap (λ t. if t then [] else turned_line 77 path (content_text (Further a)) (content_text (Further a))) (same_bytes a)
+pair_same path (LeftOut r) seen = reasons_same path r (opposite (is_unseen r) seen)
 
 -- a choice between nothing and a text that isn't empty
 chosen : (t : Bool) (text : List ℕ) → (text ≡ [] → ⊥) → (if t then [] else text) ≡ [] → t ≡ true
 chosen true text some e = refl
 chosen false text some e = absurd (some e)
 
--- a path of which nothing is told leads to the same
-pub pair_equal : (path : List ℕ) (old new : Content) → pair_line path old new ≡ [] → old ≡ new
-pair_equal path (Own f xs) (Own h ys) e = nodes_told path f xs h ys (is_one_kind f.kind h.kind) _ (some_turn 84 path _ _) refl e
-pair_equal path (Further a) (Further b) e = ap Further (equal_bytes a b (chosen (bytes_eq a b) _ (some_turn 77 path _ _) e))
-pair_equal path (LeftOut r) (LeftOut s) e = ap LeftOut (reasons_equal r s (chosen (is_one_reason r s) _ (some_turn 84 path _ _) e))
+-- a choice between a text that isn't empty, nothing, and another text that isn't
+chosen_twice : (t u : Bool) (unseen turned : List ℕ) → (unseen ≡ [] → ⊥) → (turned ≡ [] → ⊥) → (if t then (if u then unseen else []) else turned) ≡ []
+    → (t ≡ true) × (u ≡ false)
+chosen_twice false u unseen turned first second e = absurd (second e)
+chosen_twice true true unseen turned first second e = absurd (first e)
+chosen_twice true false unseen turned first second e = (refl, refl)
+
+-- a path of which nothing is told is left out for one reason, and leads to nothing
+reasons_told : (path : List ℕ) (r s : Reason) → reasons_line path r s ≡ [] → (LeftOut r ≡ LeftOut s) × (is_seen (LeftOut r) ≡ true)
+reasons_told path r s e =
+    let both = chosen_twice (is_one_reason r s) (is_unseen r) (unseen_line path r) (turned_line 84 path (left_text r) (left_text s)) (some_text 85 _)
+    (some_turn 84 path _ _) e in
+    (ap LeftOut (reasons_equal r s both.0), ap not both.1)
+
+-- a path of which nothing is told leads to the same, and it is known what it leads to
+pub pair_equal : (path : List ℕ) (old new : Content) → pair_line path old new ≡ [] → (old ≡ new) × (is_seen old ≡ true)
+pair_equal path (Own f xs) (Own h ys) e = (nodes_told path f xs h ys (is_one_kind f.kind h.kind) _ (some_turn 84 path _ _) refl e, refl)
+pair_equal path (Further a) (Further b) e = (ap Further (equal_bytes a b (chosen (bytes_eq a b) _ (some_turn 77 path _ _) e)), refl)
+pair_equal path (LeftOut r) (LeftOut s) e = reasons_told path r s e
 pair_equal path (Own f xs) (Further b) e = absurd (some_turn _ path _ _ e)
 pair_equal path (Own f xs) (LeftOut s) e = absurd (some_turn _ path _ _ e)
 pair_equal path (Further a) (Own h ys) e = absurd (some_turn _ path _ _ e)

@@ -7,7 +7,7 @@ use Rattle.vol_archive.specs.declared.met_entries.Reason.{Reason}
 use Rattle.vol_archive.specs.declared.met_entries.Reason.TheVariants as reasons
 use Rattle.vol_listing.specs.Dates.{moment_text}
 use Rattle.vol_compare.specs.Bodies.{first_difference}
-use Rattle.vol_compare.specs.Members.{Content, Own, Further, LeftOut}
+use Rattle.vol_compare.specs.Members.{Content, Own, Further, LeftOut, is_unseen}
 use Rattle.vol_compare.specs.declared.members.Facts.{Facts}
 use Rattle.vol_compare.specs.declared.members.NodeKind.{NodeKind}
 use Rattle.vol_compare.specs.declared.members.NodeKind.TheVariants as nodes
@@ -150,11 +150,20 @@ nodes_line path f xs h ys =
     if is_one_kind f.kind h.kind then changed_line path (fact_changes f h ++ bytes_change (first_difference xs ys))
     else turned_line 84 path (kind_text f.kind) (kind_text h.kind)
 
--- the line of a path that leads to different things in two trees; none if it leads to the same (this project)
+-- the line of a path at which both trees are left out for this reason, so that it is unknown if it leads to the same (this project)
+abbrev pub unseen_line : List ℕ → Reason → List ℕ
+unseen_line path reason = 85 ∷ path_text path ++ (32 ∷ left_text reason ++ 10 ∷ [])
+
+-- the line of a path that is left out of two trees, for these reasons; none if they are the same and it leads to nothing (this project)
+abbrev pub reasons_line : List ℕ → Reason → Reason → List ℕ
+reasons_line path old new =
+    if is_one_reason old new then (if is_unseen old then unseen_line path old else []) else turned_line 84 path (left_text old) (left_text new)
+
+-- the line of a path that leads to different things in two trees, or of which that is unknown; none if it leads to the same (this project)
 abbrev pub pair_line : List ℕ → Content → Content → List ℕ
 pair_line path (Own f xs) (Own h ys) = nodes_line path f xs h ys
 pair_line path (Further a) (Further b) = if bytes_eq a b then [] else turned_line 77 path (content_text (Further a)) (content_text (Further b))
-pair_line path (LeftOut r) (LeftOut s) = if is_one_reason r s then [] else turned_line 84 path (left_text r) (left_text s)
+pair_line path (LeftOut r) (LeftOut s) = reasons_line path r s
 pair_line path (Own f xs) (Further b) = turned_line (own_letter f.kind) path (own_text f.kind) (content_text (Further b))
 pair_line path (Further a) (Own h ys) = turned_line (own_letter h.kind) path (content_text (Further a)) (own_text h.kind)
 pair_line path (Own f xs) (LeftOut s) = turned_line 84 path (kind_text f.kind) (left_text s)

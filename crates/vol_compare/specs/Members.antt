@@ -1,5 +1,5 @@
 -- The members of a tree: what each path leads to.
-use Rattle.std.specs.Prelude.{◌≡◌, ℕ, Bool, true, false, if◌then◌else◌, List, [], ◌∷◌, map, slice_get}
+use Rattle.std.specs.Prelude.{◌≡◌, ℕ, Bool, true, false, not, if◌then◌else◌, List, [], ◌∷◌, map, slice_get}
 use Rattle.std.specs.Option.{option_map_or}
 use Rattle.ustar.specs.declared.header.MemberKind.{MemberKind}
 use Rattle.ustar.specs.declared.header.MemberKind.TheVariants as tars
@@ -31,6 +31,20 @@ pub data Content : Type 0 where
   Own : Facts → List ℕ → Content
   Further : List ℕ → Content
   LeftOut : Reason → Content
+
+-- true if an entry is left out for a reason that leaves unknown what it leads to: its path is too long to be followed (this project)
+abbrev pub is_unseen : Reason → Bool
+is_unseen reasons.LongPath = true
+is_unseen reasons.NoNode = false
+is_unseen reasons.OddNode = false
+is_unseen reasons.Again = false
+is_unseen reasons.BadName = false
+
+-- true unless it is unknown what a path leads to (this project)
+abbrev pub is_seen : Content → Bool
+is_seen (Own facts bytes) = true
+is_seen (Further path) = true
+is_seen (LeftOut reason) = not (is_unseen reason)
 
 -- a path of a tree, and what it leads to (this project)
 pub record Member : Type 0 where

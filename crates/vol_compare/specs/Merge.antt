@@ -72,7 +72,8 @@ all_of times tree = member_of times tree.geometry.now tree.image.now tree.founds
 abbrev pub tree_lines : Bool → MetTree → MetTree → List ℕ
 tree_lines times old new = merged_lines (all_of times old) (all_of times new)
 
--- the text is the differences between the trees of two images: it is empty if and only if they have the same members (diff)
+-- the text is the differences between the trees of two images: it is empty if and only if they have the same members, no path of which is too long to be
+-- followed (diff)
 abbrev pub IsTreeText : Bool → Geometry → List ℕ → Geometry → List ℕ → List ℕ → Type 0
 IsTreeText times g old h new text =
     (olds : List MetEntry) × AreMet g old olds

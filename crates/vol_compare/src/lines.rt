@@ -2,8 +2,8 @@
 ghost use Rattle.std.specs.Prelude.{◌≡◌, ◌≤◌, ◌++◌, ◌∷◌, [], true, IfOk, OnOk};
 ghost use Rattle.vol_layout.specs.Geometry.{Fits};
 ghost use Rattle.vol_compare.specs.Bodies.{first_difference};
-ghost use Rattle.vol_compare.specs.Lines.{added_line, changed_line, content_text, fact_changes, bytes_change, gone_line, is_one_kind, is_one_reason, kind_text, left_text, nodes_line, own_letter, own_text, pair_line, path_text, turned_line};
-ghost use Rattle.vol_compare.specs.Members.{Further, LeftOut, bytes_of, content_at, content_of};
+ghost use Rattle.vol_compare.specs.Lines.{added_line, changed_line, content_text, fact_changes, bytes_change, gone_line, is_one_kind, is_one_reason, kind_text, left_text, nodes_line, own_letter, own_text, pair_line, path_text, turned_line, unseen_line};
+ghost use Rattle.vol_compare.specs.Members.{Further, LeftOut, bytes_of, content_at, content_of, is_unseen};
 ghost use Rattle.vol_compare.specs.declared.members.Facts.{Facts};
 
 use crate::bodies::{StoredFile, first_difference};
@@ -136,14 +136,38 @@ fn links_line(alloc: Global, path: &[u8], old: &[u8], new: &[u8]) -> Result<Vec<
     turned_line(alloc, b'M', path, &before, &after)
 }
 
-/// Returns the line of a path that is left out for two reasons; no bytes if these are the same.
+/// Returns the line of a path that is left out for two reasons; no bytes if these are the same and the path leads to nothing.
 fn reasons_line(alloc: Global, path: &[u8], old: Reason, new: Reason) -> Result<Vec<u8>, AllocError>
     ensures { IfOk result (λ line. line.items ≡ pair_line path.now (LeftOut old) (LeftOut new)) }
 {
-    if is_one_reason(old, new) {
-        return Ok(Vec::new(alloc));
+    if !is_one_reason(old, new) {
+        return turned_line(alloc, b'T', path, left_text(old), left_text(new));
     }
-    turned_line(alloc, b'T', path, left_text(old), left_text(new))
+    if is_unseen(old) {
+        unseen_line(alloc, path, old)
+    } else {
+        Ok(Vec::new(alloc))
+    }
+}
+
+/// Returns the line of a path at which both trees are left out for this reason, so that it is unknown if it leads to the same.
+fn unseen_line(alloc: Global, path: &[u8], reason: Reason) -> Result<Vec<u8>, AllocError>
+    ensures { IfOk result (λ line. line.items ≡ unseen_line path.now reason) }
+{
+    let mut line = Vec::new(alloc);
+    line.push(b'U')?;
+    push_path(&mut line, path)?;
+    line.push(b' ')?;
+    line.extend_from_slice(left_text(reason))?;
+    line.push(b'\n')?;
+    Ok(line)
+}
+
+/// True if an entry is left out for a reason that leaves unknown what it leads to.
+fn is_unseen(reason: Reason) -> bool
+    ensures { result ≡ is_unseen reason }
+{
+    matches!(reason, Reason::LongPath)
 }
 
 /// True if two entries are left out for one reason.

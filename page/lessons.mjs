@@ -1,4 +1,4 @@
-// The lessons: the ten steps of docs/LESSON.md, whose commands run here, and a broken volume for each rule.
+// The lessons: the twelve steps of docs/LESSON.md, whose commands run here, and a broken volume for each rule.
 import { $, button, el, say } from './dom.mjs';
 import { choose, go, open, removeFile, state } from './shelf.mjs';
 import { runLine } from './shell.mjs';
@@ -95,5 +95,5 @@ function makeLessons() {
     el('p', {}, 'Open one, look at Check, find the bytes, and mend them under Bytes.'), el('ul', { className: 'lessons' }, list),
     el('hr'), ...blocks(lesson).map((it) => (it.title ? el('h3', {}, it.title) : it.heading ? el('h4', {}, it.heading) : it.code ? step(it.code)
       : el('p', {}, words(it.paragraph)))),
-    el('p', {}, button('Begin the ten steps again', beginAgain)));
+    el('p', {}, button('Begin the twelve steps again', beginAgain)));
 }

@@ -7,7 +7,7 @@ lessons=$samples/lessons
 
 named
 runs_blocks "$samples/../docs/LESSON.md"
-has 'the steps of the lesson' 10 "$(grep -c '^## [0-9]' "$samples/../docs/LESSON.md")"
+has 'the steps of the lesson' 12 "$(grep -c '^## [0-9]' "$samples/../docs/LESSON.md")"
 
 mkdir made
 "$lessons/make.sh" "$program" made

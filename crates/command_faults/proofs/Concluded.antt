@@ -3,7 +3,7 @@ use Rattle.std.proofs.Common.{◌≡◌, ◌∙◌, ◌⊎◌, ℕ, List, [], Op
 use Rattle.std.specs.Global.{Vec}
 use Rattle.std.specs.Io.KnownBytes.{Keeps}
 use Rattle.command_faults.specs.Faults.{fault_status, line_after, refusal_status}
-use Rattle.command_faults.specs.Outcomes.{IsAmong, IsUnremarked, Outcomes, Concludes}
+use Rattle.command_faults.specs.Outcomes.{IsAmong, IsUnremarked, Outcomes, Concludes, untraced}
 use Rattle.command_faults.specs.Streams.{Streams}
 use Rattle.command_faults.specs.declared.answer.Answer.{Answer}
 use Rattle.command_faults.specs.declared.answer.Remarked.{Remarked}
@@ -51,13 +51,14 @@ fault_few faults.Output = (omega arith, omega arith)
 
 -- if an outcome is one of the possible ones, its answer and its lines tell one of them
 pub concluded : (outcomes : Outcomes) (streams : Streams) (outcome : Result Remarked Fault) (answer : Answer) → IsAmong outcomes outcome
-    → IfOk outcome (λ made. (answer.image ≡ Some made.bytes) × (answer.status ≡ 0) × (line_after answer.fault ≡ made.lines.items))
-    → IfErr outcome (λ fault. (answer.image ≡ None) × (answer.status ≡ fault_status fault) × (answer.fault ≡ Some fault))
+    → IfOk outcome (λ made. (answer.image ≡ Some made.bytes) × (answer.status ≡ 0) × (line_after answer.fault ≡ made.lines.items) × (answer.trace ≡ made.trace))
+    → IfErr outcome (λ fault. (answer.image ≡ None) × (answer.status ≡ fault_status fault) × (answer.fault ≡ Some fault) × (answer.trace ≡ None))
     → streams.said (line_after answer.fault) → Keeps streams.old streams.new → streams.failed ≡ streams.had_failed → Concludes outcomes streams answer
 concluded outcomes streams (Ok made) answer among ok err said unprinted unused = record {
   saved = (λ e. rw ok.0 refl, λ some. ok.1);
-  made = rw ok.0 (among.0, subst streams.said (ok.2 ∙ among.1) said);
+  made = rw ok.0 (subst (outcomes.saves made.bytes.items) (sym ok.3) among.0, subst streams.said (ok.2 ∙ among.1) said);
   refused = λ none. absurd (true≢false (rw ok.0 at none));
+  untraced = λ none. absurd (true≢false (rw ok.0 at none));
   unprinted = unprinted;
   unused = unused;
 }
@@ -65,20 +66,21 @@ concluded outcomes streams (Err fault) answer among ok err said unprinted unused
   saved = (λ e. let few = fault_few fault in let is = err.1 in absurd (omega (arith, few.0, is, e)), λ some. absurd (true≢false (sym (subst IsSome err.0 some))));
   made = rw err.0 tt;
   refused = λ _. (fault, among, err.1, subst (λ (fault : Option Fault). streams.said (line_after fault)) err.2 said);
+  untraced = λ _. err.3;
   unprinted = unprinted;
   unused = unused;
 }
 
--- bytes without lines that are made as required, or a reason, are one of the possible outcomes
+-- bytes without a trace and without lines that are made as required, or a reason, are one of the possible outcomes
 pub among : (saves : List ℕ → Type 0) (fails : Fault → Type 0) (made given : Result (Vec ℕ) Fault) (outcome : Result Remarked Fault) → given ≡ made
     → IfOk made (λ bytes. saves bytes.items) → IfErr made fails → IsUnremarked given outcome
-    → IsAmong (record { saves = saves; lines = []; fails = fails }) outcome
+    → IsAmong (record { saves = untraced saves; lines = []; fails = fails }) outcome
 among saves fails made given outcome is ok err plain =
     go made outcome ok err (subst (λ (made : Result (Vec ℕ) Fault). IsUnremarked made outcome) is plain)
   where
     go : (made : Result (Vec ℕ) Fault) (outcome : Result Remarked Fault) → IfOk made (λ bytes. saves bytes.items) → IfErr made fails
-        → IsUnremarked made outcome → IsAmong (record { saves = saves; lines = []; fails = fails }) outcome
-    go (Ok bytes) (Ok made) ok err is = (subst (λ (bytes : Vec ℕ). saves bytes.items) (sym is.0) ok, is.1)
+        → IsUnremarked made outcome → IsAmong (record { saves = untraced saves; lines = []; fails = fails }) outcome
+    go (Ok bytes) (Ok made) ok err is = ((subst (λ (bytes : Vec ℕ). saves bytes.items) (sym is.0) ok, is.2), is.1)
     go (Ok bytes) (Err fault) ok err is = absurd is
     go (Err fault) (Ok made) ok err is = absurd is
     go (Err fault) (Err told) ok err is = subst fails (sym is) err

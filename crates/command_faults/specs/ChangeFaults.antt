@@ -8,7 +8,6 @@ use Rattle.vol_volume.specs.Journal.{Refuses, MayFollow, IsLegal, after}
 use Rattle.vol_volume.specs.Step.{step}
 use Rattle.vol_volume.specs.Volume.{Performs, reads_as}
 use Rattle.command_faults.specs.Faults.{IsCause}
-use Rattle.command_faults.specs.Outcomes.{Outcomes}
 use Rattle.vol_dir.specs.declared.refusal.Refusal.{Refusal}
 use Rattle.vol_layout.specs.declared.edition.Edition.{Edition}
 use Rattle.vol_layout.specs.declared.geometry.Geometry.{Geometry}
@@ -45,7 +44,3 @@ AreRefused state (call ∷ calls) refusal = Refuses state call refusal
 -- a reason not to make calls: out of memory, the first rule that the image breaks, or the refusal of one of them (this project)
 abbrev pub IsReason : Edition → List ℕ → List Call → Fault → Type 0
 IsReason edition image calls fault = IsCause edition image (AreRefused (reads_as edition image) calls) fault
-
--- the outcomes of calls: the bytes that they make, or a reason not to make them (this project)
-abbrev pub of_calls : Edition → List ℕ → List Call → Outcomes
-of_calls edition image calls = record { saves = Makes edition image calls; lines = []; fails = IsReason edition image calls }

@@ -33,6 +33,7 @@ pub(crate) fn finish_traced<O: Sink>(
             Answer {
                 status: fault.status(),
                 image: Some(volume.unmount()),
+                trace: None,
                 fault: Some(fault),
             }
         }

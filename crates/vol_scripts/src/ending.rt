@@ -42,6 +42,7 @@ pub fn finish<O: Sink>(
     Answer {
         status,
         image: Some(volume.unmount()),
+        trace: None,
         fault,
     }
 }

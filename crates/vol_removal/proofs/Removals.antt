@@ -11,7 +11,7 @@ use Rattle.vol_import.specs.Make.{AreMade}
 use Rattle.vol_import.proofs.MadeCalls.{imported}
 use Rattle.vol_removal.specs.FreedNumbers.{FreesNumbers}
 use Rattle.vol_removal.specs.Removal.{IsRemoval, IsNotFound, names_of, call_of}
-use Rattle.vol_removal.specs.Remove.{Removes, IsReason, IsUnmounted, IsStop, unmounted}
+use Rattle.vol_removal.specs.Remove.{RemovesTo, IsReason, IsUnmounted, IsStop, unmounted}
 use Rattle.vol_removal.proofs.FreedBlocks.{blocks_free}
 use Rattle.vol_removal.proofs.FreedNumbers.{takes_taking, numbers_freed}
 use Rattle.vol_removal.proofs.GoneCalls.{call_gone}
@@ -60,10 +60,10 @@ ended_gone new path now before ends =
     ap (λ g. answer (tree g new.image) (queries.Stat user path)) (sym (ended_sizes new (call_of now path (names_of before path)) ends))
     ∙ call_gone ends.mid new path now (names_of before path) ends.done ends.accepts
 
--- if all calls of a removal are made, the bytes of the volume are its result
+-- if all calls of a removal are made, the volume is its result
 removes_from : (edition : Edition) (image path : List ℕ) (now : ℕ) (new : Mounted) (calls : List Call) → IsSound edition image
     → IsRemoval (reads_as edition image).tree path now calls → AreMade (mounted edition image) calls new → IsConsistent new
-    → Removes edition image path now new.image
+    → RemovesTo edition image path now new
 removes_from edition image path now new calls sound removal made consistent =
     let before = (reads_as edition image).tree in
     let old = mounted edition image in
@@ -73,22 +73,24 @@ removes_from edition image path now new calls sound removal made consistent =
     let same = edition_kept old new calls made in
     let ready = subst (λ g. Rules1To12 g new.image) (ended_sizes new (call_of now path (names_of before path)) ends) ends.accepts.performed.changes.ready in
     record {
-      calls = calls;
-      removal = removal;
-      made = imported edition image new.image calls new sound made consistent refl;
-      gone = subst (λ e. answer (reads_as e new.image).tree (queries.Stat user path) ≡ Err refusals.NoEntry) same (ended_gone new path now before ends);
-      numbers = subst (λ e. FreesNumbers before calls (reads_as e new.image).tree) same (numbers_freed old new calls taking made ready same);
-      blocks = blocks_free old new calls sound taking made;
+      removes = record {
+        calls = calls;
+        removal = removal;
+        made = imported edition image new.image calls new sound made consistent refl;
+        gone = subst (λ e. answer (reads_as e new.image).tree (queries.Stat user path) ≡ Err refusals.NoEntry) same (ended_gone new path now before ends);
+        numbers = subst (λ e. FreesNumbers before calls (reads_as e new.image).tree) same (numbers_freed old new calls taking made ready same);
+        blocks = blocks_free old new calls sound taking made;
+      };
+      accepts = made;
     }
 
-pub all_removed : (edition : Edition) (image path bytes : List ℕ) (now : ℕ) (old new : Mounted) (calls : List Call) → IsSound edition image
-    → old ≡ mounted edition image → IsRemoval (reads_as old.edition old.image).tree path now calls → AreMade old calls new → IsConsistent new → bytes ≡ new.image
-    → Removes edition image path now bytes
-all_removed edition image path bytes now old new calls sound is removal made consistent left =
-    subst (Removes edition image path now) (sym left)
-    (removes_from edition image path now new calls sound
+pub all_removed : (edition : Edition) (image path : List ℕ) (now : ℕ) (old new : Mounted) (calls : List Call) → IsSound edition image
+    → old ≡ mounted edition image → IsRemoval (reads_as old.edition old.image).tree path now calls → AreMade old calls new → IsConsistent new
+    → RemovesTo edition image path now new
+all_removed edition image path now old new calls sound is removal made consistent =
+    removes_from edition image path now new calls sound
     (subst (λ (v : Mounted). IsRemoval (reads_as v.edition v.image).tree path now calls) is removal)
-    (subst (λ (v : Mounted). AreMade v calls new) is made) consistent)
+    (subst (λ (v : Mounted). AreMade v calls new) is made) consistent
 
 -- a fault of mounting is a reason not to remove a path
 unmounted_reason : (edition : Edition) (image path : List ℕ) (now : ℕ) (why : MountFault) → IsFaultOf edition image why → IsReason edition image path now (unmounted why)

@@ -5,7 +5,7 @@ use Rattle.vol_judge.specs.Sound.{IsSound, IsLeastBroken}
 use Rattle.vol_volume.specs.Answer.{answer}
 use Rattle.vol_volume.specs.Faults.{IsFaultOf}
 use Rattle.vol_volume.specs.Volume.{Mounted, mounted, reads_as}
-use Rattle.vol_import.specs.Make.{AreStopped, ImportsCalls}
+use Rattle.vol_import.specs.Make.{AreMade, AreStopped, ImportsCalls}
 use Rattle.vol_dir.specs.declared.refusal.Refusal.{Refusal}
 use Rattle.vol_dir.specs.declared.refusal.Refusal.TheVariants.{NoEntry}
 use Rattle.vol_layout.specs.declared.edition.Edition.{Edition}
@@ -28,6 +28,11 @@ pub record Removes (edition : Edition) (image : List ℕ) (path : List ℕ) (now
   pub gone : answer (reads_as edition bytes).tree (queries.Stat user path) ≡ Err NoEntry
   pub numbers : FreesNumbers (reads_as edition image).tree calls (reads_as edition bytes).tree
   pub blocks : FreesBlocks (geometry_of edition image) image bytes
+
+-- a volume was mounted from an image, and accepted all calls that remove a path, and everything below it; its bytes are their result (rm)
+pub record RemovesTo (edition : Edition) (image : List ℕ) (path : List ℕ) (now : ℕ) (volume : Mounted) : Type 0 where
+  pub removes : Removes edition image path now volume.image
+  pub accepts : AreMade (mounted edition image) removes.calls volume
 
 -- one of the calls that remove a path is refused, after the calls before it were accepted (this project)
 pub record IsRefused (edition : Edition) (image : List ℕ) (path : List ℕ) (now : ℕ) (refusal : Refusal) (call : Call) : Type 0 where

@@ -3,7 +3,7 @@ ghost use Rattle.std.specs.Prelude.{◌≡◌, IfOk, IfErr, OnOk};
 ghost use Rattle.vol_judge.specs.Sound.{IsSound};
 ghost use Rattle.vol_volume.specs.Volume.{mounted};
 ghost use Rattle.vol_import.specs.Make.{AreMade};
-ghost use Rattle.vol_removal.specs.Remove.{Removes, IsReason, IsUnmounted, IsStop};
+ghost use Rattle.vol_removal.specs.Remove.{RemovesTo, IsReason, IsUnmounted, IsStop};
 
 use crate::faults::RemovalFault;
 use crate::plan::removal;
@@ -13,8 +13,8 @@ use vol_import::make_all;
 use vol_layout::Edition;
 use vol_volume::{Call, Volume};
 
-/// Removes a path of the volume stored in these bytes, and for a directory everything below it, and returns the new bytes of the volume, in which the
-/// path leads nowhere. Makes all calls of [`removal`], in order and as user 0. If one step fails, nothing is returned but the first reason: of the
+/// Removes a path of the volume stored in these bytes, and for a directory everything below it, and returns the volume after that, in which the path
+/// leads nowhere; its journal has the calls. Makes all calls of [`removal`], in order and as user 0. If one step fails, nothing is returned but the first reason: of the
 /// image, then of the path, then of the calls.
 ///
 /// Takes memory to mount the image, for [`removal`] and for the calls. Costs the same, and for each node removed the walk of its path and a search of
@@ -25,14 +25,15 @@ pub fn remove_all(
     image: Vec<u8>,
     path: &[u8],
     now: u32,
-) -> Result<Vec<u8>, RemovalFault>
-    ensures removed { IfOk result (λ bytes. Removes edition image.items path.now now bytes.items) }
+) -> Result<Volume, RemovalFault>
+    ensures removed { IfOk result (RemovesTo edition image.items path.now now) }
     ensures fault { IfErr result (IsReason edition image.items path.now now) }
 {
     let mut volume = mount(alloc, edition, image)?;
     let calls = removal(alloc, &volume, path, now)?;
     make(alloc, &mut volume, calls)?;
-    Ok(volume.unmount())
+    volume.check();
+    Ok(volume)
 }
 
 /// Mounts the volume stored in these bytes.

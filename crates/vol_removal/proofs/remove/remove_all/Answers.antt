@@ -19,5 +19,5 @@ returns-in_err-make-clause-fault c =
 
 pub returns-clause-removed : goal.returns-clause-removed
 returns-clause-removed c =
-    all_removed _ _ _ _ _ _ _ _ c.in_ok-volume.ensures.sound c.in_ok-volume.ensures.mounted c.in_ok-calls.ensures.calls c.in_ok-make.ensures.made
-    c.unmount.ensures.consistent c.unmount.ensures.bytes
+    all_removed _ _ _ _ _ _ _ c.in_ok-volume.ensures.sound c.in_ok-volume.ensures.mounted c.in_ok-calls.ensures.calls c.in_ok-make.ensures.made
+    c.check.ensures

@@ -1,6 +1,5 @@
 -- If a volume accepts calls one after another, these calls make the resulting bytes, as the commands' definitions require.
-use Rattle.std.proofs.Common.{◌≡◌, ℕ, List, [], ◌∷◌, IfOk, Result, Ok, Err, inl, inr, refl, sym, ap, subst, ◌∙◌}
-use Rattle.std.specs.Global.{Vec}
+use Rattle.std.proofs.Common.{◌≡◌, ℕ, List, [], ◌∷◌, inl, inr, refl, sym, ap, subst, ◌∙◌}
 use Rattle.vol_dir.specs.Tree.{State}
 use Rattle.vol_layout.specs.Geometry.{geometry_of}
 use Rattle.vol_judge.specs.Sound.{IsSound}
@@ -123,9 +122,3 @@ pub stopped_reason : (old new : Mounted) (calls : List Call) (refusal : Refusal)
     → AreStopped old calls new refusal call → IsReason old.edition old.image calls (faults.Refused refusal)
 stopped_reason old new calls refusal call sound stopped =
     refused_reason old.edition old.image calls refusal sound (are_refused old new calls refusal call stopped)
-
--- a property of all bytes that calls may make is also one of the bytes that they made
-pub leaving : (makes leaves : List ℕ → Type 0) (made : Result (Vec ℕ) Fault) → ((bytes : List ℕ) → makes bytes → leaves bytes)
-    → IfOk made (λ bytes. makes bytes.items) → IfOk made (λ bytes. makes bytes.items × leaves bytes.items)
-leaving makes leaves (Ok bytes) all makes_it = (makes_it, all bytes.items makes_it)
-leaving makes leaves (Err fault) all makes_it = tt

@@ -1,5 +1,5 @@
 -- The outcomes of changes of a volume.
-use Rattle.std.specs.Prelude.{◌≡◌, ℕ, false, List, [], ◌∷◌}
+use Rattle.std.specs.Prelude.{◌≡◌, ℕ, Bool, false, List, [], ◌∷◌}
 use Rattle.vol_dir.specs.Access.{user}
 use Rattle.vol_dir.specs.Names.{is_dots}
 use Rattle.vol_dir.specs.Tree.{Tree}
@@ -14,8 +14,8 @@ use Rattle.vol_import.specs.MadeMembers.{HasArchive, HasDirectory}
 use Rattle.vol_import.specs.Members.{members}
 use Rattle.vol_import.specs.Options.{calls_with, chosen_members, left_out}
 use Rattle.vol_import.specs.declared.import_options.ImportOptions.{ImportOptions}
-use Rattle.command_faults.specs.ChangeFaults.{IsReason, Makes, of_calls}
-use Rattle.command_faults.specs.Outcomes.{Outcomes}
+use Rattle.command_faults.specs.ChangeFaults.{IsReason, Makes}
+use Rattle.command_faults.specs.Outcomes.{Outcomes, untraced}
 use Rattle.command_changes.specs.Lookup.{last_name}
 use Rattle.command_changes.specs.Import.{IsUnimported}
 use Rattle.command_changes.specs.ImportLines.{left_lines}
@@ -24,48 +24,72 @@ use Rattle.command_changes.specs.Mv.{HasMoved, move_calls}
 use Rattle.command_changes.specs.Put.{HasPut, put_calls}
 use Rattle.command_changes.specs.Rm.{IsCause}
 use Rattle.command_changes.specs.Salvage.{IsUnsalvaged}
-use Rattle.command_changes.specs.Touch.{touch_call}
+use Rattle.command_changes.specs.Touch.{HasTimes, touch_call}
+use Rattle.command_changes.specs.Traced.{TracesCalls}
 use Rattle.command_changes.specs.declared.kept.GivenFile.{GivenFile}
 use Rattle.command_changes.specs.declared.changes.Change.{Change}
 use Rattle.command_changes.specs.declared.changes.Change.TheVariants as changes
 
+-- the outcomes of calls: the bytes that they make, with their trace if it is wanted, or a reason not to make them (this project)
+abbrev pub of_calls : Edition → List ℕ → List Call → Bool → Outcomes
+of_calls edition image calls trace = record {
+  saves = λ bytes text. Makes edition image calls bytes × TracesCalls trace edition image calls bytes text;
+  lines = [];
+  fails = IsReason edition image calls;
+}
+
 -- the outcomes of calls, if the tree to save also satisfies `leaves` (this project)
-abbrev pub of_calls_leaving : Edition → List ℕ → List Call → (Tree → Type 0) → Outcomes
-of_calls_leaving edition image calls leaves =
-    record { saves = λ bytes. Makes edition image calls bytes × leaves (reads_as edition bytes).tree; lines = []; fails = IsReason edition image calls }
+abbrev pub of_calls_leaving : Edition → List ℕ → List Call → (Tree → Type 0) → Bool → Outcomes
+of_calls_leaving edition image calls leaves trace = record {
+  saves = λ bytes text. Makes edition image calls bytes × leaves (reads_as edition bytes).tree × TracesCalls trace edition image calls bytes text;
+  lines = [];
+  fails = IsReason edition image calls;
+}
+
+-- the outcomes of `rm -r`: the bytes without the tree at a path, with the trace of the calls that remove it if it is wanted, or a reason not to remove
+-- it (this project)
+abbrev pub of_removal : Edition → List ℕ → List ℕ → ℕ → Bool → Outcomes
+of_removal edition image path now trace = record {
+  saves = λ bytes text. (removes : Removes edition image path now bytes) × TracesCalls trace edition image removes.calls bytes text;
+  lines = [];
+  fails = IsCause edition image path now;
+}
 
 -- the outcomes of `import`: the tree to save has the members of the archive that the options choose, below a path, and keeps everything that the
 -- image's tree had; each other member has a line (this project)
 abbrev pub of_archive : Edition → List ℕ → List ℕ → List ℕ → ImportOptions → ℕ → Outcomes
 of_archive edition image archive path options now = record {
-  saves = λ bytes. Imports edition image (calls_with options (reads_as edition image).tree archive path now) bytes
-      × HasArchive (reads_as edition image).tree (reads_as edition bytes).tree path now (chosen_members options (members archive));
+  saves = untraced (λ bytes. Imports edition image (calls_with options (reads_as edition image).tree archive path now) bytes
+      × HasArchive (reads_as edition image).tree (reads_as edition bytes).tree path now (chosen_members options (members archive)));
   lines = left_lines (left_out options (members archive));
   fails = IsUnimported edition image (calls_with options (reads_as edition image).tree archive path now);
 }
 
--- the outcomes of a change, with these bytes of its file or archive: its calls are made, all or none, or the free list is rebuilt. Afterwards PATH of
--- `import` has the members of the archive that aren't left out below it; PATH of `put` leads to a file of these bytes, with what is
--- kept; PATH of `mkdir` leads to a directory, and so does PATH of `mkdir -p` unless its last name is `.` or `..`; FROM of `mv` leads nowhere, and the
--- new path leads to the file that FROM led to (this project)
-abbrev pub changed : Edition → List ℕ → GivenFile → Change → Outcomes
-changed edition image given (changes.Put path file keep now) =
+-- the outcomes of a change, with these bytes of its file or archive, and with the trace of its calls if it is wanted: its calls are made, all or none,
+-- or the free list is rebuilt. Afterwards PATH of `import` has the members of the archive that aren't left out below it; PATH of `put` leads to a file
+-- of these bytes, with what is kept; PATH of `mkdir` leads to a directory, and so does PATH of `mkdir -p` unless its last name is `.` or `..`; FROM of
+-- `mv` leads nowhere, and the new path leads to the file that FROM led to; both times of the node at PATH of `touch` are NOW. `import` and `salvage`
+-- have no trace (this project)
+abbrev pub changed : Edition → List ℕ → GivenFile → Change → Bool → Outcomes
+changed edition image given (changes.Put path file keep now) trace =
     of_calls_leaving edition image (put_calls (reads_as edition image).tree now path.now given.bytes.items given.kept)
-    (λ tree. HasPut tree path.now given.bytes.items given.kept)
-changed edition image given (changes.Import path options now) = of_archive edition image given.bytes.items path.now options now
-changed edition image given (changes.Rm path now) = of_calls edition image (calls.Unlink user now path.now ∷ [])
-changed edition image given (changes.RmAll path now) =
-    record { saves = Removes edition image path.now now; lines = []; fails = IsCause edition image path.now now }
-changed edition image given (changes.Rmdir path now) = of_calls edition image (calls.Rmdir user now path.now ∷ [])
-changed edition image given (changes.Mkdir path now) =
-    of_calls_leaving edition image (mkdir_call now path.now ∷ []) (λ tree. HasDirectory tree path.now)
-changed edition image given (changes.MkdirAll path now) =
+    (λ tree. HasPut tree path.now given.bytes.items given.kept) trace
+changed edition image given (changes.Import path options now) trace = of_archive edition image given.bytes.items path.now options now
+changed edition image given (changes.Rm path now) trace = of_calls edition image (calls.Unlink user now path.now ∷ []) trace
+changed edition image given (changes.RmAll path now) trace = of_removal edition image path.now now trace
+changed edition image given (changes.Rmdir path now) trace = of_calls edition image (calls.Rmdir user now path.now ∷ []) trace
+changed edition image given (changes.Mkdir path now) trace =
+    of_calls_leaving edition image (mkdir_call now path.now ∷ []) (λ tree. HasDirectory tree path.now) trace
+changed edition image given (changes.MkdirAll path now) trace =
     of_calls_leaving edition image (mkdir_all_calls (reads_as edition image).tree now path.now)
-    (λ tree. is_dots (last_name path.now) ≡ false → HasDirectory tree path.now)
-changed edition image given (changes.Ln from to now) = of_calls edition image (calls.Link user now from.now to.now ∷ [])
-changed edition image given (changes.Mv from to now) =
+    (λ tree. is_dots (last_name path.now) ≡ false → HasDirectory tree path.now) trace
+changed edition image given (changes.Ln from to now) trace = of_calls edition image (calls.Link user now from.now to.now ∷ []) trace
+changed edition image given (changes.Mv from to now) trace =
     of_calls_leaving edition image (move_calls (reads_as edition image).tree now from.now to.now) (HasMoved (reads_as edition image).tree now from.now to.now)
-changed edition image given (changes.Chmod path perm now) = of_calls edition image (calls.Chmod user now path.now perm ∷ [])
-changed edition image given (changes.Chown path uid gid now) = of_calls edition image (calls.Chown user now path.now uid gid ∷ [])
-changed edition image given (changes.Touch path now) = of_calls edition image (touch_call (reads_as edition image).tree now path.now ∷ [])
-changed edition image given changes.Salvage = record { saves = IsSalvaged edition image; lines = []; fails = IsUnsalvaged edition image }
+    trace
+changed edition image given (changes.Chmod path perm now) trace = of_calls edition image (calls.Chmod user now path.now perm ∷ []) trace
+changed edition image given (changes.Chown path uid gid now) trace = of_calls edition image (calls.Chown user now path.now uid gid ∷ []) trace
+changed edition image given (changes.Touch path now) trace =
+    of_calls_leaving edition image (touch_call (reads_as edition image).tree now path.now ∷ []) (λ tree. HasTimes tree path.now now) trace
+changed edition image given changes.Salvage trace =
+    record { saves = untraced (IsSalvaged edition image); lines = []; fails = IsUnsalvaged edition image }

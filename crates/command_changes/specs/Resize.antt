@@ -6,7 +6,7 @@ use Rattle.vol_resize.specs.Resized.{IsResizeFault, IsResized}
 use Rattle.vol_resize.specs.declared.resized_volume.ResizeFault.{ResizeFault}
 use Rattle.vol_resize.specs.declared.resized_volume.ResizeFault.TheVariants as resizes
 use Rattle.command_faults.specs.Faults.{fault_line, fault_status, line_of_refusal, line_of_rule}
-use Rattle.command_faults.specs.Outcomes.{Outcomes}
+use Rattle.command_faults.specs.Outcomes.{Outcomes, untraced}
 use Rattle.command_faults.specs.declared.fault.Fault.{Fault}
 
 -- the exit status if a volume isn't resized for this reason: 4 if memory ran out, else 1 (this project)
@@ -33,4 +33,4 @@ IsUnresized edition blocks image fault = (why : ResizeFault) × IsResizeFault ed
 -- the outcomes of `resize`: the volume with so many blocks, to be saved, or the reason why it can't have them (this project)
 abbrev pub of_resize : Edition → List ℕ → ℕ → Outcomes
 of_resize edition image blocks =
-    record { saves = IsResized edition blocks image; lines = []; fails = IsUnresized edition blocks image }
+    record { saves = untraced (IsResized edition blocks image); lines = []; fails = IsUnresized edition blocks image }

@@ -16,6 +16,7 @@ use crate::rm::{rm, rm_all};
 use crate::rmdir::rmdir;
 use crate::salvage::salvage;
 use crate::touch::touch;
+use crate::traced::traced;
 use command_faults::answer::{conclude, tell, unremarked};
 use command_faults::{Answer, Fault, Remarked};
 use pdp_words::Sink;
@@ -30,35 +31,39 @@ pub fn do_change<O: Sink, E: Sink>(
     image: Vec<u8>,
     given: GivenFile,
     change: Change<'_>,
+    trace: bool,
     _output: &mut O,
     errors: &mut E,
 ) -> Answer
-    ensures { Concludes (changed edition image.items given change.entry)
+    ensures { Concludes (changed edition image.items given change.entry trace)
         (streams O.contents O.failed _output.old _output.new (heard E.contents E.failed errors.old errors.new)) result }
 {
-    let answer = conclude(perform(alloc, edition, image, given, change));
+    let answer = conclude(perform(alloc, edition, image, given, change, trace));
     tell(&answer.fault, errors);
     answer
 }
 
 /// Makes a change of the volume in an image, with calls as user 0, all or none. `given` holds the bytes of the file to put and what it gets besides
-/// them, or the bytes of the archive to import.
+/// them, or the bytes of the archive to import. If `trace` is true, the outcome has the trace of the calls; `import` and `salvage` have none.
 ///
-/// Takes memory to mount the image and for the calls, costs as much as the calls, and needs no right to wait.
+/// Takes memory to mount the image and for the calls, costs as much as the calls, and needs no right to wait. For a trace, takes the memory and the time of
+/// [`vol_trace::trace_of`] too.
 pub fn perform(
     alloc: Global,
     edition: Edition,
     image: Vec<u8>,
     given: GivenFile,
     change: Change<'_>,
+    trace: bool,
 ) -> Result<Remarked, Fault>
-    ensures { IsAmong (changed edition image.items given change.entry) result }
+    ensures { IsAmong (changed edition image.items given change.entry trace) result }
 {
     let GivenFile { bytes, kept } = given;
     let made = match change {
         Change::Import { path, options, now } => {
             return import_archive(alloc, edition, image, bytes, path, options, now);
         }
+        Change::Salvage => return unremarked(alloc, salvage(alloc, edition, image)),
         Change::Put { path, now, .. } => {
             let file = GivenFile { bytes, kept };
             put(alloc, edition, image, path, file, now)
@@ -67,7 +72,6 @@ pub fn perform(
         Change::MkdirAll { path, now } => mkdir_all(alloc, edition, image, path, now),
         Change::Mv { from, to, now } => mv(alloc, edition, image, from, to, now),
         Change::Touch { path, now } => touch(alloc, edition, image, path, now),
-        Change::Salvage => salvage(alloc, edition, image),
         Change::Rm { path, now } => rm(alloc, edition, image, path, now),
         Change::Rmdir { path, now } => rmdir(alloc, edition, image, path, now),
         Change::Mkdir { path, now } => mkdir(alloc, edition, image, path, now),
@@ -80,5 +84,5 @@ pub fn perform(
             now,
         } => chown(alloc, edition, image, path, Cred { uid, gid }, now),
     };
-    unremarked(alloc, made)
+    traced(alloc, made, trace)
 }

@@ -4,21 +4,23 @@ ghost use Rattle.vol_dir.specs.Access.{user};
 ghost use Rattle.vol_volume.specs.Answer.{answer};
 ghost use Rattle.vol_volume.specs.Volume.{reads_as};
 ghost use Rattle.vol_volume.specs.declared.queries.Query.TheVariants as questions;
-ghost use Rattle.vol_import.specs.Make.{Imports, IsReason as IsStopped, told};
+ghost use Rattle.vol_import.specs.Make.{IsReason as IsStopped, told};
 ghost use Rattle.vol_import.specs.Plan.{Tells};
-ghost use Rattle.command_faults.specs.ChangeFaults.{Makes, IsReason};
-ghost use Rattle.command_faults.specs.Outcomes.{Concludes};
+ghost use Rattle.command_faults.specs.ChangeFaults.{IsReason};
+ghost use Rattle.command_faults.specs.Outcomes.{Concludes, IsAmong};
 ghost use Rattle.command_faults.specs.Streams.{heard, streams};
 ghost use Rattle.command_changes.specs.Import.{IsUnimported, of_import};
 ghost use Rattle.command_changes.specs.Put.{calls_to_put, emptying_by, kept_calls, onto, permissions_of, put_calls, put_onto, target_by, with_execution};
+ghost use Rattle.command_changes.specs.Traced.{ImportsVolume, MakesVolume};
 
 use crate::calls::{make_calls, push};
 use crate::import_lines::fault_of;
 use crate::kept::{GivenFile, Kept};
 use crate::lookup::name_in;
-use command_faults::answer::{conclude, tell, unremarked};
+use crate::traced::traced;
+use command_faults::answer::{conclude, tell};
 use command_faults::mount::mount;
-use command_faults::{Answer, Fault};
+use command_faults::{Answer, Fault, Remarked};
 use pdp_words::Sink;
 use std::alloc::{AllocError, Global};
 use vol_dir::{Cred, Refusal};
@@ -68,16 +70,15 @@ pub(crate) fn put(
     path: &str,
     file: GivenFile,
     now: u32,
-) -> Result<Vec<u8>, Fault>
-    ensures made { IfOk result (λ bytes. Makes edition image.items
-        (put_calls (reads_as edition image.items).tree now path.now file.bytes.items file.kept) bytes.items) }
+) -> Result<Volume, Fault>
+    ensures made { IfOk result (MakesVolume edition image.items (put_calls (reads_as edition image.items).tree now path.now file.bytes.items file.kept)) }
     ensures fault { IfErr result (IsReason edition image.items
         (put_calls (reads_as edition image.items).tree now path.now file.bytes.items file.kept)) }
 {
     let mut volume = mount(alloc, edition, image)?;
     let calls = calls_for(alloc, &volume, path.as_bytes(), file, now)?;
     make_calls(alloc, &mut volume, calls)?;
-    Ok(volume.unmount())
+    Ok(volume)
 }
 
 /// Returns the calls that `put` makes.
@@ -103,14 +104,14 @@ pub fn put_all<O: Sink, E: Sink>(
     directory: &str,
     files: Vec<NewFile<'_>>,
     now: u32,
+    trace: bool,
     _output: &mut O,
     errors: &mut E,
 ) -> Answer
-    ensures { Concludes (of_import edition image.items (told (calls_to_put (reads_as edition image.items).tree now directory.now files.entry.items)))
+    ensures { Concludes (of_import edition image.items (told (calls_to_put (reads_as edition image.items).tree now directory.now files.entry.items)) trace)
         (streams O.contents O.failed _output.old _output.new (heard E.contents E.failed errors.old errors.new)) result }
 {
-    let made = put_files(alloc, edition, image, directory, files, now);
-    let answer = conclude(unremarked(alloc, made));
+    let answer = conclude(put_files(alloc, edition, image, directory, files, now, trace));
     tell(&answer.fault, errors);
     answer
 }
@@ -118,9 +119,10 @@ pub fn put_all<O: Sink, E: Sink>(
 /// Puts files into a directory, each as `put` does, for `put -t`: a missing file is made with permissions 0644, an existing one is emptied, then the
 /// bytes are written, and then the file gets what is kept of the host's file. If one of the files can't be put, nothing is saved, and the fault is the
 /// rule that the image breaks, the first name above 14 bytes, or the refusal of a call with its path. If two files have the same name, the second is
-/// refused as `Exists` if the name is new, and otherwise replaces the first.
+/// refused as `Exists` if the name is new, and otherwise replaces the first. If `trace` is true, the outcome has the trace of the calls.
 ///
-/// Moves the files' bytes into the calls. Takes memory to mount the image and for two paths per file, and walks each file's path.
+/// Moves the files' bytes into the calls. Takes memory to mount the image and for two paths per file, and walks each file's path. For a trace, takes the
+/// memory and the time of [`vol_trace::trace_of`] too.
 pub fn put_files(
     alloc: Global,
     edition: Edition,
@@ -128,26 +130,42 @@ pub fn put_files(
     directory: &str,
     files: Vec<NewFile<'_>>,
     now: u32,
-) -> Result<Vec<u8>, Fault>
-    ensures made { IfOk result (λ bytes. Imports edition image.items (told (calls_to_put (reads_as edition image.items).tree now directory.now files.entry.items)) bytes.items) }
+    trace: bool,
+) -> Result<Remarked, Fault>
+    ensures { IsAmong (of_import edition image.items (told (calls_to_put (reads_as edition image.items).tree now directory.now files.entry.items)) trace) result }
+{
+    let made = put_into(alloc, edition, image, directory, files, now);
+    traced(alloc, made, trace)
+}
+
+/// Makes the calls of `put -t`, and returns the volume after them.
+fn put_into(
+    alloc: Global,
+    edition: Edition,
+    image: Vec<u8>,
+    directory: &str,
+    files: Vec<NewFile<'_>>,
+    now: u32,
+) -> Result<Volume, Fault>
+    ensures made { IfOk result (ImportsVolume edition image.items (told (calls_to_put (reads_as edition image.items).tree now directory.now files.entry.items))) }
     ensures fault { IfErr result (IsUnimported edition image.items (told (calls_to_put (reads_as edition image.items).tree now directory.now files.entry.items))) }
 {
-    match put_into(alloc, edition, image, directory.as_bytes(), files, now) {
-        Ok(bytes) => Ok(bytes),
+    match make_puts(alloc, edition, image, directory.as_bytes(), files, now) {
+        Ok(volume) => Ok(volume),
         Err(why) => Err(fault_of(alloc, &why)),
     }
 }
 
-/// Makes the calls of `put -t`.
-fn put_into(
+/// Makes the calls of `put -t`, or returns the reason not to make them.
+fn make_puts(
     alloc: Global,
     edition: Edition,
     image: Vec<u8>,
     directory: &[u8],
     files: Vec<NewFile<'_>>,
     now: u32,
-) -> Result<Vec<u8>, ImportFault>
-    ensures made { IfOk result (λ bytes. Imports edition image.items (told (calls_to_put (reads_as edition image.items).tree now directory.now files.entry.items)) bytes.items) }
+) -> Result<Volume, ImportFault>
+    ensures made { IfOk result (ImportsVolume edition image.items (told (calls_to_put (reads_as edition image.items).tree now directory.now files.entry.items))) }
     ensures fault { IfErr result (IsStopped edition image.items (told (calls_to_put (reads_as edition image.items).tree now directory.now files.entry.items))) }
 {
     let mut volume = make::mount(alloc, edition, image)?;
@@ -156,7 +174,8 @@ fn put_into(
         Err(fault) => return Err(make::unplanned(fault)),
     };
     make::make(alloc, &mut volume, calls)?;
-    Ok(volume.unmount())
+    volume.check();
+    Ok(volume)
 }
 
 /// Returns the calls that `put -t` makes.

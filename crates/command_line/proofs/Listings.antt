@@ -171,19 +171,19 @@ asks_listing clock given edition image path (invocations.Serve volume serving) t
 asks_listing clock given edition image path (invocations.ExportBad volume file p options) test e_is i_is p_is none is = absurd (true≢false (sym test))
 asks_listing clock given edition image path (invocations.Diff volume other by) test e_is i_is p_is none is = absurd (true≢false (sym test))
 asks_listing clock given edition image path (invocations.Identify images form) test e_is i_is p_is none is = absurd (true≢false (sym test))
-asks_listing clock given edition image path (invocations.Change volume (changes.Put p file keep now)) test e_is i_is p_is none is = absurd (true≢false (sym test))
-asks_listing clock given edition image path (invocations.Change volume (changes.Import p options now)) test e_is i_is p_is none is = absurd (true≢false (sym test))
-asks_listing clock given edition image path (invocations.Change volume (changes.Rm p now)) test e_is i_is p_is none is = absurd (true≢false (sym test))
-asks_listing clock given edition image path (invocations.Change volume (changes.RmAll p now)) test e_is i_is p_is none is = absurd (true≢false (sym test))
-asks_listing clock given edition image path (invocations.Change volume (changes.Rmdir p now)) test e_is i_is p_is none is = absurd (true≢false (sym test))
-asks_listing clock given edition image path (invocations.Change volume (changes.Mkdir p now)) test e_is i_is p_is none is = absurd (true≢false (sym test))
-asks_listing clock given edition image path (invocations.Change volume (changes.MkdirAll p now)) test e_is i_is p_is none is = absurd (true≢false (sym test))
-asks_listing clock given edition image path (invocations.Change volume (changes.Ln from to now)) test e_is i_is p_is none is = absurd (true≢false (sym test))
-asks_listing clock given edition image path (invocations.Change volume (changes.Mv from to now)) test e_is i_is p_is none is = absurd (true≢false (sym test))
-asks_listing clock given edition image path (invocations.Change volume (changes.Chmod p perm now)) test e_is i_is p_is none is = absurd (true≢false (sym test))
-asks_listing clock given edition image path (invocations.Change volume (changes.Chown p uid gid now)) test e_is i_is p_is none is = absurd (true≢false (sym test))
-asks_listing clock given edition image path (invocations.Change volume (changes.Touch p now)) test e_is i_is p_is none is = absurd (true≢false (sym test))
-asks_listing clock given edition image path (invocations.Change volume changes.Salvage) test e_is i_is p_is none is = absurd (true≢false (sym test))
+asks_listing clock given edition image path (invocations.Change volume (changes.Put p file keep now) trace) test e_is i_is p_is none is = absurd (true≢false (sym test))
+asks_listing clock given edition image path (invocations.Change volume (changes.Import p options now) trace) test e_is i_is p_is none is = absurd (true≢false (sym test))
+asks_listing clock given edition image path (invocations.Change volume (changes.Rm p now) trace) test e_is i_is p_is none is = absurd (true≢false (sym test))
+asks_listing clock given edition image path (invocations.Change volume (changes.RmAll p now) trace) test e_is i_is p_is none is = absurd (true≢false (sym test))
+asks_listing clock given edition image path (invocations.Change volume (changes.Rmdir p now) trace) test e_is i_is p_is none is = absurd (true≢false (sym test))
+asks_listing clock given edition image path (invocations.Change volume (changes.Mkdir p now) trace) test e_is i_is p_is none is = absurd (true≢false (sym test))
+asks_listing clock given edition image path (invocations.Change volume (changes.MkdirAll p now) trace) test e_is i_is p_is none is = absurd (true≢false (sym test))
+asks_listing clock given edition image path (invocations.Change volume (changes.Ln from to now) trace) test e_is i_is p_is none is = absurd (true≢false (sym test))
+asks_listing clock given edition image path (invocations.Change volume (changes.Mv from to now) trace) test e_is i_is p_is none is = absurd (true≢false (sym test))
+asks_listing clock given edition image path (invocations.Change volume (changes.Chmod p perm now) trace) test e_is i_is p_is none is = absurd (true≢false (sym test))
+asks_listing clock given edition image path (invocations.Change volume (changes.Chown p uid gid now) trace) test e_is i_is p_is none is = absurd (true≢false (sym test))
+asks_listing clock given edition image path (invocations.Change volume (changes.Touch p now) trace) test e_is i_is p_is none is = absurd (true≢false (sym test))
+asks_listing clock given edition image path (invocations.Change volume changes.Salvage trace) test e_is i_is p_is none is = absurd (true≢false (sym test))
 asks_listing clock given edition image path (invocations.Look volume (looks.Export p options)) test e_is i_is p_is none is = absurd (true≢false (sym test))
 asks_listing clock given edition image path (invocations.Look volume (looks.Sums p form lost)) test e_is i_is p_is none is = absurd (true≢false (sym test))
 asks_listing clock given edition image path (invocations.Look volume (looks.Inode number form)) test e_is i_is p_is none is = absurd (true≢false (sym test))
@@ -207,7 +207,7 @@ asks_listing clock given edition image path (invocations.Look volume (looks.List
   subst (λ (words : List (List ℕ)). IsNumberOr 4294967295 0 words volume.at) none.at is.0.2,
   (given_is volume.edition volume.is_any edition (subst (IsEditionGiven volume.edition volume.is_any) e_is is.0.0)).1,
 )
-asks_listing clock given edition image path (invocations.Copy volume (copies.Put directory files keep now)) test e_is i_is p_is none is = absurd (true≢false (sym test))
+asks_listing clock given edition image path (invocations.Copy volume (copies.Put directory files keep now trace)) test e_is i_is p_is none is = absurd (true≢false (sym test))
 asks_listing clock given edition image path (invocations.Copy volume (copies.Get folder paths keeps)) test e_is i_is p_is none is = absurd (true≢false (sym test))
 asks_listing clock given edition image path (invocations.Work volume (works.Check checkers.Blocks workers form)) test e_is i_is p_is none is = absurd (true≢false (sym test))
 asks_listing clock given edition image path (invocations.Work volume (works.Check checkers.Entries workers form)) test e_is i_is p_is none is = absurd (true≢false (sym test))
@@ -296,7 +296,7 @@ listing_asks clock (Some met) edition image path (invocations.Look volume (looks
         ),
       ),
     )
-listing_asks clock (Some met) edition image path (invocations.Change v change) is listed = absurd listed
+listing_asks clock (Some met) edition image path (invocations.Change v change trace) is listed = absurd listed
 listing_asks clock (Some met) edition image path (invocations.Copy v copying) is listed = absurd listed
 listing_asks clock (Some met) edition image path (invocations.Work v work) is listed = absurd listed
 

@@ -112,21 +112,21 @@ values_given clock given (invocations.Mkfs place volume) is = (
 )
 values_given clock given (invocations.Migrate old at new migration) is = (tt, (tt, (is.2.0.0, (is.2.1.0, ((migration.now, is.2.2), (tt, (at_value at _ is.3, tt)))))))
 values_given clock given (invocations.Get volume path) is = (edition_value volume.edition volume.is_any _ is.0.0, (tt, (at_value volume.at _ is.0.2, (tt, (tt, (tt, (tt, tt)))))))
-values_given clock given (invocations.Change volume (changes.Put path file keep now)) is = (edition_value volume.edition volume.is_any _ is.0.0, (tt, (at_value volume.at _ is.0.2, (tt, (tt, (tt, (tt, (tt, (tt, (tt, tt))))))))))
-values_given clock given (invocations.Change volume (changes.Rm path now)) is = (edition_value volume.edition volume.is_any _ is.0.0, (tt, (at_value volume.at _ is.0.2, (tt, ((now, is.1.1), (tt, tt))))))
-values_given clock given (invocations.Change volume (changes.Rmdir path now)) is = (edition_value volume.edition volume.is_any _ is.0.0, (tt, (at_value volume.at _ is.0.2, (tt, ((now, is.1.1), tt)))))
-values_given clock given (invocations.Change volume (changes.Mkdir path now)) is = (edition_value volume.edition volume.is_any _ is.0.0, (tt, (at_value volume.at _ is.0.2, (tt, ((now, is.1.1), (tt, tt))))))
-values_given clock given (invocations.Change volume (changes.Ln from to now)) is =
-    (edition_value volume.edition volume.is_any _ is.0.0, (tt, (at_value volume.at _ is.0.2, (tt, (tt, ((now, is.1.2), tt))))))
-values_given clock given (invocations.Change volume (changes.Chmod path perm now)) is =
-    (edition_value volume.edition volume.is_any _ is.0.0, (tt, (at_value volume.at _ is.0.2, (is.1.0.1, (is.1.1.0, ((now, is.1.2), tt))))))
-values_given clock given (invocations.Change volume (changes.Chown path uid gid now)) is =
-    (edition_value volume.edition volume.is_any _ is.0.0, (tt, (at_value volume.at _ is.0.2, (is.1.0.1, (is.1.1.0, (is.1.2.0, ((now, is.1.3), tt)))))))
-values_given clock given (invocations.Change volume (changes.Touch path now)) is = (edition_value volume.edition volume.is_any _ is.0.0, (tt, (at_value volume.at _ is.0.2, (is.1.0.1, ((now, is.1.1), tt)))))
+values_given clock given (invocations.Change volume (changes.Put path file keep now) trace) is = (edition_value volume.edition volume.is_any _ is.0.0, (tt, (at_value volume.at _ is.0.2, (tt, (tt, (tt, (tt, (tt, (tt, (tt, (tt, tt)))))))))))
+values_given clock given (invocations.Change volume (changes.Rm path now) trace) is = (edition_value volume.edition volume.is_any _ is.0.0, (tt, (at_value volume.at _ is.0.2, (tt, ((now, is.1.1), (tt, (tt, tt)))))))
+values_given clock given (invocations.Change volume (changes.Rmdir path now) trace) is = (edition_value volume.edition volume.is_any _ is.0.0, (tt, (at_value volume.at _ is.0.2, (tt, ((now, is.1.1), (tt, tt))))))
+values_given clock given (invocations.Change volume (changes.Mkdir path now) trace) is = (edition_value volume.edition volume.is_any _ is.0.0, (tt, (at_value volume.at _ is.0.2, (tt, ((now, is.1.1), (tt, (tt, tt)))))))
+values_given clock given (invocations.Change volume (changes.Ln from to now) trace) is =
+    (edition_value volume.edition volume.is_any _ is.0.0, (tt, (at_value volume.at _ is.0.2, (tt, (tt, ((now, is.1.2), (tt, tt)))))))
+values_given clock given (invocations.Change volume (changes.Chmod path perm now) trace) is =
+    (edition_value volume.edition volume.is_any _ is.0.0, (tt, (at_value volume.at _ is.0.2, (is.1.0.1, (is.1.1.0, ((now, is.1.2), (tt, tt)))))))
+values_given clock given (invocations.Change volume (changes.Chown path uid gid now) trace) is =
+    (edition_value volume.edition volume.is_any _ is.0.0, (tt, (at_value volume.at _ is.0.2, (is.1.0.1, (is.1.1.0, (is.1.2.0, ((now, is.1.3), (tt, tt))))))))
+values_given clock given (invocations.Change volume (changes.Touch path now) trace) is = (edition_value volume.edition volume.is_any _ is.0.0, (tt, (at_value volume.at _ is.0.2, (is.1.0.1, ((now, is.1.1), (tt, tt))))))
 values_given clock given (invocations.Salvage volume None) is = (edition_value volume.edition volume.is_any _ is.0.0, (tt, (at_value volume.at _ is.0.2, (tt, (tt, tt)))))
 values_given clock given (invocations.Salvage volume (Some copy)) is = (edition_value volume.edition volume.is_any _ is.0.0, (tt, (at_value volume.at _ is.0.2, (tt, (tt, tt)))))
 values_given clock given (invocations.Resize volume blocks is_trial) is = (edition_value volume.edition volume.is_any _ is.0.0, (tt, (at_value volume.at _ is.0.2, (is.1.0, (tt, tt)))))
-values_given clock given (invocations.Change volume changes.Salvage) is = (edition_value volume.edition volume.is_any _ is.0.0, (tt, (at_value volume.at _ is.0.2, (tt, (tt, tt)))))
+values_given clock given (invocations.Change volume changes.Salvage trace) is = (edition_value volume.edition volume.is_any _ is.0.0, (tt, (at_value volume.at _ is.0.2, (tt, (tt, tt)))))
 values_given clock given (invocations.Look volume (looks.Export path options)) is = (edition_value volume.edition volume.is_any _ is.0.0, (tt, (at_value volume.at _ is.0.2, (tt, (tt, (tt, (tt, (tt, (tt, tt)))))))))
 values_given clock given (invocations.ExportBad volume map p options) is = (edition_value volume.edition volume.is_any _ is.0.0, (tt, (at_value volume.at _ is.0.2, (tt, (tt, (tt, (tt, (tt, (tt, tt)))))))))
 values_given clock given (invocations.Look volume (looks.Sums path form lost)) is = (edition_value volume.edition volume.is_any _ is.0.0, (tt, (at_value volume.at _ is.0.2, (tt, (tt, (tt, tt))))))
@@ -143,13 +143,13 @@ values_given clock given (invocations.Look volume looks.Uses) is = (edition_valu
 values_given clock given (invocations.Look volume (looks.Check graded form)) is = (edition_value volume.edition volume.is_any _ is.0.0, (tt, (at_value volume.at _ is.0.2, (tt, (tt, tt)))))
 values_given clock given (invocations.Look volume (looks.List path listing)) is = (edition_value volume.edition volume.is_any _ is.0.0, (tt, (at_value volume.at _ is.0.2, (tt, (tt, (tt, (tt, (tt, (tt, tt)))))))))
 values_given clock given (invocations.Look volume (looks.Slots path form)) is = (edition_value volume.edition volume.is_any _ is.0.0, (tt, (at_value volume.at _ is.0.2, (tt, (tt, (tt, (tt, (tt, (tt, tt)))))))))
-values_given clock given (invocations.Change volume (changes.Import path options now)) is =
+values_given clock given (invocations.Change volume (changes.Import path options now) trace) is =
     (edition_value volume.edition volume.is_any _ is.0.0, (tt, (at_value volume.at _ is.0.2, (is.1.0.1, ((now, is.1.1), (tt, (owner_value _ options.owner is.1.2.1, tt)))))))
-values_given clock given (invocations.Change volume (changes.MkdirAll path now)) is = (edition_value volume.edition volume.is_any _ is.0.0, (tt, (at_value volume.at _ is.0.2, (tt, ((now, is.1.1), (tt, tt))))))
-values_given clock given (invocations.Change volume (changes.RmAll path now)) is = (edition_value volume.edition volume.is_any _ is.0.0, (tt, (at_value volume.at _ is.0.2, (tt, ((now, is.1.1), (tt, tt))))))
-values_given clock given (invocations.Change volume (changes.Mv from to now)) is =
-    (edition_value volume.edition volume.is_any _ is.0.0, (tt, (at_value volume.at _ is.0.2, (tt, (tt, ((now, is.1.2), tt))))))
-values_given clock given (invocations.Copy volume (copies.Put directory files keep now)) is = (edition_value volume.edition volume.is_any _ is.0.0, (tt, (at_value volume.at _ is.0.2, (tt, (tt, (tt, (tt, (tt, (tt, (tt, tt))))))))))
+values_given clock given (invocations.Change volume (changes.MkdirAll path now) trace) is = (edition_value volume.edition volume.is_any _ is.0.0, (tt, (at_value volume.at _ is.0.2, (tt, ((now, is.1.1), (tt, (tt, tt)))))))
+values_given clock given (invocations.Change volume (changes.RmAll path now) trace) is = (edition_value volume.edition volume.is_any _ is.0.0, (tt, (at_value volume.at _ is.0.2, (tt, ((now, is.1.1), (tt, (tt, tt)))))))
+values_given clock given (invocations.Change volume (changes.Mv from to now) trace) is =
+    (edition_value volume.edition volume.is_any _ is.0.0, (tt, (at_value volume.at _ is.0.2, (tt, (tt, ((now, is.1.2), (tt, tt)))))))
+values_given clock given (invocations.Copy volume (copies.Put directory files keep now trace)) is = (edition_value volume.edition volume.is_any _ is.0.0, (tt, (at_value volume.at _ is.0.2, (tt, (tt, (tt, (tt, (tt, (tt, (tt, (tt, tt)))))))))))
 values_given clock given (invocations.Copy volume (copies.Get folder paths keeps)) is = (edition_value volume.edition volume.is_any _ is.0.0, (tt, (at_value volume.at _ is.0.2, (tt, (tt, (tt, (tt, tt)))))))
 values_given clock given (invocations.Work volume (works.Check checkers.Blocks workers form)) is = (edition_value volume.edition volume.is_any _ is.0.0, (tt, (at_value volume.at _ is.0.2, (is.1.0.0, (tt, tt)))))
 values_given clock given (invocations.Work volume (works.Check checkers.Entries workers form)) is = (edition_value volume.edition volume.is_any _ is.0.0, (tt, (at_value volume.at _ is.0.2, (is.1.0.0, (tt, tt)))))

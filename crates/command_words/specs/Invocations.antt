@@ -227,7 +227,7 @@ look_verb (looks.Slots path form) = verbs.Ls
 
 -- the command that copies files (this project)
 abbrev pub copying_verb : Copying → Verb
-copying_verb (copies.Put directory files keep now) = verbs.Put
+copying_verb (copies.Put directory files keep now trace) = verbs.Put
 copying_verb (copies.Get folder paths keeps) = verbs.Get
 
 -- the command of an invocation (this project)
@@ -238,7 +238,7 @@ verb_of (invocations.Migrate old at new migration) = verbs.Migrate
 verb_of (invocations.Get volume path) = verbs.Get
 verb_of (invocations.Salvage volume copy) = verbs.Salvage
 verb_of (invocations.Resize volume blocks is_trial) = verbs.Resize
-verb_of (invocations.Change volume change) = change_verb change
+verb_of (invocations.Change volume change trace) = change_verb change
 verb_of (invocations.Look volume look) = look_verb look
 verb_of (invocations.ExportBad volume map p options) = verbs.Export
 verb_of (invocations.Copy volume copying) = copying_verb copying
@@ -255,7 +255,7 @@ volume_of (invocations.Migrate old at new migration) = None
 volume_of (invocations.Get volume path) = Some volume
 volume_of (invocations.Salvage volume copy) = Some volume
 volume_of (invocations.Resize volume blocks is_trial) = Some volume
-volume_of (invocations.Change volume change) = Some volume
+volume_of (invocations.Change volume change trace) = Some volume
 volume_of (invocations.Look volume look) = Some volume
 volume_of (invocations.Copy volume copying) = Some volume
 volume_of (invocations.Work volume work) = Some volume
@@ -272,7 +272,7 @@ with_volume (invocations.Migrate old at new migration) volume = invocations.Migr
 with_volume (invocations.Get old path) volume = invocations.Get volume path
 with_volume (invocations.Salvage old copy) volume = invocations.Salvage volume copy
 with_volume (invocations.Resize old blocks is_trial) volume = invocations.Resize volume blocks is_trial
-with_volume (invocations.Change old change) volume = invocations.Change volume change
+with_volume (invocations.Change old change trace) volume = invocations.Change volume change trace
 with_volume (invocations.Look old look) volume = invocations.Look volume look
 with_volume (invocations.Copy old copying) volume = invocations.Copy volume copying
 with_volume (invocations.Work old work) volume = invocations.Work volume work
@@ -368,6 +368,12 @@ IsChangeGiven clock given (changes.Chown path uid gid now) = IsPathGiven (given 
 IsChangeGiven clock given (changes.Touch path now) =
     IsPathGiven (given (codes "PATH")) path.now × IsMomentGiven clock (given (codes "NOW")) now
 IsChangeGiven clock given changes.Salvage = (is_set (given (codes "dry-run")) ≡ false) × IsLeftOut given (codes "output")
+
+-- the words ask for the trace of a change if that option is given; `import` and `salvage` have none (this project)
+abbrev pub IsTraceGiven : Words → Change → Bool → Type 0
+IsTraceGiven given (changes.Import path options now) trace = trace ≡ false
+IsTraceGiven given changes.Salvage trace = trace ≡ false
+IsTraceGiven given _ trace = trace ≡ is_set (given (codes "trace"))
 
 -- the words choose this format of a report: JSON if its option is given (this project)
 abbrev pub IsFormGiven : Words → OutputForm → Type 0
@@ -483,9 +489,9 @@ ArePathsGiven words paths = (1 ≤ length paths) × (are_apart paths ≡ true) �
 
 -- the words describe this copying (this project)
 abbrev pub IsCopyGiven : Option ℕ → Words → Copying → Type 0
-IsCopyGiven clock given (copies.Put directory files keep now) = IsNonEmptyWord given (codes "target-directory") directory.now
+IsCopyGiven clock given (copies.Put directory files keep now trace) = IsNonEmptyWord given (codes "target-directory") directory.now
     × AreFilesGiven clock (put_words given) (map (λ file. file.now) files.items) now.seconds (option_map (λ word. word.now) now.word)
-    × IsKeepGiven given keep
+    × IsKeepGiven given keep × (trace ≡ is_set (given (codes "trace")))
 IsCopyGiven clock given (copies.Get folder paths keeps) = IsNonEmptyWord given (codes "output") folder.now
     × ArePathsGiven (get_words given) (map (λ path. path.now) paths.items) × (keeps ≡ is_set (given (codes "preserve")))
 
@@ -523,7 +529,8 @@ IsGiven clock given (invocations.Salvage volume (Some copy)) = IsVolumeGiven giv
     × IsFirstWord given (codes "output") copy.now
 IsGiven clock given (invocations.Resize volume blocks is_trial) = IsVolumeGiven given volume
     × IsNumberGiven 4294967295 (the_word given (codes "BLOCKS")) blocks × (is_trial ≡ is_set (given (codes "dry-run")))
-IsGiven clock given (invocations.Change volume change) = IsVolumeGiven given volume × IsChangeGiven clock given change
+IsGiven clock given (invocations.Change volume change trace) =
+    IsVolumeGiven given volume × IsChangeGiven clock given change × IsTraceGiven given change trace
 IsGiven clock given (invocations.Look volume look) = IsVolumeGiven given volume × IsLookGiven given look
 IsGiven clock given (invocations.ExportBad volume map p options) = IsVolumeGiven given volume × IsFirstWord given (codes "bad") map.now
     × IsExportGiven given p.now options

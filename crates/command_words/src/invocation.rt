@@ -80,12 +80,14 @@ pub struct Moment<'a> {
 /// Copying between a volume and files outside it.
 #[derive(Drop)]
 pub enum Copying<'a> {
-    /// Put files into a directory of the volume, each under its last name, and keep this of each; `now` is the time of the calls.
+    /// Put files into a directory of the volume, each under its last name, and keep this of each; `now` is the time of the calls; if `trace`, print
+    /// what each call changed.
     Put {
         directory: &'a str,
         files: Vec<&'a str>,
         keep: Keep,
         now: Moment<'a>,
+        trace: bool,
     },
     /// Write files of the volume into a folder, each under its last name; if `keeps`, with their permissions and times of modification.
     Get {
@@ -144,10 +146,11 @@ pub enum Invocation<'a> {
         blocks: u32,
         is_trial: bool,
     },
-    /// Change the volume in a file.
+    /// Change the volume in a file; if `trace`, print what each of its calls changed.
     Change {
         volume: VolumeFile<'a>,
         change: Change<'a>,
+        trace: bool,
     },
     /// Show part of the image in a file, sound or not.
     Look {
@@ -228,7 +231,11 @@ impl<'a> Invocation<'a> {
                 blocks,
                 is_trial,
             },
-            Invocation::Change { change, .. } => Invocation::Change { volume, change },
+            Invocation::Change { change, trace, .. } => Invocation::Change {
+                volume,
+                change,
+                trace,
+            },
             Invocation::Look { look, .. } => Invocation::Look { volume, look },
             Invocation::ExportBad {
                 map,

@@ -1,7 +1,12 @@
 //! The words that commands take.
+mod changes;
 mod identify;
 
 use crate::texts;
+pub use changes::{
+    CHMOD_WORDS, CHOWN_WORDS, IMPORT_WORDS, MKDIR_WORDS, NAMES_WORDS, PUT_WORDS, RM_WORDS,
+    RMDIR_WORDS, TOUCH_WORDS,
+};
 pub use identify::IDENTIFY_WORDS;
 
 /// The kind of words that an argument takes.
@@ -113,7 +118,7 @@ pub struct Parameter {
 /// The words for an edition on the command line: the editions' names, and the word for the one of which the volume is sound.
 pub static EDITIONS: [&str; 3] = ["6", "7", "any"];
 
-const EDITION: Parameter = Parameter {
+pub(crate) const EDITION: Parameter = Parameter {
     name: "EDITION",
     kind: WordKind::Edition,
     need: Need::Once,
@@ -127,14 +132,14 @@ const NEW_EDITION: Parameter = Parameter {
     help: texts::NEW_EDITION,
 };
 
-const IMAGE: Parameter = Parameter {
+pub(crate) const IMAGE: Parameter = Parameter {
     name: "IMAGE",
     kind: WordKind::Text,
     need: Need::Once,
     help: texts::IMAGE,
 };
 
-const AT: Parameter = Parameter {
+pub(crate) const AT: Parameter = Parameter {
     name: "at",
     kind: WordKind::LongOr,
     need: Need::Value(None, ValueName::Block),
@@ -281,32 +286,11 @@ const GID: Parameter = Parameter {
     help: texts::GID,
 };
 
-const NEW_UID: Parameter = Parameter {
-    name: "UID",
-    kind: WordKind::Word,
-    need: Need::Once,
-    help: texts::NEW_UID,
-};
-
-const NEW_GID: Parameter = Parameter {
-    name: "GID",
-    kind: WordKind::Word,
-    need: Need::Once,
-    help: texts::NEW_GID,
-};
-
 const MADE_NOW: Parameter = Parameter {
     name: "NOW",
     kind: WordKind::Moment,
     need: Need::Maybe,
     help: texts::NOW,
-};
-
-const CALL_NOW: Parameter = Parameter {
-    name: "NOW",
-    kind: WordKind::Moment,
-    need: Need::Maybe,
-    help: texts::CALL_NOW,
 };
 
 const MIGRATED: Parameter = Parameter {
@@ -316,88 +300,11 @@ const MIGRATED: Parameter = Parameter {
     help: texts::MIGRATED,
 };
 
-const DIRECTORY: Parameter = Parameter {
-    name: "PATH",
-    kind: WordKind::Text,
-    need: Need::Once,
-    help: texts::DIRECTORY,
-};
-
 const REGULAR: Parameter = Parameter {
     name: "PATH",
     kind: WordKind::Text,
     need: Need::Once,
     help: texts::REGULAR,
-};
-
-const NAMED: Parameter = Parameter {
-    name: "PATH",
-    kind: WordKind::Text,
-    need: Need::Once,
-    help: texts::NAMED,
-};
-
-const OWNED: Parameter = Parameter {
-    name: "PATH",
-    kind: WordKind::Path,
-    need: Need::Once,
-    help: texts::OWNED,
-};
-
-const TOUCHED: Parameter = Parameter {
-    name: "PATH",
-    kind: WordKind::Path,
-    need: Need::Once,
-    help: texts::touch::PATH,
-};
-
-const FIRST_PUT: Parameter = Parameter {
-    name: "PATH",
-    kind: WordKind::Text,
-    need: Need::Once,
-    help: texts::put::FIRST,
-};
-
-const FILE: Parameter = Parameter {
-    name: "FILE",
-    kind: WordKind::Text,
-    need: Need::Maybe,
-    help: texts::FILE,
-};
-
-const PUT_NOW: Parameter = Parameter {
-    name: "NOW",
-    kind: WordKind::Text,
-    need: Need::Maybe,
-    help: texts::CALL_NOW,
-};
-
-const MORE_PUT: Parameter = Parameter {
-    name: "MORE",
-    kind: WordKind::Text,
-    need: Need::Any,
-    help: texts::put::MORE_FILES,
-};
-
-const TARGET: Parameter = Parameter {
-    name: "target-directory",
-    kind: WordKind::Text,
-    need: Need::Value(Some('t'), ValueName::Directory),
-    help: texts::put::TARGET,
-};
-
-const KEPT_PUT: Parameter = Parameter {
-    name: "preserve",
-    kind: WordKind::Flag,
-    need: Need::Flag(Some('p')),
-    help: texts::put::PRESERVE,
-};
-
-const EXECUTABLE: Parameter = Parameter {
-    name: "executable",
-    kind: WordKind::Flag,
-    need: Need::Flag(Some('x')),
-    help: texts::put::EXECUTABLE,
 };
 
 const MORE_GOT: Parameter = Parameter {
@@ -419,27 +326,6 @@ const KEPT_GOT: Parameter = Parameter {
     kind: WordKind::Flag,
     need: Need::Flag(Some('p')),
     help: texts::get::PRESERVE,
-};
-
-const FROM: Parameter = Parameter {
-    name: "FROM",
-    kind: WordKind::Text,
-    need: Need::Once,
-    help: texts::NAMED,
-};
-
-const TO: Parameter = Parameter {
-    name: "TO",
-    kind: WordKind::Text,
-    need: Need::Once,
-    help: texts::NEW_NAME,
-};
-
-const PERM: Parameter = Parameter {
-    name: "PERM",
-    kind: WordKind::Permissions,
-    need: Need::Once,
-    help: texts::PERM,
 };
 
 const BELOW: Parameter = Parameter {
@@ -505,27 +391,6 @@ const LISTED: Parameter = Parameter {
     help: texts::LISTED,
 };
 
-const IMPORTED: Parameter = Parameter {
-    name: "PATH",
-    kind: WordKind::Path,
-    need: Need::Maybe,
-    help: texts::import::BELOW,
-};
-
-const SKIP_SPECIAL: Parameter = Parameter {
-    name: "skip-special",
-    kind: WordKind::Flag,
-    need: Need::Flag(None),
-    help: texts::import::SKIP_SPECIAL,
-};
-
-const OWNER: Parameter = Parameter {
-    name: "owner",
-    kind: WordKind::Owner,
-    need: Need::Value(Some('o'), ValueName::Owner),
-    help: texts::import::OWNER,
-};
-
 const SEARCHED: Parameter = Parameter {
     name: "PATH",
     kind: WordKind::Text,
@@ -566,20 +431,6 @@ const SLOTS: Parameter = Parameter {
     kind: WordKind::Flag,
     need: Need::Flag(None),
     help: texts::SLOTS,
-};
-
-const RECURSIVE: Parameter = Parameter {
-    name: "recursive",
-    kind: WordKind::Flag,
-    need: Need::Flag(Some('r')),
-    help: texts::RECURSIVE,
-};
-
-const PARENTS: Parameter = Parameter {
-    name: "parents",
-    kind: WordKind::Flag,
-    need: Need::Flag(Some('p')),
-    help: texts::PARENTS,
 };
 
 pub(crate) const JSON: Parameter = Parameter {
@@ -717,32 +568,6 @@ pub static MKFS_WORDS: [Parameter; 9] = [
     MADE_AT,
 ];
 
-/// The words that `put` takes.
-pub static PUT_WORDS: [Parameter; 10] = [
-    EDITION, IMAGE, AT, FIRST_PUT, FILE, PUT_NOW, MORE_PUT, TARGET, KEPT_PUT, EXECUTABLE,
-];
-
-/// The words that `rm` takes.
-pub static RM_WORDS: [Parameter; 6] = [EDITION, IMAGE, AT, NAMED, CALL_NOW, RECURSIVE];
-
-/// The words that `rmdir` takes.
-pub static RMDIR_WORDS: [Parameter; 5] = [EDITION, IMAGE, AT, DIRECTORY, CALL_NOW];
-
-/// The words that `mkdir` takes.
-pub static MKDIR_WORDS: [Parameter; 6] = [EDITION, IMAGE, AT, DIRECTORY, CALL_NOW, PARENTS];
-
-/// The words that `ln` and `mv` take.
-pub static NAMES_WORDS: [Parameter; 6] = [EDITION, IMAGE, AT, FROM, TO, CALL_NOW];
-
-/// The words that `chmod` takes.
-pub static CHMOD_WORDS: [Parameter; 6] = [EDITION, IMAGE, AT, OWNED, PERM, CALL_NOW];
-
-/// The words that `chown` takes.
-pub static CHOWN_WORDS: [Parameter; 7] = [EDITION, IMAGE, AT, OWNED, NEW_UID, NEW_GID, CALL_NOW];
-
-/// The words that `touch` takes.
-pub static TOUCH_WORDS: [Parameter; 5] = [EDITION, IMAGE, AT, TOUCHED, CALL_NOW];
-
 /// The words that `check` takes.
 pub static CHECK_WORDS: [Parameter; 5] = [EDITION, IMAGE, AT, CHECK_GRADED, JSON];
 
@@ -768,17 +593,6 @@ pub static MIGRATE_WORDS: [Parameter; 7] = [
 
 /// The words that `serve` takes.
 pub static SERVE_WORDS: [Parameter; 6] = [EDITION, IMAGE, AT, READ_ONLY, MINE, RESCUE];
-
-/// The words of `import`.
-pub static IMPORT_WORDS: [Parameter; 7] = [
-    EDITION,
-    IMAGE,
-    AT,
-    IMPORTED,
-    CALL_NOW,
-    SKIP_SPECIAL,
-    OWNER,
-];
 
 /// The words that `export` takes.
 pub static EXPORT_WORDS: [Parameter; 9] = [

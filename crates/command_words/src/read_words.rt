@@ -448,6 +448,7 @@ fn read_put<'a, G: Given<'a>>(
                 files,
                 keep: keep_in(given),
                 now,
+                trace: flag_in(given, "trace"),
             };
             Ok(Invocation::Copy { volume, copying })
         }
@@ -462,7 +463,11 @@ fn read_put<'a, G: Given<'a>>(
                 keep: keep_in(given),
                 now,
             };
-            Ok(Invocation::Change { volume, change })
+            Ok(Invocation::Change {
+                volume,
+                change,
+                trace: flag_in(given, "trace"),
+            })
         }
     }
 }
@@ -498,6 +503,7 @@ fn read_import<'a, G: Given<'a>>(
     Ok(Invocation::Change {
         volume,
         change: Change::Import { path, options, now },
+        trace: false,
     })
 }
 
@@ -509,15 +515,16 @@ fn read_rm<'a, G: Given<'a>>(given: &G, clock: Option<u32>) -> Result<Invocation
     let volume = volume_in(given)?;
     let path = text_in(given, "PATH");
     let now = moment_in(given, clock)?;
-    if flag_in(given, "recursive") {
-        return Ok(Invocation::Change {
-            volume,
-            change: Change::RmAll { path, now },
-        });
-    }
+    let trace = flag_in(given, "trace");
+    let change = if flag_in(given, "recursive") {
+        Change::RmAll { path, now }
+    } else {
+        Change::Rm { path, now }
+    };
     Ok(Invocation::Change {
         volume,
-        change: Change::Rm { path, now },
+        change,
+        trace,
     })
 }
 
@@ -535,6 +542,7 @@ fn read_rmdir<'a, G: Given<'a>>(
     Ok(Invocation::Change {
         volume,
         change: Change::Rmdir { path, now },
+        trace: flag_in(given, "trace"),
     })
 }
 
@@ -549,15 +557,16 @@ fn read_mkdir<'a, G: Given<'a>>(
     let volume = volume_in(given)?;
     let path = text_in(given, "PATH");
     let now = moment_in(given, clock)?;
-    if flag_in(given, "parents") {
-        return Ok(Invocation::Change {
-            volume,
-            change: Change::MkdirAll { path, now },
-        });
-    }
+    let trace = flag_in(given, "trace");
+    let change = if flag_in(given, "parents") {
+        Change::MkdirAll { path, now }
+    } else {
+        Change::Mkdir { path, now }
+    };
     Ok(Invocation::Change {
         volume,
-        change: Change::Mkdir { path, now },
+        change,
+        trace,
     })
 }
 
@@ -573,6 +582,7 @@ fn read_ln<'a, G: Given<'a>>(given: &G, clock: Option<u32>) -> Result<Invocation
     Ok(Invocation::Change {
         volume,
         change: Change::Ln { from, to, now },
+        trace: flag_in(given, "trace"),
     })
 }
 
@@ -588,6 +598,7 @@ fn read_mv<'a, G: Given<'a>>(given: &G, clock: Option<u32>) -> Result<Invocation
     Ok(Invocation::Change {
         volume,
         change: Change::Mv { from, to, now },
+        trace: flag_in(given, "trace"),
     })
 }
 
@@ -606,6 +617,7 @@ fn read_chmod<'a, G: Given<'a>>(
     Ok(Invocation::Change {
         volume,
         change: Change::Chmod { path, perm, now },
+        trace: flag_in(given, "trace"),
     })
 }
 
@@ -630,6 +642,7 @@ fn read_chown<'a, G: Given<'a>>(
             gid,
             now,
         },
+        trace: flag_in(given, "trace"),
     })
 }
 
@@ -647,6 +660,7 @@ fn read_touch<'a, G: Given<'a>>(
     Ok(Invocation::Change {
         volume,
         change: Change::Touch { path, now },
+        trace: flag_in(given, "trace"),
     })
 }
 
@@ -667,6 +681,7 @@ fn read_salvage<'a, G: Given<'a>>(given: &G) -> Result<Invocation<'a>, WordFault
         None => Ok(Invocation::Change {
             volume,
             change: Change::Salvage,
+            trace: false,
         }),
     }
 }

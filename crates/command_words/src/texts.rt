@@ -338,6 +338,7 @@ pub const RM_MORE: &str = "\
 Examples:
   unixvol rm 7 disk.img /etc/motd 173750400
   unixvol rm -r 7 disk.img /usr/games
+  unixvol rm 7 disk.img /etc/motd --trace       what each call changed, field by field
 
 A file is freed when its last name is removed. Special files can be removed too. Directories can't, except with
 -r: then a directory is removed with everything below it, or nothing is.
@@ -357,6 +358,7 @@ Status:
      `unixvol: 22 Invalid`: with -r, PATH is the root, or ends in `.`
   2  the command line is wrong
   3  `unixvol: cannot read IMAGE`, `unixvol: cannot write IMAGE`
+     `unixvol: cannot write -`: with --trace, standard output failed, after the volume was saved
   4  `unixvol: 12 NoMemory`";
 
 pub const RECURSIVE: &str = "Remove a directory with everything below it";
@@ -383,6 +385,7 @@ Status:
      `unixvol: 101 NotEmpty`: the directory has other entries
   2  the command line is wrong
   3  `unixvol: cannot read IMAGE`, `unixvol: cannot write IMAGE`
+     `unixvol: cannot write -`: with --trace, standard output failed, after the volume was saved
   4  `unixvol: 12 NoMemory`";
 
 pub const MKDIR_ABOUT: &str = "Makes a directory in a volume.";
@@ -410,6 +413,7 @@ Status:
      `unixvol: 31 TooManyLinks`: the parent directory has the maximum number of links
   2  the command line is wrong
   3  `unixvol: cannot read IMAGE`, `unixvol: cannot write IMAGE`
+     `unixvol: cannot write -`: with --trace, standard output failed, after the volume was saved
   4  `unixvol: 12 NoMemory`";
 
 pub const PARENTS: &str = "Make missing parent directories too, and accept an existing directory";
@@ -439,6 +443,7 @@ Status:
      `unixvol: 31 TooManyLinks`: the file has the maximum number of links
   2  the command line is wrong
   3  `unixvol: cannot read IMAGE`, `unixvol: cannot write IMAGE`
+     `unixvol: cannot write -`: with --trace, standard output failed, after the volume was saved
   4  `unixvol: 12 NoMemory`";
 
 pub const MV_ABOUT: &str = "Renames a file of a volume, or moves it to another directory.";
@@ -468,6 +473,7 @@ Status:
      is removed
   2  the command line is wrong
   3  `unixvol: cannot read IMAGE`, `unixvol: cannot write IMAGE`
+     `unixvol: cannot write -`: with --trace, standard output failed, after the volume was saved
   4  `unixvol: 12 NoMemory`";
 
 pub const CHMOD_ABOUT: &str = "Changes the permissions of a file or directory of a volume.";
@@ -492,6 +498,7 @@ Status:
      `unixvol: 20 NotDirectory`: PATH leads through something that isn't a directory
   2  the command line is wrong
   3  `unixvol: cannot read IMAGE`, `unixvol: cannot write IMAGE`
+     `unixvol: cannot write -`: with --trace, standard output failed, after the volume was saved
   4  `unixvol: 12 NoMemory`";
 
 pub const CHOWN_ABOUT: &str = "Changes the user and group of a file or directory of a volume.";
@@ -516,6 +523,7 @@ Status:
      `unixvol: 20 NotDirectory`: PATH leads through something that isn't a directory
   2  the command line is wrong
   3  `unixvol: cannot read IMAGE`, `unixvol: cannot write IMAGE`
+     `unixvol: cannot write -`: with --trace, standard output failed, after the volume was saved
   4  `unixvol: 12 NoMemory`";
 
 pub const PLAY_ABOUT: &str = "Plays scripts of calls on a volume, each in its own thread.";
@@ -559,6 +567,8 @@ Status:
 pub const JOURNAL: &str = "Print the journal at the end, as the lines of a script";
 
 pub const TRACE: &str = "Print at the end what each call in the journal changed, field by field";
+
+pub const CHANGE_TRACE: &str = "Print each call that was made, and what it changed, field by field";
 
 pub const SCRIPT: &str = "The script files, 1 to 64";
 

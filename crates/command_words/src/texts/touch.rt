@@ -25,4 +25,5 @@ Status:
      `unixvol: 28 NoSpace`, `unixvol: 103 NoInode`: there are too few free blocks, or there is no free i-node
   2  the command line is wrong
   3  `unixvol: cannot read IMAGE`, `unixvol: cannot write IMAGE`
+     `unixvol: cannot write -`: with --trace, standard output failed, after the volume was saved
   4  `unixvol: 12 NoMemory`";

@@ -51,7 +51,7 @@ ends_concluded outcomes streams taken answer status concludes (inl own) = record
   silent = λ _ _. concludes.unprinted;
   whole = λ e. (
     concludes.unused,
-    quiet (λ (bytes : Vec ℕ). outcomes.saves bytes.items) (streams.said outcomes.lines) answer.image (concludes.saved.0 (sym own.0 ∙ e)) concludes.made,
+    quiet (λ (bytes : Vec ℕ). outcomes.saves bytes.items answer.trace) (streams.said outcomes.lines) answer.image (concludes.saved.0 (sym own.0 ∙ e)) concludes.made,
   );
 }
 ends_concluded outcomes streams taken answer status concludes (inr file) = record {

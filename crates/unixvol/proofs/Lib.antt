@@ -13,3 +13,4 @@ pub mod MadeVolumes
 pub mod Played
 pub mod Salvaged
 pub mod Saved
+pub mod Traced

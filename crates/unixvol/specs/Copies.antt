@@ -1,13 +1,14 @@
 -- The result of copying several files between the host and a volume.
-use Rattle.std.specs.Prelude.{All, ◌≡◌, ◌⊎◌, ℕ, List, [], map, Option, Some, IsSome, IfSome, Bool, true, false, unwrap_or}
+use Rattle.std.specs.Prelude.{All, ◌≡◌, ◌⊎◌, ℕ, List, [], map, Option, Some, IsSome, IfSome, Bool, true, false, unwrap_or, Result}
 use Rattle.std.specs.Borrow.{Bor}
 use Rattle.std.specs.Io.KnownBytes.{Keeps}
 use Rattle.std.specs.Path.{path_file_name}
 use Rattle.vol_import.specs.Make.{told}
 use Rattle.vol_volume.specs.Volume.{reads_as}
-use Rattle.command_faults.specs.Outcomes.{Concludes}
+use Rattle.command_faults.specs.Outcomes.{IsAmong}
 use Rattle.command_faults.specs.Streams.{Gets, Streams}
-use Rattle.command_faults.specs.declared.answer.Answer.{Answer}
+use Rattle.command_faults.specs.declared.answer.Remarked.{Remarked}
+use Rattle.command_faults.specs.declared.fault.Fault.{Fault}
 use Rattle.vol_layout.specs.declared.edition.Edition.{Edition}
 use Rattle.command_words.specs.declared.invocation.Copying.{Copying}
 use Rattle.command_words.specs.declared.invocation.Copying.TheVariants as copyings
@@ -19,7 +20,8 @@ use Rattle.command_reads.specs.declared.get.FileRead.{FileRead}
 use Rattle.command_reads.specs.declared.get.FilesRead.{FilesRead}
 use Rattle.command_changes.specs.declared.kept.Keep.{Keep}
 use Rattle.command_changes.specs.declared.put.NewFile.{NewFile}
-use Rattle.unixvol.specs.Runs.{Ends, EndsSaved, HostFiles, IsGivenFile, IsStatusOfFileOrMemory, RunsNothing}
+use Rattle.unixvol.specs.Runs.{Ends, HostFiles, IsGivenFile, IsStatusOfFileOrMemory, RunsNothing}
+use Rattle.unixvol.specs.Traces.{EndsTraced}
 use Rattle.host_files.specs.declared.image_file.Stamp.{Stamp}
 
 -- the last name of a path; empty if the path ends in `..` or has no names (std::path)
@@ -51,21 +53,22 @@ LeavesMoment streams stands now status =
     × Keeps streams.old streams.new × (streams.failed ≡ streams.had_failed) × streams.said []
 
 -- files with these names are put into a directory: nothing is done; or their bytes are read from files and put into an image, which is read from a
--- file and may be changed, and the result of the calls is saved if the system reported that some file had the stamp of the image's file (this
--- project)
-abbrev pub PutsFiles : Streams → HostFiles → Edition → List ℕ → List (List ℕ) → Keep → ℕ → ℕ → Type 0
-PutsFiles streams files edition directory names keep now status =
+-- file and may be changed, and the result of the calls is saved if the system reported that some file had the stamp of the image's file; their trace is
+-- printed after that, if it is wanted, and nothing otherwise (this project)
+abbrev pub PutsFiles : Streams → HostFiles → Edition → List ℕ → List (List ℕ) → Keep → ℕ → Bool → ℕ → Type 0
+PutsFiles streams files edition directory names keep now trace status =
     RunsNothing streams files status
-    ⊎ ((image : List ℕ) × (stamp : Stamp) × (news : List NewFile) × (answer : Answer) × files.opened edition image stamp × AreGiven (files.put edition) keep names news
-    × Concludes (of_import edition image (told (calls_to_put (reads_as edition image).tree now directory news))) streams answer
-    × EndsSaved (λ saved. files.stored saved × files.stood stamp) answer status)
+    ⊎ ((image : List ℕ) × (stamp : Stamp) × (news : List NewFile) × (outcome : Result Remarked Fault) × files.opened edition image stamp
+    × AreGiven (files.put edition) keep names news
+    × IsAmong (of_import edition image (told (calls_to_put (reads_as edition image).tree now directory news)) trace) outcome
+    × EndsTraced (λ saved. files.stored saved × files.stood stamp) outcome streams status)
 
 -- several files are put at a time: if the word that was read as the time is also a file's path, nothing is done; otherwise the files are put (this
 -- project)
-abbrev pub RunsPut : Streams → HostFiles → Standing → Edition → List ℕ → List (List ℕ) → Keep → Moment → ℕ → Type 0
-RunsPut streams files stands edition directory names keep now status =
+abbrev pub RunsPut : Streams → HostFiles → Standing → Edition → List ℕ → List (List ℕ) → Keep → Moment → Bool → ℕ → Type 0
+RunsPut streams files stands edition directory names keep now trace status =
     LeavesMoment streams stands now status
-    ⊎ (IsMomentAlone stands now × PutsFiles streams files edition directory names keep now.seconds status)
+    ⊎ (IsMomentAlone stands now × PutsFiles streams files edition directory names keep now.seconds trace status)
 
 -- all bytes of each of these files were written to a file of the host (this project)
 abbrev pub AreSaved : (List ℕ → Type 0) → List FileRead → Type 0
@@ -87,8 +90,8 @@ RunsGet streams files edition paths status =
 
 -- several files are copied (this project)
 abbrev pub RunsCopy : Streams → HostFiles → Standing → Edition → Copying → ℕ → Type 0
-RunsCopy streams files stands edition (copyings.Put directory paths keep now) status =
-    RunsPut streams files stands edition directory.now (map (λ path. name_of path.now) paths.items) keep now status
+RunsCopy streams files stands edition (copyings.Put directory paths keep now trace) status =
+    RunsPut streams files stands edition directory.now (map (λ path. name_of path.now) paths.items) keep now trace status
 RunsCopy streams files stands edition (copyings.Get folder paths keeps) status = RunsGet streams files edition (map (λ path. path.now) paths.items) status
 
 -- a command that copies several files runs to its end, as a plain command does (this project)

@@ -7,3 +7,4 @@ pub mod Reports
 pub mod Resize
 pub mod Runs
 pub mod Serve
+pub mod Traces

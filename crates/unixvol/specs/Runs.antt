@@ -30,12 +30,13 @@ use Rattle.command_changes.specs.declared.changes.Change.TheVariants as changes
 use Rattle.command_reads.specs.Checkers.{Checks}
 use Rattle.command_reads.specs.Cat.{PrintsNode, IsNoWriters, cat_status}
 use Rattle.command_reads.specs.Node.{number_of}
-use Rattle.command_faults.specs.Outcomes.{Concludes}
+use Rattle.command_faults.specs.Outcomes.{Concludes, IsAmong}
 use Rattle.command_faults.specs.Streams.{Gets, Streams}
 use Rattle.command_changes.specs.Mkfs.{mkfs_line_at}
 use Rattle.command_changes.specs.Migrate.{of_migration}
 use Rattle.command_changes.specs.Resize.{of_resize}
 use Rattle.command_changes.specs.Salvage.{IsReported, IsUnsalvaged}
+use Rattle.command_faults.specs.declared.answer.Remarked.{Remarked}
 use Rattle.command_faults.specs.declared.fault.Fault.{Fault}
 use Rattle.command_reads.specs.Print.{IsTold, Prints}
 use Rattle.vol_layout.specs.declared.edition.Edition.{Edition}
@@ -71,6 +72,7 @@ use Rattle.pack_files.specs.PackFiles.{blocks_in}
 use Rattle.pack_files.specs.declared.other_volumes.Growth.{Growth}
 use Rattle.unixvol.specs.Reports.{IsOneFile, IsReportTold, may_report_read}
 use Rattle.unixvol.specs.Resize.{IsAlone, has_only}
+use Rattle.unixvol.specs.Traces.{EndsTraced}
 
 -- these bytes were read from some file, up to this end (std::io::Read)
 abbrev pub Gave : {F : Type 0} → UpTo → (F → Option (List ℕ)) → List ℕ → Type 0
@@ -385,20 +387,21 @@ LeavesTerminal streams status = (status ≡ 3) × Keeps streams.old streams.new 
 
 -- a volume is changed, with these lines about the bytes to save: nothing is done, without lines; or it is changed, with the bytes that were read for
 -- it, in an image which is read from a file and may be changed, and the result is saved if the system reported that some file had the stamp of the
--- image's file (this project)
-abbrev pub ChangesImage : Streams → HostFiles → HostInput → Edition → Change → List ℕ → ℕ → Type 0
-ChangesImage streams files input edition change lines status =
+-- image's file; the trace of its calls is printed after that, if it is wanted, and nothing otherwise (this project)
+abbrev pub ChangesImage : Streams → HostFiles → HostInput → Edition → Change → Bool → List ℕ → ℕ → Type 0
+ChangesImage streams files input edition change trace lines status =
     ((lines ≡ []) × (RunsNothing streams files status ⊎ TakesNothing streams files input change status))
-    ⊎ ((image : List ℕ) × (stamp : Stamp) × (given : GivenFile) × (answer : Answer) × files.opened edition image stamp × IsGivenTo (files.put edition) input.given change given
-    × Concludes (changed edition image given change) streams answer × (lines ≡ (changed edition image given change).lines)
-    × EndsSaved (λ saved. files.stored saved × files.stood stamp) answer status)
+    ⊎ ((image : List ℕ) × (stamp : Stamp) × (given : GivenFile) × (outcome : Result Remarked Fault) × files.opened edition image stamp
+    × IsGivenTo (files.put edition) input.given change given × IsAmong (changed edition image given change trace) outcome
+    × (lines ≡ (changed edition image given change trace).lines)
+    × EndsTraced (λ saved. files.stored saved × files.stood stamp) outcome streams status)
 
 -- a change runs, with these lines about the bytes to save: if an archive is needed from a terminal, nothing is done; otherwise the volume is changed
 -- (this project)
-abbrev pub RunsChange : Streams → HostFiles → HostInput → Bool → Edition → Change → List ℕ → ℕ → Type 0
-RunsChange streams files input is_terminal edition change lines status =
+abbrev pub RunsChange : Streams → HostFiles → HostInput → Bool → Edition → Change → Bool → List ℕ → ℕ → Type 0
+RunsChange streams files input is_terminal edition change trace lines status =
     ((wants_terminal is_terminal change ≡ true) × (lines ≡ []) × LeavesTerminal streams status)
-    ⊎ ((wants_terminal is_terminal change ≡ false) × ChangesImage streams files input edition change lines status)
+    ⊎ ((wants_terminal is_terminal change ≡ false) × ChangesImage streams files input edition change trace lines status)
 
 -- the invocation is a plain command: it doesn't show part of an image, compare two images, guess what images are, change a volume, copy several files or use several threads (this project)
 abbrev pub IsPlainCommand : Invocation → Type 0
@@ -406,7 +409,7 @@ IsPlainCommand (invocations.Look volume look) = ⊥
 IsPlainCommand (invocations.Identify images form) = ⊥
 IsPlainCommand (invocations.Diff volume other by) = ⊥
 IsPlainCommand (invocations.ExportBad volume map path options) = ⊥
-IsPlainCommand (invocations.Change volume change) = ⊥
+IsPlainCommand (invocations.Change volume change trace) = ⊥
 IsPlainCommand (invocations.Copy volume copying) = ⊥
 IsPlainCommand (invocations.Work volume work) = ⊥
 IsPlainCommand (invocations.Serve volume serving) = ⊥
@@ -439,7 +442,7 @@ volume_at (invocations.ExportBad volume map path options) = volume.at
 volume_at (invocations.Salvage volume copy) = volume.at
 volume_at (invocations.Resize volume blocks is_trial) = volume.at
 volume_at (invocations.Look volume look) = volume.at
-volume_at (invocations.Change volume change) = volume.at
+volume_at (invocations.Change volume change trace) = volume.at
 volume_at (invocations.Copy volume copying) = volume.at
 volume_at (invocations.Work volume work) = volume.at
 volume_at (invocations.Serve volume serving) = volume.at
@@ -461,7 +464,7 @@ Runs streams files status (invocations.ExportBad volume map path options) = ⊥
 Runs streams files status (invocations.Salvage volume copy) = RunsSalvage streams files volume.edition copy status
 Runs streams files status (invocations.Resize volume blocks is_trial) = RunsResize streams files volume blocks is_trial status
 Runs streams files status (invocations.Look volume look) = ⊥
-Runs streams files status (invocations.Change volume change) = ⊥
+Runs streams files status (invocations.Change volume change trace) = ⊥
 Runs streams files status (invocations.Copy volume copying) = ⊥
 Runs streams files status (invocations.Work volume work) = ⊥
 Runs streams files status (invocations.Serve volume serving) = ⊥
@@ -550,9 +553,9 @@ LooksToEnd files screen output errors edition look end =
 
 -- a change runs to its end, as a plain command does, except that it reports the lines about the bytes to save: an import, the members left out (this
 -- project)
-abbrev pub ChangesToEnd : HostFiles → HostInput → Bool → Option (List ℕ) → Option (List ℕ) → Edition → Change → ℕ → Type 0
-ChangesToEnd files input is_terminal output errors edition change end =
+abbrev pub ChangesToEnd : HostFiles → HostInput → Bool → Option (List ℕ) → Option (List ℕ) → Edition → Change → Bool → ℕ → Type 0
+ChangesToEnd files input is_terminal output errors edition change trace end =
     (new : Option (List ℕ)) × (failed : Bool) × (told : Option (List ℕ)) × (untold : Bool) × (lines : List ℕ) × (status : ℕ)
-    × RunsChange (record { old = output; new = new; had_failed = false; failed = failed; said = Gets untold errors told }) files input is_terminal edition change lines status
+    × RunsChange (record { old = output; new = new; had_failed = false; failed = failed; said = Gets untold errors told }) files input is_terminal edition change trace lines status
     × EndsWith lines (record { old = output; new = new; had_failed = false; failed = failed; said = Gets untold errors told }) status
     × ((end ≡ status) ⊎ ((status ≡ 0) × (end ≡ 3)))

@@ -1,22 +1,21 @@
 //! The commands that change a volume: opening and saving their files.
-ghost use Rattle.std.specs.Prelude.{◌≡◌, ◌+◌, ◌*◌, ◌/◌, ◌^◌, ◌≤◌, min, ℕ, Bool, IfErr, IfOk, List, Option};
+ghost use Rattle.std.specs.Prelude.{◌≡◌, ◌+◌, ◌*◌, ◌/◌, ◌^◌, ◌≤◌, min, ℕ, IfErr, IfOk, List};
 ghost use Rattle.std.specs.Process.{exit_status};
-ghost use Rattle.command_faults.specs.Streams.{ErrorStream, Hears, still};
+ghost use Rattle.command_faults.specs.Streams.{ErrorStream, Hears, streams};
 ghost use Rattle.unixvol.specs.Runs.{ChangesToEnd, EndsWith, GaveArchive, GavePut, IsGivenTo, IsUngiven, IsUnread, RunsChange, host_files, host_input, wants_terminal};
 
 use crate::explain::{NamedFile, explain_unread, finish, tell_fault};
 use crate::host::Surroundings;
 use crate::packed::packed_words;
 use crate::read::{Begun, begin, read_given, read_open};
-use crate::save::save_answer;
+use crate::save::save_traced;
 use crate::subject::Subject;
 use command_changes::change::perform;
 use command_changes::{Change, GivenFile, Kept};
 use command_faults::Ending;
-use command_faults::answer::conclude;
 use command_line::VolumeFile;
-use host_files::{FileKind, ImageFiles, UpTo};
-use pdp_words::IntoWrite;
+use host_files::{FileKind, ImageFiles, UpTo, noted_writer};
+use pdp_words::{IntoWrite, Sink};
 use std::io::{self, Read, Write};
 use std::process::ExitCode;
 use std::rt::Clock;
@@ -35,8 +34,8 @@ const ROOM: u32 = 64;
 const GREATEST: u64 = 1 << 24;
 
 /// Changes the volume in a file, and returns the exit code. An archive is read from `input`, which is standard input; if this is a terminal, nothing
-/// is opened. A fault is printed as one line on standard error; `errors` writes to standard error too. Nothing is written to `output`, which is
-/// standard output.
+/// is opened. A fault is printed as one line on standard error; `errors` writes to standard error too. If `trace`, what each call changed is written to
+/// `output`, which is standard output, once the volume is saved; otherwise nothing is.
 pub fn run_to_end<
     R: ImageFiles + Clock + Eprint + AllocGlobal,
     I: Read + Drop,
@@ -50,31 +49,50 @@ pub fn run_to_end<
     errors: E,
     volume: VolumeFile<'_>,
     change: Change<'_>,
+    trace: bool,
 ) -> ExitCode
     ensures { ChangesToEnd (host_files volume.entry.at R.File.remaining R.File.contents R.had R.stood) (host_input I.remaining) is_terminal (O.contents output) (E.contents errors)
-        volume.entry.edition change.entry (exit_status result) }
+        volume.entry.edition change.entry trace (exit_status result) }
 {
     let mut errors = IntoWrite::new(errors);
+    let mut output = noted_writer(output);
     let mut packed = None;
-    let ending = run(host, input, is_terminal, volume, change, &mut packed);
+    let ending = run(
+        host,
+        input,
+        is_terminal,
+        &mut output,
+        volume,
+        change,
+        trace,
+        &mut packed,
+    );
     let subject = Subject::of_change(volume, change).with_packed(packed);
-    tell_fault(host, &mut errors, &ending.fault, None, Some(subject));
-    ExitCode::from(finish(host, output, ending.status))
+    tell_fault(
+        host,
+        &mut errors,
+        &ending.fault,
+        output.error(),
+        Some(subject),
+    );
+    ExitCode::from(finish(host, output.into_inner().into_inner(), ending.status))
 }
 
-/// Changes the volume in a file, saves it, and returns the result of the run. If the bytes to import are a compressed file, sets `packed` to the
-/// message for it.
-fn run<R: ImageFiles + Clock + Eprint + AllocGlobal, I: Read + Drop>(
+/// Changes the volume in a file, saves it, prints its trace if `trace`, and returns the result of the run. If the bytes to import are a compressed file, sets
+/// `packed` to the message for it.
+fn run<R: ImageFiles + Clock + Eprint + AllocGlobal, I: Read + Drop, O: Sink>(
     host: &Surroundings<'_, R>,
     input: I,
     is_terminal: bool,
+    output: &mut O,
     volume: VolumeFile<'_>,
     change: Change<'_>,
+    trace: bool,
     packed: &mut Option<&'static str>,
 ) -> Ending
-    ensures { (known : Option (List ℕ)) (failed : Bool) (errors : ErrorStream) → Hears errors result.fault → (lines : List ℕ)
-        × RunsChange (still known failed errors) (host_files volume.entry.at R.File.remaining R.File.contents R.had R.stood) (host_input I.remaining) is_terminal volume.entry.edition change.entry lines result.status
-        × EndsWith lines (still known failed errors) result.status }
+    ensures { (errors : ErrorStream) → Hears errors result.fault → (lines : List ℕ)
+        × RunsChange (streams O.contents O.failed output.old output.new errors) (host_files volume.entry.at R.File.remaining R.File.contents R.had R.stood) (host_input I.remaining) is_terminal volume.entry.edition change.entry trace lines result.status
+        × EndsWith lines (streams O.contents O.failed output.old output.new errors) result.status }
 {
     if wants_terminal(is_terminal, change) {
         return Ending {
@@ -99,12 +117,8 @@ fn run<R: ImageFiles + Clock + Eprint + AllocGlobal, I: Read + Drop>(
         locked: _locked,
     } = begun;
     *packed = packed_words(&given.bytes);
-    let answer = conclude(perform(host.rt.alloc(), volume.edition, image, given, change));
-    let status = save_answer(host, volume, stamp, &answer);
-    Ending {
-        status,
-        fault: answer.fault,
-    }
+    let outcome = perform(host.rt.alloc(), volume.edition, image, given, change, trace);
+    save_traced(host, volume, stamp, outcome, output)
 }
 
 /// True if an archive is needed from standard input, which is a terminal.

@@ -1,7 +1,7 @@
 //! The commands that copy several files between the host and a volume: opening and saving their files.
 ghost use Rattle.std.specs.Prelude.{◌≡◌, ◌≢◌, ◌⊎◌, ℕ, All, Bool, IfErr, IfOk, IfSome, List, None, Option, map};
 ghost use Rattle.std.specs.Process.{exit_status};
-ghost use Rattle.command_faults.specs.Streams.{ErrorStream, Hears, still};
+ghost use Rattle.command_faults.specs.Streams.{ErrorStream, Hears, still, streams};
 ghost use Rattle.unixvol.specs.Copies.{AreGiven, AreSaved, CopiesToEnd, IsFileToo, IsMomentAlone, ReadSaved, RunsCopy, RunsGet, RunsPut, name_of};
 ghost use Rattle.unixvol.specs.Runs.{Ends, GavePut, IsGivenFile, IsStatusOfFileOrMemory, IsUnread, host_files};
 ghost use Rattle.host_files.specs.Save.{IsTaken};
@@ -11,18 +11,17 @@ use crate::explain::{
 };
 use crate::host::Surroundings;
 use crate::read::{Begun, begin, read_given, read_stamped};
-use crate::save::{save_answer, save_new};
+use crate::save::{save_new, save_traced};
 use crate::subject::Subject;
 use command_changes::Keep;
 use command_changes::put::{NewFile, put_files};
 use command_faults::Ending;
-use command_faults::answer::{conclude, unremarked};
 use command_faults::status::DONE;
 use command_line::{Copying, VolumeFile};
 use command_reads::get::{FileRead, FilesRead, get_files};
 use command_words::Moment;
-use host_files::{ImageFiles, Marks, Stamp, is_pipe};
-use pdp_words::IntoWrite;
+use host_files::{ImageFiles, Marks, Stamp, is_pipe, noted_writer};
+use pdp_words::{IntoWrite, Sink};
 use std::io::{self, Write};
 use std::path::Path;
 use std::process::ExitCode;
@@ -33,7 +32,8 @@ use vol_layout::Edition;
 const PIPE: &str = "it is a pipe or a socket, which keeps no file";
 
 /// Copies several files between the host and the volume in a file, and returns the exit code. A fault is printed as one line on standard error;
-/// `errors` writes to standard error too. Nothing is written to `output`, which is standard output.
+/// `errors` writes to standard error too. If a trace is wanted, it is written to `output`, which is standard output, once the volume is saved; otherwise
+/// nothing is.
 pub fn run_to_end<R: ImageFiles + Clock + Eprint + AllocGlobal, O: Write + Drop, E: Write + Drop>(
     host: &Surroundings<'_, R>,
     output: O,
@@ -45,22 +45,30 @@ pub fn run_to_end<R: ImageFiles + Clock + Eprint + AllocGlobal, O: Write + Drop,
         volume.entry.edition copying.entry (exit_status result) }
 {
     let mut errors = IntoWrite::new(errors);
+    let mut output = noted_writer(output);
     let subject = Subject::of_copying(volume, &copying);
-    let ending = run(host, volume, copying);
-    tell_fault(host, &mut errors, &ending.fault, None, Some(subject));
-    ExitCode::from(finish(host, output, ending.status))
+    let ending = run(host, &mut output, volume, copying);
+    tell_fault(
+        host,
+        &mut errors,
+        &ending.fault,
+        output.error(),
+        Some(subject),
+    );
+    ExitCode::from(finish(host, output.into_inner().into_inner(), ending.status))
 }
 
 /// Copies several files, and returns the result of the run.
-fn run<R: ImageFiles + Clock + Eprint + AllocGlobal>(
+fn run<R: ImageFiles + Clock + Eprint + AllocGlobal, O: Sink>(
     host: &Surroundings<'_, R>,
+    output: &mut O,
     volume: VolumeFile<'_>,
     copying: Copying<'_>,
 ) -> Ending
-    ensures runs { (known : Option (List ℕ)) (failed : Bool) (errors : ErrorStream) → Hears errors result.fault
-        → RunsCopy (still known failed errors) (host_files volume.entry.at R.File.remaining R.File.contents R.had R.stood) R.stands volume.entry.edition copying.entry result.status }
-    ensures ends { (known : Option (List ℕ)) (failed : Bool) (errors : ErrorStream) → Hears errors result.fault
-        → Ends (still known failed errors) result.status }
+    ensures runs { (errors : ErrorStream) → Hears errors result.fault
+        → RunsCopy (streams O.contents O.failed output.old output.new errors) (host_files volume.entry.at R.File.remaining R.File.contents R.had R.stood) R.stands volume.entry.edition copying.entry result.status }
+    ensures ends { (errors : ErrorStream) → Hears errors result.fault
+        → Ends (streams O.contents O.failed output.old output.new errors) result.status }
 {
     match copying {
         Copying::Put {
@@ -68,7 +76,8 @@ fn run<R: ImageFiles + Clock + Eprint + AllocGlobal>(
             files,
             keep,
             now,
-        } => run_put(host, volume, directory, &files, keep, now),
+            trace,
+        } => run_put(host, output, volume, directory, &files, keep, now, trace),
         Copying::Get {
             folder,
             paths,
@@ -77,21 +86,24 @@ fn run<R: ImageFiles + Clock + Eprint + AllocGlobal>(
     }
 }
 
-/// Puts the files at some paths into a directory of the volume in a file, saves the volume, and returns the result of the run. If the word that was
-/// read as the time is also the path of an existing file, it may be meant as one of the files: then nothing is opened.
-fn run_put<R: ImageFiles + Clock + Eprint + AllocGlobal>(
+/// Puts the files at some paths into a directory of the volume in a file, saves the volume, prints the trace of the calls if `trace`, and returns the
+/// result of the run. If the word that was read as the time is also the path of an existing file, it may be meant as one of the files: then nothing is
+/// opened.
+fn run_put<R: ImageFiles + Clock + Eprint + AllocGlobal, O: Sink>(
     host: &Surroundings<'_, R>,
+    output: &mut O,
     volume: VolumeFile<'_>,
     directory: &str,
     paths: &[&str],
     keep: Keep,
     now: Moment<'_>,
+    trace: bool,
 ) -> Ending
-    ensures runs { (known : Option (List ℕ)) (failed : Bool) (errors : ErrorStream) → Hears errors result.fault
-        → RunsPut (still known failed errors) (host_files volume.entry.at R.File.remaining R.File.contents R.had R.stood) R.stands volume.entry.edition directory.now
-        (map (λ path. name_of path.now) paths.now) keep now.entry result.status }
-    ensures ends { (known : Option (List ℕ)) (failed : Bool) (errors : ErrorStream) → Hears errors result.fault
-        → Ends (still known failed errors) result.status }
+    ensures runs { (errors : ErrorStream) → Hears errors result.fault
+        → RunsPut (streams O.contents O.failed output.old output.new errors) (host_files volume.entry.at R.File.remaining R.File.contents R.had R.stood) R.stands volume.entry.edition directory.now
+        (map (λ path. name_of path.now) paths.now) keep now.entry trace result.status }
+    ensures ends { (errors : ErrorStream) → Hears errors result.fault
+        → Ends (streams O.contents O.failed output.old output.new errors) result.status }
 {
     if let Some(word) = moment_file(host.rt, now) {
         return Ending {
@@ -119,14 +131,16 @@ fn run_put<R: ImageFiles + Clock + Eprint + AllocGlobal>(
         stamp,
         locked: _locked,
     } = begun;
-    let alloc = host.rt.alloc();
-    let made = put_files(alloc, volume.edition, image, directory, files, now.seconds);
-    let answer = conclude(unremarked(alloc, made));
-    let status = save_answer(host, volume, stamp, &answer);
-    Ending {
-        status,
-        fault: answer.fault,
-    }
+    let outcome = put_files(
+        host.rt.alloc(),
+        volume.edition,
+        image,
+        directory,
+        files,
+        now.seconds,
+        trace,
+    );
+    save_traced(host, volume, stamp, outcome, output)
 }
 
 /// Returns the word that was read as the time, if it is also the path of an existing file.

@@ -62,10 +62,25 @@ fn main(rt: HostRuntime) -> ExitCode {
         Ok(Invocation::Look { volume, look }) => {
             looks::run_to_end(&host, screen, output, errors, volume, look)
         }
-        Ok(Invocation::Change { volume, change }) => {
+        Ok(
+            Invocation::Change {
+                volume,
+                change,
+                trace,
+            },
+        ) => {
             let input = rt.stdin();
             let is_terminal = input.is_terminal();
-            changes::run_to_end(&host, input, is_terminal, output, errors, volume, change)
+            changes::run_to_end(
+                &host,
+                input,
+                is_terminal,
+                output,
+                errors,
+                volume,
+                change,
+                trace,
+            )
         }
         Ok(Invocation::Copy { volume, copying }) => {
             copy::run_to_end(&host, output, errors, volume, copying)

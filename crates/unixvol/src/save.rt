@@ -1,6 +1,9 @@
 //! Saves the result of a command in its file, and returns the exit status.
 ghost use Rattle.std.specs.Prelude.{◌≡◌, ◌⊎◌, IfErr, OnOk};
+ghost use Rattle.command_faults.specs.Faults.{line_after};
+ghost use Rattle.command_faults.specs.Streams.{ErrorStream, Hears, streams};
 ghost use Rattle.unixvol.specs.Runs.{IsStatusOfFileOrMemory, IsMadeAt, IsStored, EndsPlayed, EndsSaved, MadeSaved, SavesMade, host_files, made_in, new_place_at};
+ghost use Rattle.unixvol.specs.Traces.{EndsTraced, PrintsAfter, PrintsText};
 ghost use Rattle.host_files.specs.Save.{IsTaken, Saves};
 
 use crate::explain::{NamedFile, explain_no_memory, explain_unwritten};
@@ -8,14 +11,16 @@ use crate::host::Surroundings;
 use crate::place::expect_room;
 use crate::replaced::{held_at, tell_replaced};
 use command_changes::MadeVolume;
-use command_faults::Answer;
-use command_faults::status::BAD_FILE;
+use command_faults::answer::conclude;
+use command_faults::status::{BAD_FILE, DONE};
+use command_faults::{Answer, Ending, Fault, Remarked};
 use command_line::{MadeFile, NewPlace, VolumeFile};
 use host_files::{
     Content, FileKind, ImageFiles, Marks, OpenFault, Stamp, VolumePart, open_image, save_file,
     save_marked, save_volume,
 };
 use pack_files::Growth;
+use pdp_words::{Sink, write_all};
 use std::io;
 use std::rt::Clock;
 use vol_mkfs::BlankVolume;
@@ -39,6 +44,53 @@ pub fn save_answer<R: ImageFiles + Eprint + AllocGlobal>(
     match save_volume(host.rt, volume.image, read, part_of(volume, bytes)) {
         Ok(()) => answer.status,
         Err(why) => explain_unsaved(host, volume.image, why),
+    }
+}
+
+/// Ends the run of a command with this outcome: saves the volume as [`save_answer`] does, and then prints the trace on `output`, if there is one. If
+/// standard output fails, the volume is saved, and the status is 3.
+pub fn save_traced<R: ImageFiles + Eprint + AllocGlobal, O: Sink>(
+    host: &Surroundings<'_, R>,
+    volume: VolumeFile<'_>,
+    read: Stamp,
+    outcome: Result<Remarked, Fault>,
+    output: &mut O,
+) -> Ending
+    ensures { (errors : ErrorStream) → Hears errors result.fault
+        → EndsTraced (λ bytes. IsStored volume.entry.at bytes R.File.remaining R.File.contents R.had × R.stood read) outcome
+        (streams O.contents O.failed output.old output.new errors) result.status }
+{
+    let answer = conclude(outcome);
+    let status = save_answer(host, volume, read, &answer);
+    print_trace(answer, status, output)
+}
+
+/// Prints the trace of an answer, if it has one and its bytes were saved, and returns the result of the run. `status` is the status of saving.
+fn print_trace<O: Sink>(answer: Answer, status: u8, output: &mut O) -> Ending
+    ensures { (errors : ErrorStream) → Hears errors result.fault
+        → PrintsAfter status answer.trace (line_after answer.fault) (streams O.contents O.failed output.old output.new errors) result.status }
+{
+    let Answer { trace, fault, .. } = answer;
+    if status != DONE {
+        return Ending { status, fault };
+    }
+    match trace {
+        Some(text) => print_text(&text, fault, output),
+        None => Ending { status, fault },
+    }
+}
+
+/// Prints a text, and returns the result of a run with these lines, if any; or that standard output failed.
+fn print_text<O: Sink>(text: &[u8], fault: Option<Fault>, output: &mut O) -> Ending
+    ensures { (errors : ErrorStream) → Hears errors result.fault
+        → PrintsText text.now (line_after fault) (streams O.contents O.failed output.old output.new errors) result.status }
+{
+    match write_all(output, text) {
+        Ok(()) => Ending {
+            status: DONE,
+            fault,
+        },
+        Err(_) => Ending::from(Fault::Output),
     }
 }
 

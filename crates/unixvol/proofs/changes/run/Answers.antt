@@ -1,51 +1,53 @@
 use Rattle.std.proofs.Common.{[], ◌∙◌, inl, inr, refl, rules, sym}
 use Rattle.std.proofs.KnownBytes.{Keeps-refl}
 use Rattle.command_changes.specs.Changes.{changed}
-use Rattle.command_faults.proofs.Concluded.{concluded}
-use Rattle.command_faults.specs.Outcomes.{Concludes}
 use Rattle.command_faults.specs.Streams.{still}
 use Rattle.unixvol.specs.Runs.{GaveArchive, GavePut, IsGivenTo, IsUngiven, IsUnread}
-use Rattle.unixvol.proofs.Concluded.{ends_concluded, ends_unread}
+use Rattle.unixvol.proofs.Concluded.{ends_unread}
 use Rattle.unixvol.proofs.Done.{ends_ungiven}
+use Rattle.unixvol.proofs.Traced.{ends_traced}
 use Rattle.unixvol.proofs.changes.run.Goals as goal
 
 pub returns-then-wants_terminal : goal.returns-then-wants_terminal
-returns-then-wants_terminal g c known failed errors hears = (
-  [],
-  inl (sym c.wants_terminal.ensures ∙ c.if-wants_terminal.true, refl, (c.explain_unread.ensures, Keeps-refl known, refl, hears)),
-  ends_unread g.R.File.Read.remaining (still known failed errors) c.explain_unread.result (inl c.explain_unread.ensures) (Keeps-refl known),
-)
+returns-then-wants_terminal g c errors hears =
+    let known = g.O.Sink.contents c.args.output.now in (
+      [],
+      inl (sym c.wants_terminal.ensures ∙ c.if-wants_terminal.true, refl, (c.explain_unread.ensures, Keeps-refl known, refl, hears)),
+      ends_unread g.R.File.Read.remaining (still known (g.O.Sink.failed c.args.output.now) errors) c.explain_unread.result (inl c.explain_unread.ensures)
+          (Keeps-refl known),
+    )
 
 pub returns-in-Err : goal.returns-in-Err
-returns-in-Err g c known failed errors hears = (
-  [],
-  inr (
-    sym c.wants_terminal.ensures ∙ c.if-wants_terminal.false,
-    inl (
-      refl,
+returns-in-Err g c errors hears =
+    let known = g.O.Sink.contents c.args.output.now in
+    let streams = still known (g.O.Sink.failed c.args.output.now) errors in (
+      [],
+      inr (
+        sym c.wants_terminal.ensures ∙ c.if-wants_terminal.false,
+        inl (
+          refl,
+          elim c.in-Err.ensures.fault [
+            | inl unread ↦ inl (unread, Keeps-refl known, refl, hears)
+            | inr called ↦
+                let ungiven : IsUngiven (IsUnread g.R.File.Read.remaining) (IsUnread g.I.Read.remaining) c.args.change c.in-Err.status = search rules in
+                inr (ungiven, Keeps-refl known, refl, hears)
+          ],
+        ),
+      ),
       elim c.in-Err.ensures.fault [
-        | inl unread ↦ inl (unread, Keeps-refl known, refl, hears)
+        | inl unread ↦ ends_unread g.R.File.Read.remaining streams c.in-Err.status unread (Keeps-refl known)
         | inr called ↦
             let ungiven : IsUngiven (IsUnread g.R.File.Read.remaining) (IsUnread g.I.Read.remaining) c.args.change c.in-Err.status = search rules in
-            inr (ungiven, Keeps-refl known, refl, hears)
+            ends_ungiven g.R.File.Read.remaining g.I.Read.remaining streams c.in-Err.status c.args.change ungiven (Keeps-refl known)
       ],
-    ),
-  ),
-  elim c.in-Err.ensures.fault [
-    | inl unread ↦ ends_unread g.R.File.Read.remaining (still known failed errors) c.in-Err.status unread (Keeps-refl known)
-    | inr called ↦
-        let ungiven : IsUngiven (IsUnread g.R.File.Read.remaining) (IsUnread g.I.Read.remaining) c.args.change c.in-Err.status = search rules in
-        ends_ungiven g.R.File.Read.remaining g.I.Read.remaining (still known failed errors) c.in-Err.status c.args.change ungiven (Keeps-refl known)
-  ],
-)
+    )
 
 pub returns : goal.returns
-returns g c known failed errors hears =
+returns g c errors hears =
     let called = c.in-Ok.ensures.given in
     let given : IsGivenTo (GavePut c.args.volume.edition g.R.File.Read.remaining) (GaveArchive g.I.Read.remaining) c.args.change c.in-Ok.begun.given = search rules in
-    let outcomes = changed c.args.volume.edition c.in-Ok.begun.image.items c.in-Ok.begun.given c.args.change in
-    let concludes : Concludes outcomes (still known failed errors) c.conclude-answer.result =
-    concluded outcomes _ _ _ c.perform.ensures c.conclude-answer.ensures.made c.conclude-answer.ensures.fault hears (Keeps-refl known) refl in (
+    let outcomes = changed c.args.volume.edition c.in-Ok.begun.image.items c.in-Ok.begun.given c.args.change c.args.trace in
+    let ends = c.save_traced.ensures errors hears in (
       outcomes.lines,
       inr (
         sym c.wants_terminal.ensures ∙ c.if-wants_terminal.false,
@@ -53,13 +55,13 @@ returns g c known failed errors hears =
           c.in-Ok.begun.image.items,
           c.in-Ok.begun.stamp,
           c.in-Ok.begun.given,
-          c.conclude-answer.result,
+          c.perform-outcome.result,
           c.in-Ok.ensures.image,
           given,
-          concludes,
+          c.perform-outcome.ensures,
           refl,
-          c.save_answer-status.ensures,
+          ends,
         ),
       ),
-      ends_concluded outcomes _ _ _ _ concludes c.save_answer-status.ensures,
+      ends_traced outcomes _ _ _ _ c.perform-outcome.ensures ends,
     )

@@ -1,4 +1,3 @@
-use Rattle.std.proofs.Common.{false, refl}
 use Rattle.std.specs.Process.{exit_status}
 use Rattle.pdp_words.specs.Adapters.{writer_in, has_write_failed}
 use Rattle.command_faults.specs.Streams.{heard}
@@ -10,19 +9,19 @@ pub returns : goal.returns
 returns g c =
     let files = host_files c.args.volume.at g.R.File.Read.remaining g.R.File.Write.contents g.R.ImageFiles.had g.R.ImageFiles.stood in
     let input = host_input g.I.Read.remaining in
-    let known = g.O.Write.contents c.args.output in
     let status = c.run-ending.result.status in
     let after = heard (λ sink. g.E.Write.contents (writer_in sink)) has_write_failed c.new-errors.result c.tell_fault.new.errors in
-    let ran = c.run-ending.ensures known false after c.tell_fault.ensures in (
-      known,
-      false,
-      after.new,
-      after.failed,
+    let ran = c.run-ending.ensures after c.tell_fault.ensures in (
+      _,
+      _,
+      _,
+      _,
       ran.0,
       status,
-      begun (λ streams. RunsChange streams files input c.args.is_terminal c.args.volume.edition c.args.change ran.0 status) known (g.E.Write.contents c.args.errors) known _ false known _ false _
-          refl c.new-errors.ensures.bytes refl ran.1,
-      begun (λ streams. EndsWith ran.0 streams status) known (g.E.Write.contents c.args.errors) known _ false known _ false _
-          refl c.new-errors.ensures.bytes refl ran.2,
+      begun (λ streams. RunsChange streams files input c.args.is_terminal c.args.volume.edition c.args.change c.args.trace ran.0 status)
+          (g.O.Write.contents c.args.output) (g.E.Write.contents c.args.errors) _ _ _ _ _ _ _
+          c.noted_writer-output.ensures.bytes c.new-errors.ensures.bytes c.noted_writer-output.ensures.fresh ran.1,
+      begun (λ streams. EndsWith ran.0 streams status) (g.O.Write.contents c.args.output) (g.E.Write.contents c.args.errors) _ _ _ _ _ _ _
+          c.noted_writer-output.ensures.bytes c.new-errors.ensures.bytes c.noted_writer-output.ensures.fresh ran.2,
       ended status c.finish.result (exit_status c.from.result) c.from.ensures c.finish.ensures,
     )

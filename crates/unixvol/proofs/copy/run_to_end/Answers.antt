@@ -1,4 +1,3 @@
-use Rattle.std.proofs.Common.{false, refl}
 use Rattle.std.specs.Process.{exit_status}
 use Rattle.pdp_words.specs.Adapters.{writer_in, has_write_failed}
 use Rattle.command_faults.specs.Streams.{heard}
@@ -10,17 +9,18 @@ use Rattle.unixvol.proofs.copy.run_to_end.Goals as goal
 pub returns : goal.returns
 returns g c =
     let files = host_files c.args.volume.at g.R.File.Read.remaining g.R.File.Write.contents g.R.ImageFiles.had g.R.ImageFiles.stood in
-    let known = g.O.Write.contents c.args.output in
     let status = c.run-ending.result.status in
     let after = heard (λ sink. g.E.Write.contents (writer_in sink)) has_write_failed c.new-errors.result c.tell_fault.new.errors in (
-      known,
-      false,
-      after.new,
-      after.failed,
+      _,
+      _,
+      _,
+      _,
       status,
-      begun (λ streams. RunsCopy streams files g.R.ImageFiles.stands c.args.volume.edition c.args.copying status) known (g.E.Write.contents c.args.errors) known _ false known _ false _
-          refl c.new-errors.ensures.bytes refl (c.run-ending.ensures.runs known false after c.tell_fault.ensures),
-      begun (λ streams. Ends streams status) known (g.E.Write.contents c.args.errors) known _ false known _ false _
-          refl c.new-errors.ensures.bytes refl (c.run-ending.ensures.ends known false after c.tell_fault.ensures),
+      begun (λ streams. RunsCopy streams files g.R.ImageFiles.stands c.args.volume.edition c.args.copying status) (g.O.Write.contents c.args.output)
+          (g.E.Write.contents c.args.errors) _ _ _ _ _ _ _ c.noted_writer-output.ensures.bytes c.new-errors.ensures.bytes c.noted_writer-output.ensures.fresh
+          (c.run-ending.ensures.runs after c.tell_fault.ensures),
+      begun (λ streams. Ends streams status) (g.O.Write.contents c.args.output) (g.E.Write.contents c.args.errors) _ _ _ _ _ _ _
+          c.noted_writer-output.ensures.bytes c.new-errors.ensures.bytes c.noted_writer-output.ensures.fresh
+          (c.run-ending.ensures.ends after c.tell_fault.ensures),
       ended status c.finish.result (exit_status c.from.result) c.from.ensures c.finish.ensures,
     )

@@ -1,6 +1,7 @@
 #!/usr/bin/env bash
 # Plays scripts with `--trace`: the calls of the journal in their order, each with what it changed, as `diff --fields` of the volumes before and after it
-# says; cuts, refused calls and views; the saved image; failures.
+# says; cuts, refused calls and views; the saved image; failures. The commands that change a volume by calls, with `--trace`: the lines that a play of
+# the same calls has, and the same image as without it.
 # Usage: tests/traces.sh PROGRAM. It prints each row that fails, and ends with 'N passed, N failed'.
 . "$(dirname "$0")/rows.sh"
 
@@ -150,6 +151,92 @@ echo '5 0 0 create /a 644' > create
 (in_memory 55000 runs play --trace 7 wide.img create)
 has 'a trace without memory' 'unixvol: 12 NoMemory' "$(cat error)"
 saves 'a volume without memory for its trace' wide.img kept.img
+
+# The commands. Each makes the calls of a script, and its trace is that of a play of these; without `--trace` nothing is printed.
+printf again > other
+for edition in 6 7; do
+    cp "made.$edition" "start.$edition"
+    for words in 'mkdir /d' 'put /d/x hello' 'put /f hello' 'mkdir /empty'; do
+        # shellcheck disable=SC2086 # the words of a command
+        set -- $words
+        "$program" "$1" "$edition" "start.$edition" "${@:2}" 2000
+    done
+done
+
+# traces WORD.. < SCRIPT: a command, without its edition and image, makes the calls of a script
+traces() {
+    local edition verb=$1
+    shift
+    cat > script
+    for edition in 6 7; do
+        cp "start.$edition" played
+        "$program" play --trace "$edition" played script | sed '1,/^confirmed /d' > traced
+        cp "start.$edition" plain
+        prints none "$verb" "$edition" plain "$@"
+        cp "start.$edition" again
+        prints traced "$verb" "$edition" again "$@" --trace
+        saves "$verb $* --trace" again plain
+        saves "$verb $* as a script" played plain
+    done
+}
+hex=$(od -An -v -tx1 < hello | tr -d ' \n')
+more=$(od -An -v -tx1 < other | tr -d ' \n')
+traces put /n hello 3000 <<< "3000 0 0 create /n 644
+3000 0 0 write /n 0 $hex"
+traces put /f other 3000 <<< "3000 0 0 truncate /f 0
+3000 0 0 write /f 0 $more"
+traces put -t /d hello other 3000 <<< "3000 0 0 create /d/hello 644
+3000 0 0 write /d/hello 0 $hex
+3000 0 0 create /d/other 644
+3000 0 0 write /d/other 0 $more"
+traces mkdir /e 3000 <<< '3000 0 0 mkdir /e 755'
+traces mkdir -p /e/g 3000 <<< '3000 0 0 mkdir /e 755
+3000 0 0 mkdir /e/g 755'
+traces rm /f 3000 <<< '3000 0 0 unlink /f'
+traces rm -r /d 3000 <<< '3000 0 0 unlink /d/x
+3000 0 0 rmdir /d'
+traces rmdir /empty 3000 <<< '3000 0 0 rmdir /empty'
+traces ln /f /g 3000 <<< '3000 0 0 link /f /g'
+traces mv /f /d 3000 <<< '3000 0 0 link /f /d/f
+3000 0 0 unlink /f'
+traces chmod /f 600 3000 <<< '3000 0 0 chmod /f 600'
+traces chown /d 3 4 3000 <<< '3000 0 0 chown /d 3 4'
+traces touch /f 3000 <<< '3000 0 0 times /f 3000 3000'
+traces touch /n 3000 <<< '3000 0 0 create /n 644'
+cp start.7 again
+prints none mkdir 7 again -p /d 3000 --trace
+saves 'a volume on which no call was made' again start.7
+
+# A command that is refused prints nothing, and saves nothing. If standard output fails, the volume is saved.
+cp start.7 again
+refuses 1 'unixvol: 2 NoEntry' rm 7 again /none 3000 --trace
+refuses 1 'unixvol: 17 Exists' mv 7 again /f /d/x 3000 --trace
+refuses 1 'unixvol: 20 NotDirectory: /f/hello' put 7 again -t /f hello 3000 --trace
+saves 'a volume of which a change was refused' again start.7
+refuses 1 'unixvol: unsound, rule 1' rm 7 none /f 3000 --trace
+for verb in import salvage resize; do misread "error: unexpected argument '--trace'" "$verb" 7 again --trace; done
+
+# fails_on_full WORD..: a command, without its edition and image, saves what it does without a trace, and can't print that
+fails_on_full() {
+    local verb=$1
+    shift
+    cp start.7 plain
+    "$program" "$verb" 7 plain "$@"
+    cp start.7 again
+    "$program" "$verb" 7 again "$@" --trace > /dev/full 2> error < /dev/null
+    echo $? > status
+    echo 'unixvol: cannot write -' > line
+    : > output
+    wants "$verb $* --trace, on a full device" 3 none line
+    saves "a volume after $verb whose trace was not printed" again plain
+}
+fails_on_full rm /f 3000
+fails_on_full put -t /d hello other 3000
+"$program" mkfs 7 wide.img 30000 20 0 0 1000
+cp wide.img kept.img
+(in_memory 55000 runs touch 7 wide.img /a 5 --trace)
+has 'a command without memory for its trace' '4 unixvol: 12 NoMemory' "$(cat status) $(cat error)"
+saves 'a volume without memory for the trace of a command' wide.img kept.img
 
 echo "$passed passed, $failed failed"
 [ "$failed" = 0 ]

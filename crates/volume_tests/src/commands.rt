@@ -24,6 +24,9 @@ const NOW: u32 = 0x0A0B_0C0D;
 /// The bytes of the file.
 const HELLO: &[u8] = b"hello\n";
 
+/// The beginning of the trace of making the directory.
+const MADE: &[u8] = b"168496141 0 0 mkdir /d 0755\n  ";
+
 /// The block report of the volume with a directory and a file.
 const REPORT: &[u8] = b"files 1\ndirectories 2\nspecial 0\nodd 0\nused 3\nfree 13\nmissing 0\n";
 
@@ -70,6 +73,7 @@ fn make_directory(rt: &impl Abort, alloc: Global, image: Vec<u8>) -> (Answer, St
         image,
         given,
         mkdir,
+        true,
         &mut output,
         &mut errors,
     );
@@ -97,6 +101,7 @@ fn put_hello(rt: &impl Abort, alloc: Global, image: Vec<u8>) -> Vec<u8> {
         "/d",
         files,
         NOW,
+        false,
         &mut output,
         &mut errors,
     );
@@ -165,10 +170,12 @@ fn commands_print_and_return_what_the_program_does(rt: HostRuntime) {
     let alloc = rt.alloc();
     let (answer, errors) = make_directory(&rt, alloc, made(&rt, alloc));
     check_printed(&rt, errors, b"");
+    let trace = answer.trace.expect(&rt, "a trace");
+    assert!(rt; trace.starts_with(MADE));
     let image = answer.image.expect(&rt, "an image");
     let (again, errors) = make_directory(&rt, alloc, copied(&rt, alloc, &image));
     check_printed(&rt, errors, b"unixvol: 17 Exists\n");
-    assert_eq!(rt; again.status, 1);
+    assert_eq!(rt; (again.status, again.trace.is_none()), (1, true));
     let image = put_hello(&rt, alloc, image);
     check_read(&rt, alloc, Edition::V6, &image);
     check_shown(&rt, alloc, &image);

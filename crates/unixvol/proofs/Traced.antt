@@ -1,6 +1,8 @@
 -- The end of a command that saves a volume, and then prints the trace of its calls.
 use Rattle.std.proofs.Common.{◌≡◌, ◌≢◌, ◌⊎◌, ◌∙◌, ℕ, ◌≤◌, List, [], Option, Some, None, Result, Ok, Err, IfOk, IfErr, IfSome, IsSome, true≢false, inl, inr, refl, sym, ap, subst, arith}
 use Rattle.std.specs.Global.{Vec}
+use Rattle.std.specs.Io.KnownBytes.{Keeps}
+use Rattle.std.proofs.KnownBytes.{Keeps-refl}
 use Rattle.command_faults.proofs.Concluded.{fault_few}
 use Rattle.command_faults.specs.Faults.{fault_line, fault_status, line_after}
 use Rattle.command_faults.specs.Outcomes.{IsAmong, Outcomes}
@@ -9,7 +11,7 @@ use Rattle.command_faults.specs.declared.answer.Answer.{Answer}
 use Rattle.command_faults.specs.declared.answer.Remarked.{Remarked}
 use Rattle.command_faults.specs.declared.fault.Fault.{Fault}
 use Rattle.unixvol.specs.Runs.{EndsSaved, EndsWith}
-use Rattle.unixvol.specs.Traces.{EndsTraced, IsQuiet, PrintsAfter, PrintsText, PrintsTrace}
+use Rattle.unixvol.specs.Traces.{EndsTraced, IsQuiet, PrintsTrace}
 
 -- if nothing was printed and these lines were reported, this also holds for an equal status and equal lines
 quiet_same : (wanted other : ℕ) (lines others : List ℕ) (streams : Streams) (status : ℕ) → wanted ≡ other → lines ≡ others
@@ -17,32 +19,34 @@ quiet_same : (wanted other : ℕ) (lines others : List ℕ) (streams : Streams) 
 quiet_same wanted other lines others streams status same also quiet =
     record { status = quiet.status ∙ same; kept = quiet.kept; working = quiet.working; said = subst streams.said also quiet.said }
 
+-- if nothing is written, the contents of a stream stay the same
+pub kept_same : (known : Option (List ℕ)) → Keeps known known
+kept_same known = Keeps-refl known
+
 -- if an answer of this outcome was saved, or wasn't, and its trace was printed after that, the run ends as the outcome requires
 pub traced_end : (taken : List ℕ → Type 0) (outcome : Result Remarked Fault) (answer : Answer) (saved : ℕ) (streams : Streams) (status : ℕ)
     → IfOk outcome (λ made. (answer.image ≡ Some made.bytes) × (answer.status ≡ 0) × (line_after answer.fault ≡ made.lines.items) × (answer.trace ≡ made.trace))
     → IfErr outcome (λ fault. (answer.image ≡ None) × (answer.status ≡ fault_status fault) × (answer.fault ≡ Some fault) × (answer.trace ≡ None))
-    → EndsSaved taken answer saved → PrintsAfter saved answer.trace (line_after answer.fault) streams status → EndsTraced taken outcome streams status
-traced_end taken (Ok made) answer saved streams status ok err (inl own) (inl printed) =
+    → EndsSaved taken answer saved → (saved ≢ 0 → IsQuiet saved (line_after answer.fault) streams status)
+    → (saved ≡ 0 → PrintsTrace answer.trace (line_after answer.fault) streams status) → EndsTraced taken outcome streams status
+traced_end taken (Ok made) answer saved streams status ok err (inl own) quiet prints =
     inl (
       rw ok.0 at own.1,
       subst (λ (trace : Option (Vec ℕ)). PrintsTrace trace made.lines.items streams status) ok.3
-          (subst (λ (lines : List ℕ). PrintsTrace answer.trace lines streams status) ok.2 printed.1),
+          (subst (λ (lines : List ℕ). PrintsTrace answer.trace lines streams status) ok.2 (prints (own.0 ∙ ok.1))),
     )
-traced_end taken (Ok made) answer saved streams status ok err (inl own) (inr quiet) = absurd (quiet.0 (own.0 ∙ ok.1))
-traced_end taken (Ok made) answer saved streams status ok err (inr file) (inl printed) =
-    absurd (elim file.1 [ inl three ↦ omega (arith, three, printed.0) | inr four ↦ omega (arith, four, printed.0) ])
-traced_end taken (Ok made) answer saved streams status ok err (inr file) (inr quiet) =
-    inr (
-      subst (λ (n : ℕ). (n ≡ 3) ⊎ (n ≡ 4)) (sym quiet.1.status) file.1,
-      quiet_same saved status (line_after answer.fault) made.lines.items streams status (sym quiet.1.status) ok.2 quiet.1,
-    )
-traced_end taken (Err fault) answer saved streams status ok err (inl own) (inl printed) =
+traced_end taken (Ok made) answer saved streams status ok err (inr (some, inl three)) quiet prints =
+    let still = quiet (λ e. absurd (omega (arith, three, e))) in
+    inr (inl (still.status ∙ three), quiet_same saved status (line_after answer.fault) made.lines.items streams status (sym still.status) ok.2 still)
+traced_end taken (Ok made) answer saved streams status ok err (inr (some, inr four)) quiet prints =
+    let still = quiet (λ e. absurd (omega (arith, four, e))) in
+    inr (inr (still.status ∙ four), quiet_same saved status (line_after answer.fault) made.lines.items streams status (sym still.status) ok.2 still)
+traced_end taken (Err fault) answer saved streams status ok err (inl own) quiet prints =
     let few = fault_few fault in
     let is = own.0 ∙ err.1 in
-    absurd (omega (arith, few.0, is, printed.0))
-traced_end taken (Err fault) answer saved streams status ok err (inl own) (inr quiet) =
-    quiet_same saved (fault_status fault) (line_after answer.fault) (fault_line fault) streams status (own.0 ∙ err.1) (ap line_after err.2) quiet.1
-traced_end taken (Err fault) answer saved streams status ok err (inr file) after = absurd (true≢false (sym (subst IsSome err.0 file.0)))
+    quiet_same saved (fault_status fault) (line_after answer.fault) (fault_line fault) streams status is (ap line_after err.2)
+    (quiet (λ e. absurd (omega (arith, few.0, is, e))))
+traced_end taken (Err fault) answer saved streams status ok err (inr file) quiet prints = absurd (true≢false (sym (subst IsSome err.0 file.0)))
 
 -- a quiet run ends, if its status is 1 to 4
 quiet_ends : (wanted : ℕ) (lines told : List ℕ) (streams : Streams) (status : ℕ) → 1 ≤ wanted → wanted ≤ 4 → IsQuiet wanted lines streams status

@@ -1,5 +1,5 @@
 -- The end of a command that saves a volume, and then prints the trace of its calls.
-use Rattle.std.specs.Prelude.{◌≡◌, ◌≢◌, ◌⊎◌, ℕ, true, List, Option, None, Some, Result, Ok, Err}
+use Rattle.std.specs.Prelude.{◌≡◌, ◌⊎◌, ℕ, true, List, Option, None, Some, Result, Ok, Err}
 use Rattle.std.specs.Global.{Vec}
 use Rattle.std.specs.Io.KnownBytes.{Appends, Keeps}
 use Rattle.pdp_words.specs.Devices.{AppendsFront}
@@ -27,11 +27,6 @@ PrintsText text lines streams status =
 abbrev pub PrintsTrace : Option (Vec ℕ) → List ℕ → Streams → ℕ → Type 0
 PrintsTrace None lines streams status = IsQuiet 0 lines streams status
 PrintsTrace (Some text) lines streams status = PrintsText text.items lines streams status
-
--- after the status of saving, a trace is printed if there is one and the status is 0, and otherwise nothing is (this project)
-abbrev pub PrintsAfter : ℕ → Option (Vec ℕ) → List ℕ → Streams → ℕ → Type 0
-PrintsAfter saved trace lines streams status =
-    ((saved ≡ 0) × PrintsTrace trace lines streams status) ⊎ ((saved ≢ 0) × IsQuiet saved lines streams status)
 
 -- the run of a command with this outcome ends: its bytes are saved, and then its trace is printed, if it has one; or they can't be saved, with the status
 -- for that, and nothing is printed; or its fault is reported, with the status for that, and nothing is printed (this project)

@@ -1,9 +1,9 @@
 //! Saves the result of a command in its file, and returns the exit status.
-ghost use Rattle.std.specs.Prelude.{◌≡◌, ◌⊎◌, IfErr, OnOk};
+ghost use Rattle.std.specs.Prelude.{◌≡◌, ◌≢◌, ◌⊎◌, IfErr, OnOk};
 ghost use Rattle.command_faults.specs.Faults.{line_after};
 ghost use Rattle.command_faults.specs.Streams.{ErrorStream, Hears, streams};
 ghost use Rattle.unixvol.specs.Runs.{IsStatusOfFileOrMemory, IsMadeAt, IsStored, EndsPlayed, EndsSaved, MadeSaved, SavesMade, host_files, made_in, new_place_at};
-ghost use Rattle.unixvol.specs.Traces.{EndsTraced, PrintsAfter, PrintsText};
+ghost use Rattle.unixvol.specs.Traces.{EndsTraced, IsQuiet, PrintsText, PrintsTrace};
 ghost use Rattle.host_files.specs.Save.{IsTaken, Saves};
 
 use crate::explain::{NamedFile, explain_no_memory, explain_unwritten};
@@ -66,9 +66,12 @@ pub fn save_traced<R: ImageFiles + Eprint + AllocGlobal, O: Sink>(
 }
 
 /// Prints the trace of an answer, if it has one and its bytes were saved, and returns the result of the run. `status` is the status of saving.
+#[tactic(auto, using(crate::proofs::Traced::kept_same))]
 fn print_trace<O: Sink>(answer: Answer, status: u8, output: &mut O) -> Ending
-    ensures { (errors : ErrorStream) → Hears errors result.fault
-        → PrintsAfter status answer.trace (line_after answer.fault) (streams O.contents O.failed output.old output.new errors) result.status }
+    ensures unsaved { status ≢ 0 → (errors : ErrorStream) → Hears errors result.fault
+        → IsQuiet status (line_after answer.fault) (streams O.contents O.failed output.old output.new errors) result.status }
+    ensures saved { status ≡ 0 → (errors : ErrorStream) → Hears errors result.fault
+        → PrintsTrace answer.trace (line_after answer.fault) (streams O.contents O.failed output.old output.new errors) result.status }
 {
     let Answer { trace, fault, .. } = answer;
     if status != DONE {

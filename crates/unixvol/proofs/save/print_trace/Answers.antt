@@ -1,3 +1,10 @@
-use Rattle.std.proofs.Common.{◌∙◌, inl, inr, refl, subst, sym}
+use Rattle.std.proofs.Common.{refl}
 use Rattle.std.proofs.KnownBytes.{Keeps-refl}
 use Rattle.unixvol.proofs.save.print_trace.Goals as goal
+
+pub returns-in-Some-clause-saved : goal.returns-in-Some-clause-saved
+returns-in-Some-clause-saved g c zero errors hears = rw c.in-Some.is (rw c.deref.ensures.value at (c.print_text.ensures errors hears))
+
+pub returns-in-None-clause-saved : goal.returns-in-None-clause-saved
+returns-in-None-clause-saved g c zero errors hears =
+    rw c.in-None.is (record { status = zero; kept = Keeps-refl (g.O.Sink.contents c.args.output.now); working = refl; said = hears })

@@ -2,11 +2,9 @@
 use Rattle.std.proofs.Common.{◌≡◌, ℕ, Bool, true, List, [], Option, Result, Ok, Err, IfOk, IfErr, refl, sym, subst}
 use Rattle.std.specs.Global.{Vec}
 use Rattle.vol_dir.specs.Tree.{Tree}
-use Rattle.vol_import.specs.Make.{IsReason as IsStopped}
 use Rattle.vol_import.specs.declared.make.ImportFault.{ImportFault}
 use Rattle.vol_import.specs.declared.make.ImportFault.TheVariants as imports
-use Rattle.vol_removal.specs.Remove.{RemovesTo, IsReason as IsUnremoved}
-use Rattle.vol_removal.specs.declared.faults.RemovalFault.TheVariants as removals
+use Rattle.vol_removal.specs.Remove.{RemovesTo}
 use Rattle.vol_volume.specs.Volume.{Mounted, reads_as}
 use Rattle.vol_layout.specs.declared.edition.Edition.{Edition}
 use Rattle.vol_volume.specs.declared.calls.Call.{Call}
@@ -18,6 +16,8 @@ use Rattle.command_faults.specs.declared.fault.Fault.{Fault}
 use Rattle.command_changes.specs.Changes.{of_calls, of_calls_leaving, of_removal}
 use Rattle.command_changes.specs.Import.{IsUnimported, of_import}
 use Rattle.command_changes.specs.Rm.{IsCause}
+use Rattle.command_changes.proofs.Imported.{memory_reason}
+use Rattle.command_changes.proofs.Removed.{memory_caused}
 use Rattle.command_changes.specs.Traced.{ImportsVolume, IsTraced, IsTracedVolume, MakesVolume}
 
 -- the outcome of a command that leaves a volume, or a fault
@@ -43,7 +43,7 @@ pub calls_among : (edition : Edition) (image : List ℕ) (calls : List Call) (wa
     → given ≡ made → IfOk made (MakesVolume edition image calls) → IfErr made (IsReason edition image calls) → IsTracedFrom wanted given outcome
     → IsAmong (of_calls edition image calls wanted) outcome
 calls_among edition image calls wanted made given outcome is ok err from =
-    volume_among _ (IsReason edition image calls) (MakesVolume edition image calls) wanted made outcome
+    volume_among (of_calls edition image calls wanted).saves (IsReason edition image calls) (MakesVolume edition image calls) wanted made outcome
     (λ volume trace makes traced. (makes.0, (volume, makes.1, refl, traced))) tt ok err
     (subst (λ (r : Result Mounted Fault). IsTracedFrom wanted r outcome) is from)
 
@@ -53,35 +53,25 @@ pub leaving_among : (edition : Edition) (image : List ℕ) (calls : List Call) (
     → IfOk made (MakesVolume edition image calls) → IfErr made (IsReason edition image calls) → IsTracedFrom wanted given outcome
     → IsAmong (of_calls_leaving edition image calls leaves wanted) outcome
 leaving_among edition image calls leaves wanted made given outcome is all ok err from =
-    volume_among _ (IsReason edition image calls) (MakesVolume edition image calls) wanted made outcome
+    volume_among (of_calls_leaving edition image calls leaves wanted).saves (IsReason edition image calls) (MakesVolume edition image calls) wanted made outcome
     (λ volume trace makes traced. (makes.0, all volume.image makes.0, (volume, makes.1, refl, traced))) tt ok err
     (subst (λ (r : Result Mounted Fault). IsTracedFrom wanted r outcome) is from)
-
--- running out of memory is always a reason not to remove a path
-unremoved : (edition : Edition) (image path : List ℕ) (now : ℕ) → IsUnremoved edition image path now removals.NoMemory
-unfolding IsUnremoved
-unremoved edition image path now = tt
 
 -- the outcome of `rm -r`
 pub removal_among : (edition : Edition) (image path : List ℕ) (now : ℕ) (wanted : Bool) (made given : Result Mounted Fault) (outcome : Result Remarked Fault)
     → given ≡ made → IfOk made (RemovesTo edition image path now) → IfErr made (IsCause edition image path now) → IsTracedFrom wanted given outcome
     → IsAmong (of_removal edition image path now wanted) outcome
 removal_among edition image path now wanted made given outcome is ok err from =
-    volume_among _ (IsCause edition image path now) (RemovesTo edition image path now) wanted made outcome
+    volume_among (of_removal edition image path now wanted).saves (IsCause edition image path now) (RemovesTo edition image path now) wanted made outcome
     (λ volume trace makes traced. (makes.removes, (volume, makes.accepts, refl, traced)))
-    (record { why = removals.NoMemory; is = refl; reason = unremoved edition image path now }) ok err
+    (memory_caused edition image path now) ok err
     (subst (λ (r : Result Mounted Fault). IsTracedFrom wanted r outcome) is from)
-
--- running out of memory is always a reason not to make the calls of an import
-unstopped : (edition : Edition) (image : List ℕ) (calls : Result (List Call) ImportFault) → IsStopped edition image calls imports.NoMemory
-unfolding IsStopped
-unstopped edition image calls = tt
 
 -- the outcome of the calls of an import
 pub import_among : (edition : Edition) (image : List ℕ) (calls : Result (List Call) ImportFault) (wanted : Bool) (made : Result Mounted Fault)
     (outcome : Result Remarked Fault) → IfOk made (ImportsVolume edition image calls) → IfErr made (IsUnimported edition image calls)
     → IsTracedFrom wanted made outcome → IsAmong (of_import edition image calls wanted) outcome
 import_among edition image calls wanted made outcome ok err from =
-    volume_among _ (IsUnimported edition image calls) (ImportsVolume edition image calls) wanted made outcome
+    volume_among (of_import edition image calls wanted).saves (IsUnimported edition image calls) (ImportsVolume edition image calls) wanted made outcome
     (λ volume trace makes traced. (makes.0, (volume, makes.1, refl, traced)))
-    (imports.NoMemory, unstopped edition image calls, refl, refl) ok err from
+    (imports.NoMemory, memory_reason edition image calls, (refl, refl)) ok err from

@@ -1,5 +1,5 @@
 -- The outcome of a command that made calls on a volume, with their trace.
-use Rattle.std.proofs.Common.{◌≡◌, ℕ, Bool, true, List, [], Option, Result, Ok, Err, IfOk, IfErr, refl, sym, subst}
+use Rattle.std.proofs.Common.{◌≡◌, ℕ, Bool, List, [], Option, Result, Ok, Err, IfOk, IfErr, refl, sym, subst}
 use Rattle.std.specs.Global.{Vec}
 use Rattle.vol_dir.specs.Tree.{Tree}
 use Rattle.vol_import.specs.declared.make.ImportFault.{ImportFault}

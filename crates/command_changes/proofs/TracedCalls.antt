@@ -1,11 +1,10 @@
 -- The outcome of a command that made calls on a volume, with their trace.
 use Rattle.std.proofs.Common.{◌≡◌, ℕ, Bool, List, [], Option, Result, Ok, Err, IfOk, IfErr, refl, sym, subst}
 use Rattle.std.specs.Global.{Vec}
-use Rattle.vol_dir.specs.Tree.{Tree}
 use Rattle.vol_import.specs.declared.make.ImportFault.{ImportFault}
 use Rattle.vol_import.specs.declared.make.ImportFault.TheVariants as imports
 use Rattle.vol_removal.specs.Remove.{RemovesTo}
-use Rattle.vol_volume.specs.Volume.{Mounted, reads_as}
+use Rattle.vol_volume.specs.Volume.{Mounted}
 use Rattle.vol_layout.specs.declared.edition.Edition.{Edition}
 use Rattle.vol_volume.specs.declared.calls.Call.{Call}
 use Rattle.command_faults.specs.ChangeFaults.{IsReason, Makes}
@@ -13,12 +12,12 @@ use Rattle.command_faults.specs.Faults.{no_memory}
 use Rattle.command_faults.specs.Outcomes.{IsAmong}
 use Rattle.command_faults.specs.declared.answer.Remarked.{Remarked}
 use Rattle.command_faults.specs.declared.fault.Fault.{Fault}
-use Rattle.command_changes.specs.Changes.{of_calls, of_calls_leaving, of_removal}
+use Rattle.command_changes.specs.Changes.{of_calls, of_removal}
 use Rattle.command_changes.specs.Import.{IsUnimported, of_import}
 use Rattle.command_changes.specs.Rm.{IsCause}
 use Rattle.command_changes.proofs.Imported.{memory_reason}
 use Rattle.command_changes.proofs.Removed.{memory_caused}
-use Rattle.command_changes.specs.Traced.{ImportsVolume, IsTraced, IsTracedVolume, MakesVolume}
+use Rattle.command_changes.specs.Traced.{ImportsVolume, IsTraced, IsTracedVolume, MakesVolume, TracesCalls}
 
 -- the outcome of a command that leaves a volume, or a fault
 abbrev pub IsTracedFrom : Bool → Result Mounted Fault → Result Remarked Fault → Type 0
@@ -47,13 +46,18 @@ calls_among edition image calls wanted made given outcome is ok err from =
     (λ volume trace makes traced. (makes.0, (volume, makes.1, refl, traced))) tt ok err
     (subst (λ (r : Result Mounted Fault). IsTracedFrom wanted r outcome) is from)
 
--- the outcome of calls that leave a tree of this kind
-pub leaving_among : (edition : Edition) (image : List ℕ) (calls : List Call) (leaves : Tree → Type 0) (wanted : Bool) (made given : Result Mounted Fault)
-    (outcome : Result Remarked Fault) → given ≡ made → ((bytes : List ℕ) → Makes edition image calls bytes → leaves (reads_as edition bytes).tree)
+-- the outcome of calls that leave bytes of this kind
+pub leaving_among : (edition : Edition) (image : List ℕ) (calls : List Call) (leaves : List ℕ → Type 0) (wanted : Bool) (made given : Result Mounted Fault)
+    (outcome : Result Remarked Fault) → given ≡ made → ((bytes : List ℕ) → Makes edition image calls bytes → leaves bytes)
     → IfOk made (MakesVolume edition image calls) → IfErr made (IsReason edition image calls) → IsTracedFrom wanted given outcome
-    → IsAmong (of_calls_leaving edition image calls leaves wanted) outcome
+    → IsAmong (record {
+      saves = λ bytes text. Makes edition image calls bytes × leaves bytes × TracesCalls wanted edition image calls bytes text;
+      lines = [];
+      fails = IsReason edition image calls;
+    }) outcome
 leaving_among edition image calls leaves wanted made given outcome is all ok err from =
-    volume_among (of_calls_leaving edition image calls leaves wanted).saves (IsReason edition image calls) (MakesVolume edition image calls) wanted made outcome
+    volume_among (λ bytes text. Makes edition image calls bytes × leaves bytes × TracesCalls wanted edition image calls bytes text)
+    (IsReason edition image calls) (MakesVolume edition image calls) wanted made outcome
     (λ volume trace makes traced. (makes.0, all volume.image makes.0, (volume, makes.1, refl, traced))) tt ok err
     (subst (λ (r : Result Mounted Fault). IsTracedFrom wanted r outcome) is from)
 

@@ -23,7 +23,7 @@ returns c = elim c.match-change.branch [
       rw w.in-Put.is (leaving_among _ _ _ _ _ _ _ _ w.made-is (λ bytes makes. put_leaves _ _ bytes _ _ _ _ makes) w.put-made.ensures.made w.put-made.ensures.fault (c.traced.ensures.made, c.traced.ensures.memory, c.traced.ensures.fault))
   | in-RmAll w ↦ rw w.in-RmAll.is (removal_among _ _ _ _ _ _ _ _ w.made-is w.rm_all-made.ensures.removed w.rm_all-made.ensures.fault (c.traced.ensures.made, c.traced.ensures.memory, c.traced.ensures.fault))
   | in-MkdirAll w ↦
-      rw w.in-MkdirAll.is (leaving_among _ _ _ _ _ _ _ _ w.made-is (λ bytes makes plain. directories_leave _ _ bytes _ _ plain makes) w.mkdir_all-made.ensures.made w.mkdir_all-made.ensures.fault (c.traced.ensures.made, c.traced.ensures.memory, c.traced.ensures.fault))
+      rw w.in-MkdirAll.is (leaving_among _ _ _ _ _ _ _ _ w.made-is (λ bytes makes. directories_leave _ _ bytes _ _ makes) w.mkdir_all-made.ensures.made w.mkdir_all-made.ensures.fault (c.traced.ensures.made, c.traced.ensures.memory, c.traced.ensures.fault))
   | in-Mv w ↦
       rw w.in-Mv.is (leaving_among _ _ _ _ _ _ _ _ w.made-is (λ bytes makes. move_leaves _ _ bytes _ _ _ makes) w.mv-made.ensures.made w.mv-made.ensures.fault (c.traced.ensures.made, c.traced.ensures.memory, c.traced.ensures.fault))
   | in-Touch w ↦

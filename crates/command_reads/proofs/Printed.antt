@@ -1,79 +1,89 @@
 -- The result of printing a text.
-use Rattle.std.proofs.Common.{◌≡◌, ℕ, true, List, [], Option, None, Some, Result, Ok, Err, IfOk, IfErr, inl, inr, refl, subst}
+use Rattle.std.proofs.Common.{◌≡◌, ℕ, ◌==◌, if◌then◌else◌, List, [], length, Option, None, Some, Result, Ok, Err, IfOk, IfErr, inl, inr, refl, subst, sym}
 use Rattle.std.specs.Prelude.{OnOk, String}
 use Rattle.std.specs.Global.{Vec}
 use Rattle.std.specs.String.{string_bytes}
 use Rattle.std.specs.declared.alloc.Global.{Global}
-use Rattle.std.specs.Io.KnownBytes.{Appends, Keeps}
+use Rattle.std.specs.Io.KnownBytes.{Keeps}
 use Rattle.std.proofs.KnownBytes.{Keeps-refl}
-use Rattle.pdp_words.specs.Devices.{AppendsFront}
-use Rattle.vol_archive.specs.Write.{Writes}
+use Rattle.vol_archive.specs.Write.{StopsShort, Writes}
 use Rattle.vol_archive.specs.declared.write.WriteFault.{WriteFault}
 use Rattle.vol_archive.specs.declared.write.WriteFault.TheVariants as writes
-use Rattle.command_faults.specs.Faults.{fault_line, fault_status, line_after}
+use Rattle.command_faults.specs.Faults.{fault_status, line_after}
 use Rattle.command_faults.specs.Streams.{Streams}
 use Rattle.command_faults.specs.declared.fault.Fault.{Fault}
-use Rattle.command_faults.specs.declared.fault.Fault.TheVariants as faults
 use Rattle.command_reads.specs.Export.{unwritten}
-use Rattle.command_reads.specs.Print.{IsTold, Prints, PrintsInPieces, PrintsWith, PrintsOne}
+use Rattle.command_reads.specs.Print.{IsPlainString, IsPlainText, IsSight, IsTold, PrintsInPieces, PrintsTelling, Shows, Sights, plainly}
+use Rattle.command_reads.specs.declared.print.Shown.{Shown}
 
--- if all bytes of a text were written, the text is printed
-pub printed : (wanted : ℕ) (streams : Streams) (text bytes : List ℕ) → bytes ≡ text → Appends streams.old streams.new bytes
-    → streams.failed ≡ streams.had_failed → streams.said [] → PrintsWith wanted streams text wanted
-printed wanted streams text bytes is whole working said = inl (record {
-  status = refl;
-  whole = subst (Appends streams.old streams.new) is whole;
-  working = working;
-  said = said;
-})
+-- if what a command shows is one of the possible texts or faults and is printed, one of them is printed
+pub showing : (sights : Sights) (streams : Streams) (given shown : Result Shown Fault) (status : ℕ) → given ≡ shown → IsSight sights shown
+    → IfOk given (λ shown. PrintsTelling shown.ending.status (line_after shown.ending.fault) streams shown.text.items status)
+    → IfErr given (λ fault. IsTold streams fault status) → Shows sights streams status
+showing sights streams given shown status is sight printed told = go given (subst (IsSight sights) (sym is) sight) printed told
+  where
+    go : (given : Result Shown Fault) → IsSight sights given
+        → IfOk given (λ shown. PrintsTelling shown.ending.status (line_after shown.ending.fault) streams shown.text.items status)
+        → IfErr given (λ fault. IsTold streams fault status) → Shows sights streams status
+    go (Ok shown) sight printed told = inl (shown.text.items, shown.ending.status, line_after shown.ending.fault, sight, printed)
+    go (Err fault) sight printed told = inr (fault, sight, told)
 
--- if standard output failed after a prefix of a text was written, exactly this prefix was printed
-pub broken : (wanted : ℕ) (streams : Streams) (text bytes : List ℕ) (count status : ℕ) → bytes ≡ text → AppendsFront streams.old streams.new bytes count
-    → streams.failed ≡ true → status ≡ 3 → streams.said (fault_line faults.Output) → PrintsWith wanted streams text status
-broken wanted streams text bytes count status is front fails state said = inr (record {
-  status = state;
-  front = (count, subst (λ xs. AppendsFront streams.old streams.new xs count) is front);
-  broken = fails;
-  said = said;
-})
+-- a text with status 0 and no lines, or a fault, is one of the possible ones
+pub plain_sight : (is_text : List ℕ → Type 0) (is_fault : Fault → Type 0) (text : Result (Vec ℕ) Fault) (shown : Result Shown Fault)
+    → IfOk text (λ text. is_text text.items) → IfErr text is_fault → IsPlainText text shown → IsSight (plainly is_text is_fault) shown
+plain_sight is_text is_fault (Ok text) (Ok shown) ok err is = ((subst is_text (sym is.0) ok, is.1), is.2)
+plain_sight is_text is_fault (Ok text) (Err fault) ok err is = absurd is
+plain_sight is_text is_fault (Err fault) (Ok shown) ok err is = absurd is
+plain_sight is_text is_fault (Err fault) (Err told) ok err is = subst is_fault (sym is) err
 
--- the text is printed, or its fault is reported
-pub one_of : (IsText : List ℕ → Type 0) (IsFault : Fault → Type 0) (streams : Streams) (status : ℕ) (text : Result (String Global) Fault)
-    → IfOk text (λ t. IsText (string_bytes t)) → IfErr text IsFault → IfOk text (λ t. Prints streams (string_bytes t) status)
-    → IfErr text (λ fault. IsTold streams fault status) → PrintsOne IsText IsFault streams status
-one_of IsText IsFault streams status (Ok t) is why prints told = inl (string_bytes t, is, prints)
-one_of IsText IsFault streams status (Err fault) is why prints told = inr (fault, why, told)
-
--- the same holds for a text of any bytes
-pub one_of_bytes : (IsText : List ℕ → Type 0) (IsFault : Fault → Type 0) (streams : Streams) (status : ℕ) (text : Result (Vec ℕ) Fault)
-    → IfOk text (λ t. IsText t.items) → IfErr text IsFault → IfOk text (λ t. Prints streams t.items status)
-    → IfErr text (λ fault. IsTold streams fault status) → PrintsOne IsText IsFault streams status
-one_of_bytes IsText IsFault streams status (Ok t) is why prints told = inl (t.items, is, prints)
-one_of_bytes IsText IsFault streams status (Err fault) is why prints told = inr (fault, why, told)
+-- so is a string
+pub string_sight : (is_text : List ℕ → Type 0) (is_fault : Fault → Type 0) (text : Result (String Global) Fault) (shown : Result Shown Fault)
+    → IfOk text (λ text. is_text (string_bytes text)) → IfErr text is_fault → IsPlainString text shown → IsSight (plainly is_text is_fault) shown
+string_sight is_text is_fault (Ok text) (Ok shown) ok err is = ((subst is_text (sym is.0) ok, is.1), is.2)
+string_sight is_text is_fault (Ok text) (Err fault) ok err is = absurd is
+string_sight is_text is_fault (Err fault) (Ok shown) ok err is = absurd is
+string_sight is_text is_fault (Err fault) (Err told) ok err is = subst is_fault (sym is) err
 
 -- if nothing is written, the contents of a stream stay the same
 pub kept_same : (known : Option (List ℕ)) → Keeps known known
 kept_same known = Keeps-refl known
 
+-- a fault that is reported before anything is printed
+pub told_only : (streams : Streams) (fault : Fault) (told : Option Fault) (status : ℕ) → Keeps streams.old streams.new → streams.failed ≡ streams.had_failed
+    → (status ≡ fault_status fault) × (told ≡ Some fault) → streams.said (line_after told) → IsTold streams fault status
+told_only streams fault told status kept working is said = record {
+  status = is.0;
+  kept = kept;
+  working = working;
+  said = subst (λ t. streams.said (line_after t)) is.1 said;
+}
+
+-- a text that wasn't written whole, piece by piece, is printed so
+pub cut_off : (wanted : ℕ) (lines : List ℕ) (streams : Streams) (text : List ℕ) (status : ℕ) (told : Option Fault) (fault : WriteFault)
+    → StopsShort streams.old streams.new streams.failed text fault
+    → (status ≡ fault_status (unwritten fault)) × (told ≡ Some (unwritten fault)) → streams.said (line_after told)
+    → PrintsInPieces wanted lines streams text status
+cut_off wanted lines streams text status told writes.NoMemory cut why said = inr (record {
+  status = why.0;
+  front = (cut.count, cut.front);
+  said = subst (λ t. streams.said (line_after t)) why.1 said;
+})
+cut_off wanted lines streams text status told writes.Output cut why said = inl (inr (record {
+  status = why.0;
+  front = (cut.count, cut.front);
+  broken = cut.cause refl;
+  said = subst (λ t. streams.said (line_after t)) why.1 said;
+}))
+
 -- a text that was written piece by piece, whole or not, is printed so
 pub in_pieces : (wanted : ℕ) (streams : Streams) (text : List ℕ) (status : ℕ) (told : Option Fault) (written : Result (Unit {0}) WriteFault)
     → Writes streams.old streams.new streams.had_failed streams.failed text written → OnOk written ((status ≡ wanted) × (told ≡ None))
     → IfErr written (λ fault. (status ≡ fault_status (unwritten fault)) × (told ≡ Some (unwritten fault))) → streams.said (line_after told)
-    → PrintsInPieces wanted streams text status
+    → PrintsInPieces wanted [] streams text status
 in_pieces wanted streams text status told (Ok done) written whole why said = inl (inl (record {
   status = whole.0;
   whole = written.0;
   working = written.1;
   said = subst (λ t. streams.said (line_after t)) whole.1 said;
 }))
-in_pieces wanted streams text status told (Err writes.NoMemory) cut whole why said = inr (record {
-  status = why.0;
-  front = (cut.count, cut.front);
-  said = subst (λ t. streams.said (line_after t)) why.1 said;
-})
-in_pieces wanted streams text status told (Err writes.Output) cut whole why said = inl (inr (record {
-  status = why.0;
-  front = (cut.count, cut.front);
-  broken = cut.cause refl;
-  said = subst (λ t. streams.said (line_after t)) why.1 said;
-}))
+in_pieces wanted streams text status told (Err fault) cut whole why said = cut_off wanted [] streams text status told fault cut why said

@@ -3,13 +3,11 @@ use Rattle.std.proofs.Common.{◌≡◌, ◌∙◌, ◌⊎◌, ℕ, ◌==◌, Bo
 use Rattle.std.proofs.lemmas.Bool.{ne_eqb}
 use Rattle.vol_archive.specs.Write.{Writes}
 use Rattle.vol_archive.specs.declared.write.WriteFault.{WriteFault}
-use Rattle.vol_archive.specs.declared.write.WriteFault.TheVariants as writes
 use Rattle.vol_compare.specs.Members.{member_of, members}
 use Rattle.vol_compare.specs.Merge.{IsTreeText, all_of, merged_lines, rest_of, tree_lines}
 use Rattle.vol_compare.specs.declared.members.MetTree.{MetTree}
 use Rattle.vol_dir.specs.Walk.{is_nil}
 use Rattle.vol_layout.specs.declared.geometry.Geometry.{Geometry}
-use Rattle.std.specs.Io.KnownBytes.{Keeps}
 use Rattle.vol_layout.specs.Geometry.{geometry_read}
 use Rattle.vol_layout.specs.declared.edition.Edition.{Edition}
 use Rattle.command_faults.specs.Faults.{fault_status, line_after, no_memory}
@@ -17,9 +15,10 @@ use Rattle.command_faults.specs.Streams.{Streams}
 use Rattle.command_faults.specs.declared.fault.Fault.{Fault}
 use Rattle.command_reads.specs.Diff.{IsDiffFault, IsUnmeasuredImage, diff_status}
 use Rattle.command_reads.specs.Export.{unwritten}
-use Rattle.command_reads.specs.Print.{IsTold}
-use Rattle.command_reads.specs.TreeDiff.{AreRemarks, IsTreeDiff, IsTreeOf, PrintsTrees, ShowsTreeDiff, tree_status}
+use Rattle.command_reads.specs.Print.{PrintsInPieces, ShowsInPieces}
+use Rattle.command_reads.specs.TreeDiff.{AreRemarks, IsTreeDiff, IsTreeOf, tree_differences, tree_status}
 use Rattle.command_reads.specs.declared.diff.NamedImage.{NamedImage}
+use Rattle.command_reads.proofs.Printed.{cut_off}
 
 -- the members of a tree are those of its image
 met : (times : Bool) (g : Geometry) (image : List ℕ) (tree : MetTree) → IsTreeOf g image tree
@@ -50,34 +49,14 @@ pub printed_trees : (streams : Streams) (text lines : List ℕ) (status : ℕ) (
     → Writes streams.old streams.new streams.had_failed streams.failed text differ → IfOk differ (λ d. d ≡ not (is_nil text))
     → IfOk differ (λ d. status ≡ tree_status d) → IfOk differ (λ d. line_after told ≡ lines)
     → IfErr differ (λ fault. (status ≡ fault_status (unwritten fault)) × (told ≡ Some (unwritten fault))) → streams.said (line_after told)
-    → PrintsTrees text lines streams status
-printed_trees streams text lines status told (Ok d) written differs is line why said = inl (record {
+    → PrintsInPieces (diff_status text) lines streams text status
+printed_trees streams text lines status told (Ok d) written differs is line why said = inl (inl (record {
   status = is ∙ (ap tree_status differs ∙ status_of text);
   whole = written.0;
   working = written.1;
   said = subst streams.said line said;
-})
-printed_trees streams text lines status told (Err writes.NoMemory) cut differs is line why said = inr (inr (record {
-  status = why.0;
-  front = (cut.count, cut.front);
-  said = subst (λ t. streams.said (line_after t)) why.1 said;
 }))
-printed_trees streams text lines status told (Err writes.Output) cut differs is line why said = inr (inl (record {
-  status = why.0;
-  front = (cut.count, cut.front);
-  broken = cut.cause refl;
-  said = subst (λ t. streams.said (line_after t)) why.1 said;
-}))
-
--- a fault that was reported before anything was printed
-pub told_only : (streams : Streams) (fault : Fault) (told : Option Fault) (status : ℕ) → Keeps streams.old streams.new → streams.failed ≡ streams.had_failed
-    → (status ≡ fault_status fault) × (told ≡ Some fault) → streams.said (line_after told) → IsTold streams fault status
-told_only streams fault told status kept working is said = record {
-  status = is.0;
-  kept = kept;
-  working = working;
-  said = subst (λ t. streams.said (line_after t)) is.1 said;
-}
+printed_trees streams text lines status told (Err fault) cut differs is line why said = cut_off (diff_status text) lines streams text status told fault cut why said
 
 -- the reason why the first image isn't measured is one why there are no differences
 pub first_unmeasured : (edition : Edition) (old new : NamedImage) (bytes : List ℕ) (fault : Fault) → bytes ≡ old.bytes.items
@@ -95,16 +74,21 @@ second_unmeasured edition old new bytes fault same (inr memory) = inr (inr memor
 pub shows : (edition : Edition) (old new : NamedImage) (times : Bool) (streams : Streams) (status : ℕ) (g h : Geometry) (before after : List ℕ)
     (was is : MetTree) (lines : List ℕ) → before ≡ old.bytes.items → after ≡ new.bytes.items → geometry_read edition before ≡ Ok g
     → geometry_read edition after ≡ Ok h → IsTreeOf g before was → IsTreeOf h after is
-    → AreRemarks edition before old.name.now after new.name.now lines → PrintsTrees (tree_lines times was is) lines streams status
-    → ShowsTreeDiff edition old new times streams status
+    → AreRemarks edition before old.name.now after new.name.now lines
+    → PrintsInPieces (diff_status (tree_lines times was is)) lines streams (tree_lines times was is) status
+    → ShowsInPieces (tree_differences edition old new times) streams status
 shows edition old new times streams status g h before after was is lines old_is new_is g_is h_is was_met is_met remarks prints =
     let text = tree_lines times was is in
     inl (
       text,
+      diff_status text,
       lines,
-      subst (λ b. IsTreeDiff edition b new.bytes.items times text) old_is
-          (subst (λ a. IsTreeDiff edition before a times text) new_is (g, g_is, (h, h_is, compares times g before h after was is was_met is_met))),
-      subst (λ b. AreRemarks edition b old.name.now new.bytes.items new.name.now lines) old_is
-          (subst (λ a. AreRemarks edition before old.name.now a new.name.now lines) new_is remarks),
+      (
+        subst (λ b. IsTreeDiff edition b new.bytes.items times text) old_is
+            (subst (λ a. IsTreeDiff edition before a times text) new_is (g, g_is, (h, h_is, compares times g before h after was is was_met is_met))),
+        subst (λ b. AreRemarks edition b old.name.now new.bytes.items new.name.now lines) old_is
+            (subst (λ a. AreRemarks edition before old.name.now a new.name.now lines) new_is remarks),
+        refl,
+      ),
       prints,
     )

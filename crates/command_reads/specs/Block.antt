@@ -11,10 +11,8 @@ use Rattle.vol_inspect.specs.declared.owners.Owner.TheVariants as owners
 use Rattle.vol_layout.specs.Geometry.{geometry_read}
 use Rattle.vol_layout.specs.declared.edition.Edition.{Edition}
 use Rattle.vol_layout.specs.declared.geometry.Geometry.{Geometry}
-use Rattle.command_faults.specs.Streams.{Streams}
 use Rattle.command_faults.specs.declared.fault.Fault.{Fault}
 use Rattle.command_reads.specs.Faults.{uninspected}
-use Rattle.command_reads.specs.Print.{PrintsOne}
 use Rattle.command_reads.specs.declared.looks.OutputForm.{OutputForm}
 use Rattle.command_reads.specs.declared.looks.OutputForm.TheVariants as forms
 use Rattle.vol_listing.specs.Json.{count}
@@ -60,7 +58,3 @@ IsBlockText edition image block form text =
 -- the reason why the owners aren't shown (this project)
 abbrev pub IsBlockFault : Edition → List ℕ → ℕ → Fault → Type 0
 IsBlockFault edition image block fault = (why : InspectFault) × InspectsBlock edition image block (Err why) × (fault ≡ uninspected why)
-
--- the owners of a block are shown, or a fault is reported (this project)
-abbrev pub ShowsBlock : Edition → List ℕ → ℕ → OutputForm → Streams → ℕ → Type 0
-ShowsBlock edition image block form streams status = PrintsOne (IsBlockText edition image block form) (IsBlockFault edition image block) streams status

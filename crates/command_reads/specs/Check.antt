@@ -1,5 +1,5 @@
 -- The check of the rules of soundness.
-use Rattle.std.specs.Prelude.{◌≡◌, ◌⊎◌, IsTrue, ◌↔◌, ℕ, ◌&&◌, Bool, true, false, not, if◌then◌else◌, List}
+use Rattle.std.specs.Prelude.{◌≡◌, IsTrue, ◌↔◌, ℕ, ◌&&◌, Bool, true, false, not, if◌then◌else◌, List}
 use Rattle.std.specs.Result.{is_ok}
 use Rattle.vol_layout.specs.Geometry.{geometry_read}
 use Rattle.vol_findings.specs.Outcomes.{Tells}
@@ -8,9 +8,8 @@ use Rattle.vol_findings.specs.declared.outcome.RuleOutcomes.{RuleOutcomes}
 use Rattle.vol_judge.specs.Sound.{IsSound}
 use Rattle.vol_layout.specs.declared.edition.Edition.{Edition}
 use Rattle.command_faults.specs.Faults.{no_memory}
-use Rattle.command_faults.specs.Streams.{Streams}
 use Rattle.command_reads.specs.CheckJson.{report_json}
-use Rattle.command_reads.specs.Print.{IsTold, PrintsWith}
+use Rattle.command_reads.specs.Print.{Sights, silently}
 use Rattle.command_reads.specs.declared.looks.OutputForm.{OutputForm}
 use Rattle.command_reads.specs.declared.looks.OutputForm.TheVariants as forms
 
@@ -31,13 +30,8 @@ abbrev pub IsReportIn : OutputForm → Edition → List ℕ → List ℕ → Boo
 IsReportIn forms.Text edition image text sound = IsReport edition image text sound
 IsReportIn forms.Json edition image text sound = IsJsonReport edition image text sound
 
--- the report on an image is printed, with the status for its soundness (this project)
-pub record PrintsReport (edition : Edition) (image : List ℕ) (graded : Bool) (form : OutputForm) (streams : Streams) (status : ℕ) : Type 0 where
-  pub text : List ℕ
-  pub sound : Bool
-  pub report : IsReportIn form edition image text sound
-  pub prints : PrintsWith (verdict_status graded (is_ok (geometry_read edition image)) sound) streams text status
-
--- the report on an image is printed, or out of memory is reported (this project)
-abbrev pub Checks : Edition → List ℕ → Bool → OutputForm → Streams → ℕ → Type 0
-Checks edition image graded form streams status = PrintsReport edition image graded form streams status ⊎ IsTold streams no_memory status
+-- what `check` may come to: the report on an image, with the status for its soundness; or out of memory (this project)
+abbrev pub checked : Edition → List ℕ → Bool → OutputForm → Sights
+checked edition image graded form =
+    silently (λ text status. (sound : Bool) × IsReportIn form edition image text sound × (status ≡ verdict_status graded (is_ok (geometry_read edition image)) sound))
+    (λ fault. fault ≡ no_memory)

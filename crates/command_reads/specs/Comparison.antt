@@ -2,13 +2,15 @@
 use Rattle.std.specs.Prelude.{ℕ}
 use Rattle.vol_layout.specs.declared.edition.Edition.{Edition}
 use Rattle.command_faults.specs.Streams.{Streams}
-use Rattle.command_reads.specs.Diff.{ShowsDiff}
-use Rattle.command_reads.specs.TreeDiff.{ShowsTreeDiff}
+use Rattle.command_reads.specs.Diff.{field_differences}
+use Rattle.command_reads.specs.Print.{Shows, ShowsInPieces}
+use Rattle.command_reads.specs.TreeDiff.{tree_differences}
 use Rattle.command_reads.specs.declared.comparison.Comparison.{Comparison}
 use Rattle.command_reads.specs.declared.comparison.Comparison.TheVariants as comparisons
 use Rattle.command_reads.specs.declared.diff.NamedImage.{NamedImage}
 
--- the differences between two images are shown in this way, or a fault is reported (diff)
+-- two images are compared in this way: the differences between trees are shown piece by piece, and those between fields as a whole; or a fault is
+-- reported (diff)
 abbrev pub ShowsComparison : Edition → NamedImage → NamedImage → Comparison → Streams → ℕ → Type 0
-ShowsComparison edition old new (comparisons.Tree times) streams status = ShowsTreeDiff edition old new times streams status
-ShowsComparison edition old new (comparisons.Fields all) streams status = ShowsDiff edition old new all streams status
+ShowsComparison edition old new (comparisons.Tree times) streams status = ShowsInPieces (tree_differences edition old new times) streams status
+ShowsComparison edition old new (comparisons.Fields all) streams status = Shows (field_differences edition old new all) streams status

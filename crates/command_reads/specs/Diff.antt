@@ -7,19 +7,18 @@ use Rattle.vol_layout.specs.declared.geometry.Geometry.{Geometry}
 use Rattle.vol_layout.specs.declared.geometry.GeometryFault.{GeometryFault}
 use Rattle.vol_fields.specs.Differences.{IsDiffText}
 use Rattle.command_faults.specs.Faults.{fault_line, fault_status, no_memory}
-use Rattle.command_faults.specs.Streams.{Streams}
 use Rattle.command_faults.specs.declared.fault.Fault.{Fault}
 use Rattle.command_reads.specs.Dump.{all_roles}
 use Rattle.command_reads.specs.Faults.{broken_rule}
-use Rattle.command_reads.specs.Print.{IsTold, PrintsWith}
+use Rattle.command_reads.specs.Print.{Sights, silently}
 use Rattle.command_reads.specs.declared.diff.NamedImage.{NamedImage}
 
 -- the text is the differences between two images with these geometries, by the roles that their blocks have in them (this project)
 abbrev pub IsMappedText : Geometry → List ℕ → Geometry → List ℕ → Bool → List ℕ → Type 0
 IsMappedText g old h new all text = IsDiffText g (all_roles g old) old h (all_roles h new) new all text
 
--- the text is the differences between two images: by the laws of `vol_fields`, it is empty if and only if the images are equal byte for byte, and each
--- byte that differs is in a field of a line (this project)
+-- the text is the differences between two images: by the laws of `vol_fields`, it is empty if and only if the images are equal byte for byte, and
+-- each byte that differs is in a field of a line (this project)
 abbrev pub IsDiff : Edition → List ℕ → List ℕ → Bool → List ℕ → Type 0
 IsDiff edition old new all text =
     (g : Geometry) × (geometry_read edition old ≡ Ok g) × ((h : Geometry) × (geometry_read edition new ≡ Ok h) × IsMappedText g old h new all text)
@@ -50,11 +49,11 @@ IsDiffFault edition old new fault =
 abbrev pub diff_status : List ℕ → ℕ
 diff_status text = if length text == 0 then 0 else 1
 
--- the differences of two images are printed, or a fault is reported (this project)
-abbrev pub ShowsDiff : Edition → NamedImage → NamedImage → Bool → Streams → ℕ → Type 0
-ShowsDiff edition old new all streams status =
-    ((text : List ℕ) × IsDiff edition old.bytes.items new.bytes.items all text × PrintsWith (diff_status text) streams text status)
-    ⊎ ((fault : Fault) × IsDiffFault edition old new fault × IsTold streams fault status)
+-- what a comparison by fields may come to: the differences of two images, with status 1 if there are any; or the reason why there are none (this
+-- project)
+abbrev pub field_differences : Edition → NamedImage → NamedImage → Bool → Sights
+field_differences edition old new all =
+    silently (λ text status. IsDiff edition old.bytes.items new.bytes.items all text × (status ≡ diff_status text)) (IsDiffFault edition old new)
 
 -- the text of the differences is empty if and only if the images are equal byte for byte (this project's law)
 abbrev pub TellsNothingIfEqual : Type 0

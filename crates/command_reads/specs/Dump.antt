@@ -25,11 +25,9 @@ use Rattle.vol_fields.specs.declared.rows.Row.{Row}
 use Rattle.vol_listing.specs.Dates.{moment_text}
 use Rattle.vol_listing.specs.LongLines.{kind_letters}
 use Rattle.command_faults.specs.Faults.{no_memory}
-use Rattle.command_faults.specs.Streams.{Streams}
 use Rattle.command_faults.specs.declared.fault.Fault.{Fault}
 use Rattle.command_faults.specs.declared.fault.Fault.TheVariants as faults
 use Rattle.command_reads.specs.Faults.{unmeasured}
-use Rattle.command_reads.specs.Print.{PrintsOne}
 use Rattle.command_reads.specs.declared.dump.Span.{Span}
 use Rattle.command_reads.specs.declared.looks.DumpTarget.{DumpTarget}
 use Rattle.command_reads.specs.declared.looks.DumpTarget.TheVariants as targets
@@ -117,8 +115,3 @@ IsOutOfMemory edition image target fault =
 abbrev pub IsDumpFault : Edition → List ℕ → DumpTarget → Fault → Type 0
 IsDumpFault edition image target fault =
     IsUnmeasured edition image fault ⊎ (IsUnplaced edition image target fault ⊎ IsOutOfMemory edition image target fault)
-
--- the bytes of a block or an i-node are shown, or a fault is reported (this project)
-abbrev pub ShowsDump : Edition → List ℕ → DumpTarget → Radix → Streams → ℕ → Type 0
-ShowsDump edition image target radix streams status =
-    PrintsOne (IsDumpText edition image target radix) (IsDumpFault edition image target) streams status

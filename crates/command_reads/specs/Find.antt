@@ -1,5 +1,5 @@
 -- The command that prints the paths of everything below a directory.
-use Rattle.std.specs.Prelude.{◌≡◌, ◌⊎◌, ℕ, Bool, true, if◌then◌else◌, List, [], ◌∷◌, ◌++◌, codes, Option, None, Some, Ok}
+use Rattle.std.specs.Prelude.{◌≡◌, ℕ, Bool, true, if◌then◌else◌, List, [], ◌∷◌, ◌++◌, codes, Option, None, Some, Ok}
 use Rattle.std.specs.List.{flat_map}
 use Rattle.serde_json.specs.Data.{Data, member, no_members, object, string}
 use Rattle.escaped_text.specs.Escape.{escaped}
@@ -12,12 +12,8 @@ use Rattle.vol_listing.specs.Lines.{shown}
 use Rattle.vol_listing.specs.Listings.{shown_path}
 use Rattle.vol_listing.specs.Places.{joined}
 use Rattle.vol_listing.specs.declared.options.Screen.{Screen}
-use Rattle.command_faults.specs.Streams.{Streams}
-use Rattle.command_faults.specs.declared.fault.Fault.{Fault}
 use Rattle.command_reads.specs.Export.{AreFound as AreVisited, begun}
-use Rattle.command_reads.specs.Print.{IsTold, PrintsTelling}
 use Rattle.command_reads.specs.Remarks.{limit_lines}
-use Rattle.command_reads.specs.Sums.{IsManifestFault}
 use Rattle.command_reads.specs.declared.looks.OutputForm.{OutputForm}
 use Rattle.command_reads.specs.declared.looks.OutputForm.TheVariants as forms
 
@@ -57,9 +53,3 @@ pub record AreFound (edition : Edition) (image path : List ℕ) (pattern : Optio
   pub walk : AreVisited lost start.geometry image start.inode founds
   pub paths : text ≡ found_in screen pattern (shown_path path) founds form
   pub limits : lines ≡ limit_lines founds
-
--- the paths of everything below the directory at a path are printed, with status 5 if the walk stopped at one of them, or a fault is reported (find)
-abbrev pub Finds : Edition → List ℕ → List ℕ → Option (List ℕ) → Bool → OutputForm → Screen → Streams → ℕ → Type 0
-Finds edition image path pattern lost form screen streams status =
-    ((text : List ℕ) × (lines : List ℕ) × AreFound edition image path pattern lost form screen text lines × PrintsTelling 5 streams text lines status)
-    ⊎ ((fault : Fault) × IsManifestFault edition image path lost fault × IsTold streams fault status)

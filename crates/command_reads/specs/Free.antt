@@ -10,11 +10,9 @@ use Rattle.vol_inspect.specs.declared.free_chain.ChainReport.{ChainReport}
 use Rattle.vol_inspect.specs.declared.free_chain.FreeLink.{FreeLink}
 use Rattle.vol_layout.specs.declared.edition.Edition.{Edition}
 use Rattle.vol_listing.specs.Json.{count}
-use Rattle.command_faults.specs.Streams.{Streams}
 use Rattle.command_faults.specs.declared.fault.Fault.{Fault}
 use Rattle.command_reads.specs.Faults.{uninspected}
 use Rattle.command_reads.specs.Json.{counts}
-use Rattle.command_reads.specs.Print.{PrintsOne}
 use Rattle.command_reads.specs.SuperBlock.{fault_data}
 use Rattle.command_reads.specs.declared.looks.OutputForm.{OutputForm}
 use Rattle.command_reads.specs.declared.looks.OutputForm.TheVariants as forms
@@ -50,7 +48,3 @@ IsChainText edition image form text = (report : ChainReport) × InspectsChain ed
 -- the reason why the chain isn't shown (this project)
 abbrev pub IsChainFault : Edition → List ℕ → Fault → Type 0
 IsChainFault edition image fault = (why : InspectFault) × InspectsChain edition image (Err why) × (fault ≡ uninspected why)
-
--- the chain of the free list is shown, or a fault is reported (this project)
-abbrev pub ShowsFree : Edition → List ℕ → OutputForm → Streams → ℕ → Type 0
-ShowsFree edition image form streams status = PrintsOne (IsChainText edition image form) (IsChainFault edition image) streams status

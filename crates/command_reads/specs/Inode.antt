@@ -14,13 +14,11 @@ use Rattle.command_reads.specs.Json.{between_braces, counts, count_or_null, exte
 use Rattle.vol_inspect.specs.Inspect.{InspectsInode}
 use Rattle.vol_inspect.specs.declared.fault.InspectFault.{InspectFault}
 use Rattle.vol_layout.specs.declared.edition.Edition.{Edition}
-use Rattle.command_faults.specs.Streams.{Streams}
 use Rattle.command_faults.specs.declared.fault.Fault.{Fault}
 use Rattle.command_reads.specs.Faults.{uninspected}
-use Rattle.command_reads.specs.Node.{node_fault, number_of}
-use Rattle.command_reads.specs.Print.{IsTold, PrintsOne, PrintsOneInPieces}
+use Rattle.command_reads.specs.Node.{node_fault}
+use Rattle.command_reads.specs.Print.{Sights, plainly}
 use Rattle.command_reads.specs.declared.looks.OutputForm.{OutputForm}
-use Rattle.command_reads.specs.declared.looks.NodeName.{NodeName}
 use Rattle.command_reads.specs.declared.node.NodeFault.{NodeFault}
 use Rattle.command_reads.specs.declared.looks.OutputForm.TheVariants as forms
 
@@ -101,18 +99,7 @@ IsInodeText edition image number form text =
 abbrev pub IsInodeFault : Edition → List ℕ → ℕ → Fault → Type 0
 IsInodeFault edition image number fault = (why : InspectFault) × InspectsInode edition image number (Err why) × (fault ≡ uninspected why)
 
--- the i-node with a number is shown, as JSON piece by piece, or the reason why not is reported (this project)
-abbrev pub ShowsNumber : Edition → List ℕ → ℕ → Streams → ℕ → OutputForm → Type 0
-ShowsNumber edition image number streams status forms.Text =
-    PrintsOne (IsInodeText edition image number forms.Text) (IsInodeFault edition image number) streams status
-ShowsNumber edition image number streams status forms.Json =
-    PrintsOneInPieces (IsInodeText edition image number forms.Json) (IsInodeFault edition image number) streams status
-
--- the i-node whose number was found is shown, or the reason why there is none is reported (this project)
-abbrev pub ShowsFound : Edition → List ℕ → OutputForm → Streams → ℕ → Result ℕ NodeFault → Type 0
-ShowsFound edition image form streams status (Ok number) = ShowsNumber edition image number streams status form
-ShowsFound edition image form streams status (Err fault) = IsTold streams (node_fault fault) status
-
--- an i-node is shown, or a fault is reported (this project)
-abbrev pub ShowsInode : Edition → List ℕ → NodeName → OutputForm → Streams → ℕ → Type 0
-ShowsInode edition image node form streams status = ShowsFound edition image form streams status (number_of edition image node)
+-- what the look at an i-node may come to, given its number or the reason why there is none (this project)
+abbrev pub found : Edition → List ℕ → OutputForm → Result ℕ NodeFault → Sights
+found edition image form (Ok number) = plainly (IsInodeText edition image number form) (IsInodeFault edition image number)
+found edition image form (Err why) = plainly (λ text. ⊥) (λ fault. fault ≡ node_fault why)

@@ -11,9 +11,7 @@ use Rattle.vol_layout.specs.Geometry.{geometry_read}
 use Rattle.vol_layout.specs.declared.edition.Edition.{Edition}
 use Rattle.vol_layout.specs.declared.geometry.Geometry.{Geometry}
 use Rattle.vol_listing.specs.Json.{count}
-use Rattle.command_faults.specs.Streams.{Streams}
-use Rattle.command_reads.specs.Map.{uses_in, IsMapFault}
-use Rattle.command_reads.specs.Print.{PrintsOneInPieces}
+use Rattle.command_reads.specs.Map.{uses_in}
 use Rattle.command_reads.specs.declared.map_json.UseRun.{UseRun}
 
 -- a run with one more block (this project)
@@ -55,7 +53,3 @@ uses_json g image = runs_json (runs (uses_in g image))
 -- the uses of the blocks of the volume in an image (this project)
 abbrev pub AreUses : Edition → List ℕ → List ℕ → Type 0
 AreUses edition image text = (g : Geometry) × (geometry_read edition image ≡ Ok g) × (text ≡ uses_json g image)
-
--- the uses of the blocks are shown piece by piece, or a fault is reported (this project)
-abbrev pub ShowsUses : Edition → List ℕ → Streams → ℕ → Type 0
-ShowsUses edition image streams status = PrintsOneInPieces (AreUses edition image) (IsMapFault edition image) streams status

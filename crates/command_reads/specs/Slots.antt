@@ -17,10 +17,8 @@ use Rattle.vol_layout.specs.declared.slot.Slot.{Slot}
 use Rattle.vol_listing.specs.Json.{count}
 use Rattle.vol_listing.specs.Lines.{shown}
 use Rattle.vol_listing.specs.declared.options.Screen.{Screen}
-use Rattle.command_faults.specs.Streams.{Streams}
 use Rattle.command_faults.specs.declared.fault.Fault.{Fault}
 use Rattle.command_reads.specs.Export.{unstarted}
-use Rattle.command_reads.specs.Print.{PrintsOneInPieces}
 use Rattle.command_reads.specs.declared.looks.OutputForm.{OutputForm}
 use Rattle.command_reads.specs.declared.looks.OutputForm.TheVariants as forms
 use Rattle.command_reads.specs.declared.slots.SlotForm.{SlotForm}
@@ -92,8 +90,3 @@ pub record IsSlotsText (edition : Edition) (image path : List ℕ) (form : Outpu
 -- the reason why no slots are shown: the directory can't be reached (this project)
 abbrev pub IsSlotsFault : Edition → List ℕ → List ℕ → Fault → Type 0
 IsSlotsFault edition image path fault = (why : StartFault) × (start_of edition image path ≡ Err why) × (fault ≡ unstarted why)
-
--- the slots of the directory at a path are shown piece by piece, or a fault is reported (this project)
-abbrev pub ShowsSlots : Edition → List ℕ → List ℕ → OutputForm → Screen → Streams → ℕ → Type 0
-ShowsSlots edition image path form screen streams status =
-    PrintsOneInPieces (IsSlotsText edition image path form screen) (IsSlotsFault edition image path) streams status

@@ -8,10 +8,8 @@ use Rattle.vol_layout.specs.declared.edition.Edition.{Edition}
 use Rattle.vol_listing.specs.Listings.{shown_path}
 use Rattle.vol_listing.specs.Sums.{sums_json, sums_text}
 use Rattle.command_faults.specs.Faults.{no_memory}
-use Rattle.command_faults.specs.Streams.{Streams}
 use Rattle.command_faults.specs.declared.fault.Fault.{Fault}
 use Rattle.command_reads.specs.Export.{AreFound, begun, unstarted}
-use Rattle.command_reads.specs.Print.{IsTold, PrintsTelling}
 use Rattle.command_reads.specs.Remarks.{TellsAll}
 use Rattle.command_reads.specs.declared.looks.ExportOptions.{ExportOptions}
 use Rattle.command_reads.specs.declared.looks.OutputForm.{OutputForm}
@@ -41,9 +39,3 @@ pub record IsManifest (edition : Edition) (image path : List ℕ) (form : Output
 abbrev pub IsManifestFault : Edition → List ℕ → List ℕ → Bool → Fault → Type 0
 IsManifestFault edition image path lost fault =
     (fault ≡ no_memory) ⊎ ((why : StartFault) × (begun lost edition image path ≡ Err why) × (fault ≡ unstarted why))
-
--- the manifest of the directory at a path is printed, or a fault is reported (this project)
-abbrev pub Sums : Edition → List ℕ → List ℕ → OutputForm → Bool → Streams → ℕ → Type 0
-Sums edition image path form lost streams status =
-    ((text : List ℕ) × (lines : List ℕ) × IsManifest edition image path form lost text lines × PrintsTelling 1 streams text lines status)
-    ⊎ ((fault : Fault) × IsManifestFault edition image path lost fault × IsTold streams fault status)

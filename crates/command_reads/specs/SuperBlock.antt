@@ -12,10 +12,8 @@ use Rattle.vol_inspect.specs.Space.{in_use, space_text}
 use Rattle.vol_inspect.specs.Texts.{super_text}
 use Rattle.vol_inspect.specs.declared.fault.InspectFault.{InspectFault}
 use Rattle.vol_layout.specs.declared.edition.Edition.{Edition}
-use Rattle.command_faults.specs.Streams.{Streams}
 use Rattle.command_faults.specs.declared.fault.Fault.{Fault}
 use Rattle.command_reads.specs.Faults.{uninspected}
-use Rattle.command_reads.specs.Print.{PrintsOne}
 use Rattle.command_reads.specs.declared.looks.OutputForm.{OutputForm}
 use Rattle.command_reads.specs.declared.looks.OutputForm.TheVariants as forms
 use Rattle.command_reads.specs.declared.super_block.SuperPart.{SuperPart}
@@ -117,7 +115,3 @@ IsSuperText edition image part form text = (report : SuperReport) × InspectsSup
 -- the reason why the super-block of an image isn't shown (this project)
 abbrev pub IsSuperFault : Edition → List ℕ → Fault → Type 0
 IsSuperFault edition image fault = (why : InspectFault) × InspectsSuper edition image (Err why) × (fault ≡ uninspected why)
-
--- part of the report on the super-block is shown, or a fault is reported (this project)
-abbrev pub ShowsSuper : Edition → List ℕ → SuperPart → OutputForm → Streams → ℕ → Type 0
-ShowsSuper edition image part form streams status = PrintsOne (IsSuperText edition image part form) (IsSuperFault edition image) streams status

@@ -1,6 +1,5 @@
 -- The command that shows which paths of two images differ.
-use Rattle.std.specs.Prelude.{◌≡◌, ◌⊎◌, ℕ, Bool, true, if◌then◌else◌, List, [], ◌++◌, Option, None, Some, Ok}
-use Rattle.std.specs.Io.KnownBytes.{Appends}
+use Rattle.std.specs.Prelude.{◌≡◌, ℕ, Bool, true, if◌then◌else◌, List, [], ◌++◌, Option, None, Some, Ok}
 use Rattle.vol_layout.specs.Geometry.{geometry_read}
 use Rattle.vol_layout.specs.declared.edition.Edition.{Edition}
 use Rattle.vol_layout.specs.declared.geometry.Geometry.{Geometry}
@@ -8,10 +7,8 @@ use Rattle.vol_judge.specs.Sound.{IsJudged}
 use Rattle.vol_compare.specs.Members.{AreMet, root_entry}
 use Rattle.vol_compare.specs.Merge.{IsTreeText}
 use Rattle.vol_compare.specs.declared.members.MetTree.{MetTree}
-use Rattle.command_faults.specs.Streams.{Streams}
-use Rattle.command_faults.specs.declared.fault.Fault.{Fault}
 use Rattle.command_reads.specs.Diff.{IsDiffFault, diff_status, unsound_line}
-use Rattle.command_reads.specs.Print.{IsBrokenOff, IsCutShort, IsTold}
+use Rattle.command_reads.specs.Print.{Sights}
 use Rattle.command_reads.specs.declared.diff.NamedImage.{NamedImage}
 
 -- the tree of an image: its root, and all that a walk from it finds (find)
@@ -21,8 +18,8 @@ pub record IsTreeOf (g : Geometry) (bytes : List ℕ) (tree : MetTree) : Type 0 
   pub root : tree.root ≡ root_entry g bytes
   pub founds : AreMet g bytes tree.founds.items
 
--- the text is the differences between the trees of two images: by the law of `vol_compare`, it is empty if and only if they have the same members, no path
--- of which is too long to be followed (diff)
+-- the text is the differences between the trees of two images: by the law of `vol_compare`, it is empty if and only if they have the same members, no
+-- path of which is too long to be followed (diff)
 abbrev pub IsTreeDiff : Edition → List ℕ → List ℕ → Bool → List ℕ → Type 0
 IsTreeDiff edition old new times text =
     (g : Geometry) × (geometry_read edition old ≡ Ok g) × ((h : Geometry) × (geometry_read edition new ≡ Ok h) × IsTreeText times g old h new text)
@@ -46,22 +43,11 @@ AreRemarks edition old old_name new new_name lines =
 abbrev pub tree_status : Bool → ℕ
 tree_status differ = if differ then 1 else 0
 
--- a text is printed and lines are reported, with this status (this project)
-pub record IsPrintedBeside (wanted : ℕ) (streams : Streams) (text lines : List ℕ) (code : ℕ) : Type 0 where
-  pub status : code ≡ wanted
-  pub whole : Appends streams.old streams.new text
-  pub working : streams.failed ≡ streams.had_failed
-  pub said : streams.said lines
-
--- the differences between two trees are printed, with the remarks on the images; or standard output fails, or memory runs out, after a prefix of them
--- (this project)
-abbrev pub PrintsTrees : List ℕ → List ℕ → Streams → ℕ → Type 0
-PrintsTrees text lines streams status =
-    IsPrintedBeside (diff_status text) streams text lines status ⊎ (IsBrokenOff streams text status ⊎ IsCutShort streams text status)
-
--- the differences between the trees of two images are printed, or a fault is reported (this project)
-abbrev pub ShowsTreeDiff : Edition → NamedImage → NamedImage → Bool → Streams → ℕ → Type 0
-ShowsTreeDiff edition old new times streams status =
-    ((text : List ℕ) × (lines : List ℕ) × IsTreeDiff edition old.bytes.items new.bytes.items times text
-    × AreRemarks edition old.bytes.items old.name.now new.bytes.items new.name.now lines × PrintsTrees text lines streams status)
-    ⊎ ((fault : Fault) × IsDiffFault edition old new fault × IsTold streams fault status)
+-- what a comparison by trees may come to: the differences between the trees of two images, with status 1 if there are any and the lines of images
+-- that aren't sound; or the reason why there are none (this project)
+abbrev pub tree_differences : Edition → NamedImage → NamedImage → Bool → Sights
+tree_differences edition old new times = record {
+  shows = λ text status lines. IsTreeDiff edition old.bytes.items new.bytes.items times text
+      × AreRemarks edition old.bytes.items old.name.now new.bytes.items new.name.now lines × (status ≡ diff_status text);
+  fails = IsDiffFault edition old new;
+}

@@ -2,42 +2,23 @@
 ghost use Rattle.std.specs.Prelude.{◌≡◌, IfErr, IfOk, string_bytes};
 ghost use Rattle.serde_json.specs.View.{view};
 ghost use Rattle.vol_inspect.specs.OwnerTexts.{owners_text};
-ghost use Rattle.command_faults.specs.Streams.{streams, ErrorStream, Hears};
-ghost use Rattle.command_reads.specs.Block.{IsBlockFault, IsBlockText, ShowsBlock, owners_data, owners_in, owners_json};
+ghost use Rattle.command_reads.specs.Block.{IsBlockFault, IsBlockText, owners_data, owners_in, owners_json};
 
 use crate::faults::uninspected;
 use crate::json::list;
 use crate::looks::OutputForm;
-use crate::print::finish;
-use command_faults::{Ending, Fault};
-use pdp_words::{Image, Sink};
+use command_faults::Fault;
+use pdp_words::Image;
 use serde_json::{Value, json};
 use std::alloc::{AllocError, Global};
 use vol_inspect::{Owner, inspect_block, push_owners};
 use vol_layout::Edition;
 use vol_listing::json::{FORMAT, line};
 
-/// Shows the owners of a block of an image in which rules 1 and 2 hold, a line each or as one JSON object.
+/// Returns the owners of a block of an image in which rules 1 and 2 hold, a line each or as one JSON object.
 ///
 /// Takes the memory of [`inspect_block`], and memory for the text.
-pub(crate) fn show_block<O: Sink>(
-    alloc: Global,
-    edition: Edition,
-    image: Vec<u8>,
-    block: u32,
-    form: OutputForm,
-    output: &mut O,
-) -> Ending
-    ensures { (errors : ErrorStream) → Hears errors result.fault
-        → ShowsBlock edition image.items block form (streams O.contents O.failed output.old output.new errors) result.status }
-{
-    let image = Image::from_bytes(image);
-    let text = block_text(alloc, edition, &image, block, form);
-    finish(text, output)
-}
-
-/// Returns the text of the owners of a block.
-fn block_text(
+pub(crate) fn block_text(
     alloc: Global,
     edition: Edition,
     image: &Image,

@@ -1,44 +1,36 @@
 //! The command that checks an image against the rules of soundness.
-ghost use Rattle.std.specs.Prelude.{◌≡◌, IfErr, IfOk, OnErr, string_bytes};
-ghost use Rattle.command_faults.specs.Streams.{ErrorStream, Hears, streams};
-ghost use Rattle.command_reads.specs.Check.{verdict_status, Checks, IsJsonReport, IsReportIn};
+ghost use Rattle.std.specs.Prelude.{◌≡◌, IfOk, string_bytes};
+ghost use Rattle.command_reads.specs.Print.{IsSight};
+ghost use Rattle.command_reads.specs.Check.{checked, verdict_status, IsJsonReport, IsReportIn};
 
 use crate::check_json::report_json;
 use crate::looks::OutputForm;
-use crate::print::print_with;
+use crate::print::{Shown, silent};
 use crate::statuses::NO_VOLUME;
+use command_faults::Fault;
 use command_faults::status::{DONE, REFUSED};
-use command_faults::{Ending, Fault};
-use pdp_words::{Image, Sink};
+use pdp_words::Image;
 use std::alloc::{AllocError, Global};
 use vol_findings::{RuleReport, are_held, check_rules, lines_of, make_report};
 use vol_layout::{Edition, Geometry};
 
-/// Prints for each rule of soundness that an image keeps it, or its first violation, or that it can't be checked. The status is 0 if all twelve rules
-/// hold, else 1, or 6 if the status is graded and rule 1 or 2 is broken; 3 if `output` failed, 4 if memory ran out. The image may be any bytes.
-/// Nothing is printed until the whole report is ready.
+/// Returns for each rule of soundness that an image keeps it, or its first violation, or that it can't be checked. The status is 0 if all twelve
+/// rules hold, else 1, or 6 if the status is graded and rule 1 or 2 is broken. The image may be any bytes. Fails only if memory ran out.
 ///
 /// Takes the time and memory of [`make_report`].
-pub(crate) fn check<O: Sink>(
+pub(crate) fn check(
     alloc: Global,
     edition: Edition,
-    image: Vec<u8>,
+    image: &Image,
     graded: bool,
     form: OutputForm,
-    output: &mut O,
-) -> Ending
-    ensures { (errors : ErrorStream) → Hears errors result.fault
-        → Checks edition image.items graded form (streams O.contents O.failed output.old output.new errors) result.status }
+) -> Result<Shown, Fault>
+    ensures { IsSight (checked edition image.now graded form) result }
 {
-    let image = Image::from_bytes(image);
-    match report_in(alloc, edition, &image, form) {
-        Ok(report) => {
-            let geometry = Geometry::read(edition, &image);
-            let status = verdict_status(graded, geometry.is_ok(), report.is_sound);
-            print_with(report.text.as_bytes(), status, output)
-        }
-        Err(error) => Ending::from(Fault::from(error)),
-    }
+    let report = report_in(alloc, edition, image, form)?;
+    let geometry = Geometry::read(edition, image);
+    let status = verdict_status(graded, geometry.is_ok(), report.is_sound);
+    Ok(silent(report.text.into_bytes(), status))
 }
 
 /// Makes the report on an image in some form.

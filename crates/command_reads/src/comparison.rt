@@ -2,7 +2,8 @@
 ghost use Rattle.command_faults.specs.Streams.{ErrorStream, Hears, streams};
 ghost use Rattle.command_reads.specs.Comparison.{ShowsComparison};
 
-use crate::diff::{NamedImage, show_diff};
+use crate::diff::{NamedImage, diff_fields};
+use crate::print::print;
 use crate::tree_diff::show_tree_diff;
 use command_faults::Ending;
 use pdp_words::Sink;
@@ -18,7 +19,9 @@ pub enum Comparison {
     Fields { all: bool },
 }
 
-/// Shows how two images differ, as [`show_tree_diff`] and [`show_diff`] do.
+/// Shows how two images differ, one line each: their paths, as [`show_tree_diff`] does, or their fields. The images must keep rules 1 and 2, and may
+/// be any bytes otherwise. The status is 0 if they don't differ, 1 if they do or one of them breaks one of these rules; 3 if `output` failed, 4 if
+/// memory ran out. Of fields, nothing is printed until the whole text is ready.
 pub fn show_comparison<O: Sink>(
     alloc: Global,
     edition: Edition,
@@ -32,6 +35,6 @@ pub fn show_comparison<O: Sink>(
 {
     match by {
         Comparison::Tree { times } => show_tree_diff(alloc, edition, old, new, times, output),
-        Comparison::Fields { all } => show_diff(alloc, edition, old, new, all, output),
+        Comparison::Fields { all } => print(diff_fields(alloc, edition, old, new, all), output),
     }
 }

@@ -4,14 +4,14 @@ ghost use Rattle.std.specs.String.{string_bytes};
 ghost use Rattle.vol_layout.specs.Geometry.{Fits, geometry_read};
 ghost use Rattle.command_faults.specs.Faults.{no_memory};
 ghost use Rattle.command_reads.specs.Faults.{broken_rule};
-ghost use Rattle.command_faults.specs.Streams.{streams, ErrorStream, Hears};
-ghost use Rattle.command_reads.specs.Diff.{IsDiff, IsDiffFault, IsMappedText, IsUnmeasuredAt, IsUnmeasuredImage, ShowsDiff, diff_status, rule_start, unsound_line};
+ghost use Rattle.command_reads.specs.Diff.{IsDiff, IsDiffFault, IsMappedText, IsUnmeasuredAt, IsUnmeasuredImage, diff_status, field_differences, rule_start, unsound_line};
+ghost use Rattle.command_reads.specs.Print.{IsSight};
 
-use crate::print::print_with;
+use crate::print::{Shown, silent};
+use command_faults::Fault;
 use command_faults::status::DONE;
-use command_faults::{Ending, Fault};
 use escaped_text::push_escaped;
-use pdp_words::{Image, Sink};
+use pdp_words::Image;
 use std::alloc::{AllocError, Global};
 use vol_fields::{MappedImage, block_roles, diff_text};
 use vol_layout::{Edition, Geometry, GeometryFault};
@@ -28,26 +28,23 @@ pub struct NamedImage<'a> {
     pub bytes: Vec<u8>,
 }
 
-/// Shows the fields in which two images differ, one line each; with `all` also those of an array that are one line otherwise. The images must keep
-/// rules 1 and 2, and may be any bytes otherwise. The status is 0 if they are equal, 1 if they differ or one of them breaks one of these rules; 3 if
-/// `output` failed, 4 if memory ran out.
+/// Returns the fields in which two images differ, one line each; with `all` also those of an array that are one line otherwise. The images must keep
+/// rules 1 and 2, and may be any bytes otherwise. The status is 0 if they are equal, 1 if they differ. Fails if one of them breaks one of these
+/// rules, or if memory ran out.
 ///
 /// Takes the time and the memory of [`block_roles`] for each image, and memory for the text and the fields that differ.
-pub fn show_diff<O: Sink>(
+pub(crate) fn diff_fields(
     alloc: Global,
     edition: Edition,
     old: NamedImage<'_>,
     new: NamedImage<'_>,
     all: bool,
-    output: &mut O,
-) -> Ending
-    ensures { (errors : ErrorStream) → Hears errors result.fault
-        → ShowsDiff edition old.entry new.entry all (streams O.contents O.failed output.old output.new errors) result.status }
+) -> Result<Shown, Fault>
+    ensures { IsSight (field_differences edition old.entry new.entry all) result }
 {
-    match named_text(alloc, edition, old, new, all) {
-        Ok(text) => print_with(&text, diff_status(&text), output),
-        Err(fault) => Ending::from(fault),
-    }
+    let text = named_text(alloc, edition, old, new, all)?;
+    let status = diff_status(&text);
+    Ok(silent(text, status))
 }
 
 /// Returns the status of a text of differences: 0 if it is empty.

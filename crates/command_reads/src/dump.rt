@@ -2,15 +2,13 @@
 ghost use Rattle.std.specs.Prelude.{◌≡◌, ◌≤◌, ◌+◌, ◌%◌, ◌++◌, length, IfErr, IfOk, OnOk};
 ghost use Rattle.vol_layout.specs.Geometry.{Fits, geometry_read};
 ghost use Rattle.vol_fields.specs.Rows.{AreWithin};
-ghost use Rattle.command_faults.specs.Streams.{streams, ErrorStream, Hears};
-ghost use Rattle.command_reads.specs.Dump.{IsDump, IsDumpFault, IsDumpText, ShowsDump, meaning_text, mode_meaning, row_line, rows_text, span_of};
+ghost use Rattle.command_reads.specs.Dump.{IsDump, IsDumpFault, IsDumpText, meaning_text, mode_meaning, row_line, rows_text, span_of};
 ghost use Rattle.command_reads.specs.Dump.{inode_span, block_span, path_span};
 
 use crate::faults::unmeasured;
 use crate::looks::DumpTarget;
-use crate::print::finish_bytes;
-use command_faults::{Ending, Fault};
-use pdp_words::{BLOCK, Image, Sink};
+use command_faults::Fault;
+use pdp_words::{BLOCK, Image};
 use std::alloc::{AllocError, Global};
 use vol_dir::{Cred, Refusal, walk};
 use vol_fields::{Radix, Role, Row, ValueKind, block_roles, push_row, rows_of};
@@ -27,28 +25,11 @@ pub struct Span {
     pub to: usize,
 }
 
-/// Shows the bytes of a block or an i-node, a line a field. The image must keep rules 1 and 2, and may be any bytes otherwise. The status is 0; 1 if
-/// the image breaks one of these rules, has no such block or i-node, or the path leads to none; 3 if `output` failed, 4 if memory ran out.
+/// Returns the bytes of a block or an i-node, a line a field. The image must keep rules 1 and 2, and may be any bytes otherwise. Fails if it breaks
+/// one of these rules, has no such block or i-node, the path leads to none, or memory ran out.
 ///
 /// Takes the time and the memory of [`block_roles`], and memory for the text.
-pub(crate) fn show_dump<O: Sink>(
-    alloc: Global,
-    edition: Edition,
-    image: Vec<u8>,
-    target: DumpTarget<'_>,
-    radix: Radix,
-    output: &mut O,
-) -> Ending
-    ensures { (errors : ErrorStream) → Hears errors result.fault
-        → ShowsDump edition image.items target.entry radix (streams O.contents O.failed output.old output.new errors) result.status }
-{
-    let image = Image::from_bytes(image);
-    let text = dump_text(alloc, edition, &image, target, radix);
-    finish_bytes(text, output)
-}
-
-/// Returns the text of a dump.
-fn dump_text(
+pub(crate) fn dump_text(
     alloc: Global,
     edition: Edition,
     image: &Image,

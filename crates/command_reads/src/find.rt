@@ -1,20 +1,20 @@
 //! The command that prints the paths of everything below a directory.
-ghost use Rattle.std.specs.Prelude.{◌≡◌, ◌++◌, map, true, IfErr, IfOk, OnOk, option_map, string_bytes};
+ghost use Rattle.std.specs.Prelude.{◌≡◌, ◌++◌, map, true, IfOk, OnOk, option_map, string_bytes};
 ghost use Rattle.std.specs.List.{flat_map};
 ghost use Rattle.serde_json.specs.View.{view};
 ghost use Rattle.vol_listing.specs.Listings.{shown_path};
-ghost use Rattle.command_faults.specs.Streams.{ErrorStream, Hears, streams};
-ghost use Rattle.command_reads.specs.Find.{AreFound, Finds, found_data, found_in, found_json, found_line, is_wanted, path_data};
+ghost use Rattle.command_reads.specs.Find.{AreFound, found_data, found_in, found_json, found_line, is_wanted, path_data};
+ghost use Rattle.command_reads.specs.Print.{IsSight, telling};
 ghost use Rattle.command_reads.specs.Remarks.{limit_lines};
 ghost use Rattle.command_reads.specs.Sums.{IsManifestFault};
 
-use crate::export::{begun, unstarted, walk_all};
+use crate::export::{begun, ending_with, unstarted, walk_all};
 use crate::looks::OutputForm;
-use crate::print::{RemarkedText, print_remarked};
+use crate::print::Shown;
 use crate::remarks::{Remarks, push_limits};
-use command_faults::{Ending, Fault};
+use command_faults::Fault;
 use name_patterns::{is_like, last_name};
-use pdp_words::{Image, Sink};
+use pdp_words::Image;
 use serde_json::{Value, json};
 use std::alloc::{AllocError, Global};
 use vol_archive::MetEntry;
@@ -22,68 +22,35 @@ use vol_layout::Edition;
 use vol_listing::json::{entries_line, escaped_text};
 use vol_listing::{Screen, joined, push_shown, shown_path};
 
-/// Prints the path of everything below the directory at a path, each on a line or as an entry of a JSON object, in the order of an export. With a `pattern`, prints only paths whose
-/// last name matches it. With `lost`, also prints the i-nodes that no entry names, as an export has them. The image must keep rules 1 and 2, and may be
-/// any bytes otherwise. The status is 0; 1 if the image breaks one of these rules or the path leads to no directory, 3 if `output` failed, 4 if memory
-/// ran out, 5 if there are paths above 4,096 bytes: the fault has a line for each of them, and what is below them isn't printed. Nothing is printed
-/// until the whole output is ready.
+/// Returns the path of everything below the directory at a path, each on a line or as an entry of a JSON object, in the order of an export. With a
+/// `pattern`, only has paths whose last name matches it. With `lost`, also has the i-nodes that no entry names, as an export has them. The image must
+/// keep rules 1 and 2, and may be any bytes otherwise. The status is 0, or 5 if there are paths above 4,096 bytes: there is a line about each of
+/// them, and what is below them is left out. Fails if the image breaks one of these rules, the path leads to no directory, or memory ran out.
 ///
 /// Costs the walk, and takes memory for all paths and for the text.
-pub(crate) fn find<O: Sink>(
+pub(crate) fn find(
     alloc: Global,
     edition: Edition,
-    image: Vec<u8>,
+    image: &Image,
     path: &str,
     pattern: Option<&str>,
     lost: bool,
     form: OutputForm,
     screen: Screen,
-    output: &mut O,
-) -> Ending
-    ensures { (errors : ErrorStream) → Hears errors result.fault
-        → Finds edition image.items path.now (option_map (λ word. word.now) pattern.entry) lost form screen (streams O.contents O.failed output.old output.new errors) result.status }
+) -> Result<Shown, Fault>
+    ensures { IsSight (telling 5 (AreFound edition image.now path.now (option_map (λ word. word.now) pattern.entry) lost form screen)
+        (IsManifestFault edition image.now path.now lost)) result }
 {
-    let image = Image::from_bytes(image);
-    match find_text(
-        alloc,
-        edition,
-        &image,
-        path.as_bytes(),
-        pattern,
-        lost,
-        form,
-        screen,
-    ) {
-        Ok(found) => print_remarked(true, found, output),
-        Err(fault) => Ending::from(fault),
-    }
-}
-
-/// Returns the paths of everything below the directory at a path, in this format, and remarks on those at which the walk stopped.
-fn find_text(
-    alloc: Global,
-    edition: Edition,
-    image: &Image,
-    path: &[u8],
-    pattern: Option<&str>,
-    lost: bool,
-    form: OutputForm,
-    screen: Screen,
-) -> Result<RemarkedText, Fault>
-    ensures text { IfOk result (λ found. AreFound edition image.now path.now (option_map (λ word. word.now) pattern.entry) lost form screen found.text.items
-        found.remarks.lines.items) }
-    ensures short { IfOk result (λ found. found.remarks.is_short ≡ true) }
-    ensures fault { IfErr result (IsManifestFault edition image.now path.now lost) }
-{
-    let start = match begun(edition, image, path, lost) {
+    let start = match begun(edition, image, path.as_bytes(), lost) {
         Ok(start) => start,
         Err(fault) => return Err(unstarted(fault)),
     };
     let rescue = walk_all(alloc, image, &start.geometry, start.inode, lost)?;
-    let top = shown_path(alloc, path)?;
+    let top = shown_path(alloc, path.as_bytes())?;
     let text = found_in(alloc, &top, &rescue.founds, pattern, form, screen)?;
     let remarks = limits(alloc, &rescue.founds)?;
-    Ok(RemarkedText { text, remarks })
+    let ending = ending_with(true, remarks);
+    Ok(Shown { text, ending })
 }
 
 /// Returns the remarks on the entries at which the walk stopped because their paths are too long.

@@ -1,43 +1,24 @@
 //! `free`: shows the chain of the free list.
 ghost use Rattle.std.specs.Prelude.{◌≡◌, IfErr, IfOk, string_bytes};
 ghost use Rattle.serde_json.specs.View.{view};
-ghost use Rattle.command_faults.specs.Streams.{streams, ErrorStream, Hears};
-ghost use Rattle.command_reads.specs.Free.{chain_data, chain_in, chain_json, IsChainFault, IsChainText, ShowsFree};
+ghost use Rattle.command_reads.specs.Free.{chain_data, chain_in, chain_json, IsChainFault, IsChainText};
 
 use crate::faults::uninspected;
 use crate::json::list;
 use crate::looks::OutputForm;
-use crate::print::finish;
 use crate::super_block::fault_value;
-use command_faults::{Ending, Fault};
-use pdp_words::{Image, Sink};
+use command_faults::Fault;
+use pdp_words::Image;
 use serde_json::{Value, json};
 use std::alloc::{AllocError, Global};
 use vol_inspect::{ChainReport, inspect_chain};
 use vol_layout::Edition;
 use vol_listing::json::{FORMAT, line};
 
-/// Shows the chain of the free list of an image in which rules 1 and 2 hold, link by link, as
-/// [`show_super`](crate::super_block::show_super) shows the super-block.
+/// Returns the chain of the free list of an image in which rules 1 and 2 hold, link by link, in this format.
 ///
 /// Takes the memory of [`inspect_chain`], and memory for the text.
-pub(crate) fn show_free<O: Sink>(
-    alloc: Global,
-    edition: Edition,
-    image: Vec<u8>,
-    form: OutputForm,
-    output: &mut O,
-) -> Ending
-    ensures { (errors : ErrorStream) → Hears errors result.fault
-        → ShowsFree edition image.items form (streams O.contents O.failed output.old output.new errors) result.status }
-{
-    let image = Image::from_bytes(image);
-    let text = free_text(alloc, edition, &image, form);
-    finish(text, output)
-}
-
-/// Returns the text of the chain.
-fn free_text(
+pub(crate) fn free_text(
     alloc: Global,
     edition: Edition,
     image: &Image,

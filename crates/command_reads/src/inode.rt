@@ -6,7 +6,9 @@ ghost use Rattle.serde_json.specs.Written.{compact_text};
 ghost use Rattle.vol_archive.specs.Write.{Writes};
 ghost use Rattle.vol_inspect.specs.Texts.{inode_text};
 ghost use Rattle.command_faults.specs.Streams.{streams, ErrorStream, Hears};
-ghost use Rattle.command_reads.specs.Inode.{inode_back, inode_front, inode_json, kind_word, members_back, members_front, IsInodeText, IsInodeFault, ShowsInode, ShowsNumber};
+ghost use Rattle.command_reads.specs.Inode.{inode_back, inode_front, inode_json, kind_word, members_back, members_front, IsInodeText, IsInodeFault, found};
+ghost use Rattle.command_reads.specs.Node.{number_of};
+ghost use Rattle.command_reads.specs.Print.{ShowsIn, ShowsInPieces, plainly};
 ghost use Rattle.command_reads.specs.Json.{count_or_null, extent_data, listed_text};
 
 use crate::faults::uninspected;
@@ -14,7 +16,7 @@ use crate::json::list;
 use crate::looks::{NodeName, OutputForm};
 use crate::node::number_of;
 use crate::pieces::put_items;
-use crate::print::{ending_after, finish, put};
+use crate::print::{ending_after, plain_string, print, put};
 use command_faults::status::DONE;
 use command_faults::{Ending, Fault};
 use pdp_words::{Image, Sink};
@@ -34,17 +36,16 @@ use vol_listing::special_word;
 pub(crate) fn show_inode<O: Sink>(
     alloc: Global,
     edition: Edition,
-    image: Vec<u8>,
+    image: &Image,
     node: NodeName<'_>,
     form: OutputForm,
     output: &mut O,
 ) -> Ending
     ensures { (errors : ErrorStream) → Hears errors result.fault
-        → ShowsInode edition image.items node.entry form (streams O.contents O.failed output.old output.new errors) result.status }
+        → ShowsIn form (found edition image.now form (number_of edition image.now node.entry)) (streams O.contents O.failed output.old output.new errors) result.status }
 {
-    let image = Image::from_bytes(image);
-    match number_of(edition, &image, node) {
-        Ok(number) => show_number(alloc, edition, &image, number, form, output),
+    match number_of(edition, image, node) {
+        Ok(number) => show_number(alloc, edition, image, number, form, output),
         Err(fault) => Ending::from(fault.as_fault()),
     }
 }
@@ -59,10 +60,14 @@ fn show_number<O: Sink>(
     output: &mut O,
 ) -> Ending
     ensures { (errors : ErrorStream) → Hears errors result.fault
-        → ShowsNumber edition image.now number (streams O.contents O.failed output.old output.new errors) result.status form }
+        → ShowsIn form (plainly (IsInodeText edition image.now number form) (IsInodeFault edition image.now number))
+        (streams O.contents O.failed output.old output.new errors) result.status }
 {
     match form {
-        OutputForm::Text => finish(inode_text(alloc, edition, image, number), output),
+        OutputForm::Text => {
+            let text = inode_text(alloc, edition, image, number);
+            print(plain_string(text), output)
+        }
         OutputForm::Json => print_json(alloc, edition, image, number, output),
     }
 }
@@ -96,7 +101,8 @@ fn print_json<O: Sink>(
     output: &mut O,
 ) -> Ending
     ensures { (errors : ErrorStream) → Hears errors result.fault
-        → ShowsNumber edition image.now number (streams O.contents O.failed output.old output.new errors) result.status OutputForm.Json }
+        → ShowsInPieces (plainly (IsInodeText edition image.now number OutputForm.Json) (IsInodeFault edition image.now number))
+        (streams O.contents O.failed output.old output.new errors) result.status }
 {
     match inspect_inode(alloc, edition, image, number) {
         Ok(report) => ending_after(put_report(alloc, &report, output), DONE),

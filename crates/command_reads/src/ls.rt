@@ -5,17 +5,15 @@ ghost use Rattle.vol_layout.specs.declared.mode.Kind.TheVariants as kinds;
 ghost use Rattle.vol_dir.specs.declared.refusal.Refusal.TheVariants as refusals;
 ghost use Rattle.command_faults.specs.declared.fault.Fault.TheVariants as faults;
 ghost use Rattle.vol_judge.specs.Sound.{IsSound};
-ghost use Rattle.command_faults.specs.Streams.{ErrorStream, Hears, streams};
 ghost use Rattle.command_reads.specs.Queries.{IsObstacle};
-ghost use Rattle.command_reads.specs.Ls.{IsFound, IsListing, Lists, question_of};
+ghost use Rattle.command_reads.specs.Ls.{IsFound, IsListing, question_of};
 ghost use Rattle.vol_change.specs.Nodes.{node_at};
 ghost use Rattle.vol_dir.specs.Walk.{is_directory};
 ghost use Rattle.vol_listing.specs.Depths.{is_bare};
 ghost use Rattle.vol_volume.specs.Volume.{reads_as};
 
-use crate::print::finish_bytes;
-use command_faults::{Ending, Fault};
-use pdp_words::{Image, Sink};
+use command_faults::Fault;
+use pdp_words::Image;
 use std::alloc::Global;
 use vol_dir::{Cred, Refusal};
 use vol_judge::examine;
@@ -23,33 +21,14 @@ use vol_layout::{Edition, Geometry, Kind};
 use vol_listing::{ListOptions, Screen};
 use vol_volume::{Bytes, Query, Reply, Stat, ask_image};
 
-/// Lists the file or directory at a path of a sound image. A directory's names are listed in ascending order of their bytes, each on a line with its
-/// i-number and, if `listing` asks for them, its i-node's attributes; if `listing` asks for it, the names of each directory below follow. A file has
-/// one line, unless the listing is bare. As JSON, the listing has the same contents, with names escaped as on a terminal. The status is 0; 1 if the
-/// image isn't sound, the path leads nowhere, or a bare listing's path leads to no directory; 3 if `output` failed, 4 if memory ran out. Nothing is
-/// printed until the whole output is ready.
+/// Returns the listing of the file or directory at a path of a sound image. A directory's names are listed in ascending order of their bytes, each on
+/// a line with its i-number and, if `listing` asks for them, its i-node's attributes; if `listing` asks for it, the names of each directory below
+/// follow. A file has one line, unless the listing is bare. As JSON, the listing has the same contents, with names escaped as on a terminal. Fails if
+/// the image isn't sound, the path leads nowhere, a bare listing's path leads to no directory, or memory ran out.
 ///
 /// Costs [`examine`], reading each i-node whose attributes are shown, and, for each directory, walking its path and sorting its names. Takes memory
 /// for these and for the text.
-pub(crate) fn list<O: Sink>(
-    alloc: Global,
-    edition: Edition,
-    image: Vec<u8>,
-    path: &str,
-    listing: ListOptions,
-    screen: Screen,
-    output: &mut O,
-) -> Ending
-    ensures { (errors : ErrorStream) → Hears errors result.fault
-        → Lists edition image.items path.now listing screen (streams O.contents O.failed output.old output.new errors) result.status }
-{
-    let image = Image::from_bytes(image);
-    let text = list_image(alloc, edition, &image, path, listing, screen);
-    finish_bytes(text, output)
-}
-
-/// Returns the listing of the file or directory at a path of an image.
-fn list_image(
+pub(crate) fn list_image(
     alloc: Global,
     edition: Edition,
     image: &Image,

@@ -1,14 +1,12 @@
 //! The command that draws the use of each block.
 ghost use Rattle.std.specs.Prelude.{◌≡◌, ◌+◌, ◌*◌, ◌<◌, ◌≤◌, ◌^◌, ◌++◌, IfErr, IfOk, OnOk, string_bytes, length};
 ghost use Rattle.vol_layout.specs.Geometry.{Fits};
-ghost use Rattle.command_faults.specs.Streams.{ErrorStream, Hears, streams};
-ghost use Rattle.command_reads.specs.Map.{width_on, is_coloured, blocks_for, uses_in, scale_text, cells_text, map_text, IsMap, IsMapFault, DrawsMap};
+ghost use Rattle.command_reads.specs.Map.{width_on, is_coloured, blocks_for, uses_in, scale_text, cells_text, map_text, IsMap, IsMapFault};
 
 use crate::faults::unmeasured;
 use crate::looks::Picture;
-use crate::print::finish;
-use command_faults::{Ending, Fault};
-use pdp_words::{Image, Sink};
+use command_faults::Fault;
+use pdp_words::Image;
 use std::alloc::{AllocError, Global};
 use vol_inspect::{block_uses, cells, draw, svg};
 use vol_layout::{Edition, Geometry};
@@ -23,30 +21,12 @@ const WIDTH: usize = 64;
 /// The number of squares in a row, and the greatest number of rows of squares.
 const SQUARES: usize = 128;
 
-/// Draws the use of each block of an image. The image must keep rules 1 and 2, and may be any bytes otherwise. The status is 0; 1 if the image breaks
-/// one of these rules, 3 if `output` failed, 4 if memory ran out. Nothing is printed until the whole output is ready. Rows are as wide as the
-/// terminal; colours are used only on a terminal that wants them. There are at most 32 rows of letters, or 128 rows of 128 squares, so a cell
-/// represents several blocks of a large volume.
+/// Returns a drawing of the use of each block of an image. The image must keep rules 1 and 2, and may be any bytes otherwise. Fails if it breaks one
+/// of these rules, or if memory ran out. Rows are as wide as the terminal; colours are used only on a terminal that wants them. There are at most 32
+/// rows of letters, or 128 rows of 128 squares, so a cell represents several blocks of a large volume.
 ///
 /// Takes the time and memory of [`block_uses`], and memory for the text.
-pub(crate) fn draw_map<O: Sink>(
-    alloc: Global,
-    edition: Edition,
-    image: Vec<u8>,
-    picture: Picture,
-    screen: Screen,
-    output: &mut O,
-) -> Ending
-    ensures { (errors : ErrorStream) → Hears errors result.fault
-        → DrawsMap edition image.items screen picture (streams O.contents O.failed output.old output.new errors) result.status }
-{
-    let image = Image::from_bytes(image);
-    let text = map_text(alloc, edition, &image, picture, screen);
-    finish(text, output)
-}
-
-/// Returns the block map of an image.
-fn map_text(
+pub(crate) fn map_text(
     alloc: Global,
     edition: Edition,
     image: &Image,

@@ -4,8 +4,9 @@ ghost use Rattle.vol_archive.specs.Write.{Writes};
 ghost use Rattle.vol_layout.specs.Geometry.{Fits};
 ghost use Rattle.command_faults.specs.Streams.{ErrorStream, Hears, streams};
 ghost use Rattle.command_reads.specs.Json.{listed_text};
-ghost use Rattle.command_reads.specs.Map.{uses_in};
-ghost use Rattle.command_reads.specs.MapJson.{longer, next, run_data, runs, runs_from, runs_json, uses_json, ShowsUses};
+ghost use Rattle.command_reads.specs.Map.{uses_in, IsMapFault};
+ghost use Rattle.command_reads.specs.MapJson.{longer, next, run_data, runs, runs_from, runs_json, uses_json, AreUses};
+ghost use Rattle.command_reads.specs.Print.{ShowsInPieces, plainly};
 
 use crate::faults::unmeasured;
 use crate::pieces::put_items;
@@ -29,28 +30,19 @@ pub(crate) struct UseRun {
     pub(crate) usage: Use,
 }
 
-/// Shows the use of each block of an image as one JSON object. The image must keep rules 1 and 2, and may be any bytes otherwise. The status is 0; 1 if the
-/// image breaks one of these rules, 3 if `output` failed, 4 if memory ran out. With 3 or 4 some of the text may have been printed.
+/// Shows the use of each block of an image as one JSON object. The image must keep rules 1 and 2, and may be any bytes otherwise. The status is 0; 1
+/// if the image breaks one of these rules, 3 if `output` failed, 4 if memory ran out. With 3 or 4 some of the text may have been printed.
 ///
 /// Takes the time and memory of [`block_uses`], and memory for the runs of blocks with one use, and for the text of a few of them at a time.
+#[tactic(auto, using(crate::proofs::Printed::kept_same))]
 pub(crate) fn show_uses<O: Sink>(
     alloc: Global,
     edition: Edition,
-    image: Vec<u8>,
+    image: &Image,
     output: &mut O,
 ) -> Ending
     ensures { (errors : ErrorStream) → Hears errors result.fault
-        → ShowsUses edition image.items (streams O.contents O.failed output.old output.new errors) result.status }
-{
-    let image = Image::from_bytes(image);
-    print_uses(alloc, edition, &image, output)
-}
-
-/// Prints the use of each block of an image.
-#[tactic(auto, using(crate::proofs::Printed::kept_same))]
-fn print_uses<O: Sink>(alloc: Global, edition: Edition, image: &Image, output: &mut O) -> Ending
-    ensures { (errors : ErrorStream) → Hears errors result.fault
-        → ShowsUses edition image.now (streams O.contents O.failed output.old output.new errors) result.status }
+        → ShowsInPieces (plainly (AreUses edition image.now) (IsMapFault edition image.now)) (streams O.contents O.failed output.old output.new errors) result.status }
 {
     match Geometry::read(edition, image) {
         Ok(geometry) => ending_after(put_uses(alloc, image, &geometry, output), DONE),

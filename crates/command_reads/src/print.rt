@@ -3,67 +3,81 @@ ghost use Rattle.std.specs.Prelude.{◌≡◌, ◌⊎◌, ℕ, true, None, Some,
 ghost use Rattle.std.specs.Io.KnownBytes.{Appends, Keeps};
 ghost use Rattle.pdp_words.specs.Devices.{AppendsFront};
 ghost use Rattle.vol_archive.specs.Write.{Writes};
-ghost use Rattle.command_faults.specs.Faults.{fault_status};
+ghost use Rattle.command_faults.specs.Faults.{fault_status, line_after};
 ghost use Rattle.command_faults.specs.Streams.{ErrorStream, Hears, streams};
-ghost use Rattle.command_reads.specs.Export.{told_status, unwritten};
-ghost use Rattle.command_reads.specs.Print.{IsTold, Prints, PrintsTelling, PrintsWith};
+ghost use Rattle.command_reads.specs.Export.{unwritten};
+ghost use Rattle.command_reads.specs.Print.{IsPlainString, IsPlainText, IsSilent, IsTold, PrintsTelling, PrintsWith};
 
-use crate::export::{ending_with, unwritten};
-use crate::remarks::Remarks;
+use crate::export::unwritten;
 use command_faults::status::DONE;
 use command_faults::{Ending, Fault};
 use pdp_words::{Sink, write_all};
 use vol_archive::WriteFault;
 
-/// Prints a text, or returns its fault.
-#[tactic(auto, using(crate::proofs::Printed::kept_same))]
-pub(crate) fn finish<O: Sink>(text: Result<String, Fault>, output: &mut O) -> Ending
-    ensures printed { (errors : ErrorStream) → Hears errors result.fault
-        → IfOk text (λ text. Prints (streams O.contents O.failed output.old output.new errors) (string_bytes text) result.status) }
-    ensures told { (errors : ErrorStream) → Hears errors result.fault
-        → IfErr text (λ fault. IsTold (streams O.contents O.failed output.old output.new errors) fault result.status) }
-{
-    match text {
-        Ok(text) => print_with(text.as_bytes(), DONE, output),
-        Err(fault) => Ending::from(fault),
-    }
-}
-
-/// Prints a text of any bytes, or returns its fault.
-#[tactic(auto, using(crate::proofs::Printed::kept_same))]
-pub(crate) fn finish_bytes<O: Sink>(text: Result<Vec<u8>, Fault>, output: &mut O) -> Ending
-    ensures printed { (errors : ErrorStream) → Hears errors result.fault
-        → IfOk text (λ text. Prints (streams O.contents O.failed output.old output.new errors) text.items result.status) }
-    ensures told { (errors : ErrorStream) → Hears errors result.fault
-        → IfErr text (λ fault. IsTold (streams O.contents O.failed output.old output.new errors) fault result.status) }
-{
-    match text {
-        Ok(text) => print_with(&text, DONE, output),
-        Err(fault) => Ending::from(fault),
-    }
-}
-
-/// A text to print, and the remarks on it.
+/// A text to print, and the ending of a command that has printed it.
 #[derive(Drop)]
-pub(crate) struct RemarkedText {
+pub(crate) struct Shown {
     /// The text.
     pub(crate) text: Vec<u8>,
-    /// The remarks.
-    pub(crate) remarks: Remarks,
+    /// The ending: its fault has the lines about the text, if there are any.
+    pub(crate) ending: Ending,
 }
 
-/// Prints a text, and returns the remarks on it as a fault.
-pub(crate) fn print_remarked<O: Sink>(
-    graded: bool,
-    remarked: RemarkedText,
-    output: &mut O,
-) -> Ending
-    ensures { (errors : ErrorStream) → Hears errors result.fault
-        → PrintsTelling (told_status graded remarked.remarks.is_short) (streams O.contents O.failed output.old output.new errors) remarked.text.items
-        remarked.remarks.lines.items result.status }
+/// Returns a text with a status and no lines about it.
+pub(crate) fn silent(text: Vec<u8>, status: u8) -> Shown
+    ensures { IsSilent text.items status result }
 {
-    match write_all(output, &remarked.text) {
-        Ok(()) => ending_with(graded, remarked.remarks),
+    Shown {
+        text,
+        ending: Ending {
+            status,
+            fault: None,
+        },
+    }
+}
+
+/// Returns a text with status 0 and no lines about it, or its fault.
+pub(crate) fn plain(text: Result<Vec<u8>, Fault>) -> Result<Shown, Fault>
+    ensures { IsPlainText text result }
+{
+    match text {
+        Ok(text) => Ok(silent(text, DONE)),
+        Err(fault) => Err(fault),
+    }
+}
+
+/// Returns a string with status 0 and no lines about it, or its fault.
+pub(crate) fn plain_string(text: Result<String, Fault>) -> Result<Shown, Fault>
+    ensures { IsPlainString text result }
+{
+    match text {
+        Ok(text) => Ok(silent(text.into_bytes(), DONE)),
+        Err(fault) => Err(fault),
+    }
+}
+
+/// Prints what a command shows, and returns its ending.
+#[tactic(auto, using(crate::proofs::Printed::kept_same))]
+pub(crate) fn print<O: Sink>(shown: Result<Shown, Fault>, output: &mut O) -> Ending
+    ensures printed { (errors : ErrorStream) → Hears errors result.fault
+        → IfOk shown (λ shown. PrintsTelling shown.ending.status (line_after shown.ending.fault) (streams O.contents O.failed output.old output.new errors)
+        shown.text.items result.status) }
+    ensures told { (errors : ErrorStream) → Hears errors result.fault
+        → IfErr shown (λ fault. IsTold (streams O.contents O.failed output.old output.new errors) fault result.status) }
+{
+    match shown {
+        Ok(Shown { text, ending }) => print_text(&text, ending, output),
+        Err(fault) => Ending::from(fault),
+    }
+}
+
+/// Prints a text, and returns the ending of a command that has printed it, or that standard output failed.
+fn print_text<O: Sink>(text: &[u8], ending: Ending, output: &mut O) -> Ending
+    ensures { (errors : ErrorStream) → Hears errors result.fault
+        → PrintsTelling ending.status (line_after ending.fault) (streams O.contents O.failed output.old output.new errors) text.now result.status }
+{
+    match write_all(output, text) {
+        Ok(()) => ending,
         Err(_) => Ending::from(Fault::Output),
     }
 }
@@ -73,13 +87,11 @@ pub fn print_with<O: Sink>(text: &[u8], status: u8, output: &mut O) -> Ending
     ensures { (errors : ErrorStream) → Hears errors result.fault
         → PrintsWith status (streams O.contents O.failed output.old output.new errors) text.now result.status }
 {
-    match write_all(output, text) {
-        Ok(()) => Ending {
-            status,
-            fault: None,
-        },
-        Err(_) => Ending::from(Fault::Output),
-    }
+    let ending = Ending {
+        status,
+        fault: None,
+    };
+    print_text(text, ending, output)
 }
 
 /// Writes a piece of a text.

@@ -2,23 +2,24 @@
 ghost use Rattle.command_faults.specs.Streams.{heard, ErrorStream, Hears, streams};
 ghost use Rattle.command_reads.specs.Look.{Looks};
 
-use crate::block::show_block;
+use crate::block::block_text;
 use crate::check::check;
-use crate::dump::show_dump;
+use crate::dump::dump_text;
 use crate::export::export;
 use crate::find::find;
-use crate::free::show_free;
+use crate::free::free_text;
 use crate::inode::show_inode;
 use crate::looks::Look;
-use crate::ls::list;
-use crate::map::draw_map;
+use crate::ls::list_image;
+use crate::map::map_text;
 use crate::map_json::show_uses;
+use crate::print::{plain, plain_string, print};
 use crate::slots::show_slots;
 use crate::sums::sums;
-use crate::super_block::{SuperPart, show_super};
+use crate::super_block::{SuperPart, super_text};
 use command_faults::Ending;
 use command_faults::answer::tell;
-use pdp_words::Sink;
+use pdp_words::{Image, Sink};
 use std::alloc::Global;
 use vol_layout::Edition;
 use vol_listing::Screen;
@@ -54,33 +55,57 @@ pub fn perform<O: Sink>(
     ensures { (errors : ErrorStream) → Hears errors result.fault
         → Looks edition image.items screen (streams O.contents O.failed output.old output.new errors) result.status look.entry }
 {
-    match look {
+    let image = Image::from_bytes(image);
+    show(alloc, edition, image, look, screen, output)
+}
+
+/// Shows part of an image, as [`perform`] does.
+fn show<O: Sink>(
+    alloc: Global,
+    edition: Edition,
+    image: Image,
+    look: Look<'_>,
+    screen: Screen,
+    output: &mut O,
+) -> Ending
+    ensures { (errors : ErrorStream) → Hears errors result.fault
+        → Looks edition image screen (streams O.contents O.failed output.old output.new errors) result.status look.entry }
+{
+    let shown = match look {
         Look::Export { path, options } => {
-            export(alloc, edition, image, path, options, screen, output)
+            let bytes = image.into_bytes();
+            return export(alloc, edition, bytes, path, options, screen, output);
         }
-        Look::Sums { path, form, lost } => sums(alloc, edition, image, path, form, lost, output),
-        Look::Block { block, form } => show_block(alloc, edition, image, block, form, output),
-        Look::Dump { target, radix } => show_dump(alloc, edition, image, target, radix, output),
-        Look::Free { form } => show_free(alloc, edition, image, form, output),
+        Look::Inode { node, form } => {
+            return show_inode(alloc, edition, &image, node, form, output);
+        }
+        Look::Uses => return show_uses(alloc, edition, &image, output),
+        Look::Slots { path, form } => {
+            return show_slots(alloc, edition, &image, path, form, screen, output);
+        }
+        Look::Sums { path, form, lost } => sums(alloc, edition, &image, path, form, lost),
+        Look::Block { block, form } => plain_string(block_text(
+            alloc, edition, &image, block, form,
+        )),
+        Look::Dump { target, radix } => plain(dump_text(alloc, edition, &image, target, radix)),
+        Look::Free { form } => plain_string(free_text(alloc, edition, &image, form)),
         Look::Find {
             path,
             name,
             lost,
             form,
-        } => find(
-            alloc, edition, image, path, name, lost, form, screen, output,
-        ),
-        Look::Inode { node, form } => show_inode(alloc, edition, image, node, form, output),
+        } => { find(alloc, edition, &image, path, name, lost, form, screen) }
         Look::Super { form } => {
-            show_super(alloc, edition, image, SuperPart::Fields, form, output)
+            plain_string(super_text(alloc, edition, &image, SuperPart::Fields, form))
         }
-        Look::Df { form } => show_super(alloc, edition, image, SuperPart::Space, form, output),
-        Look::Map { picture } => draw_map(alloc, edition, image, picture, screen, output),
-        Look::Uses => show_uses(alloc, edition, image, output),
-        Look::Check { graded, form } => check(alloc, edition, image, graded, form, output),
-        Look::List { path, listing } => list(alloc, edition, image, path, listing, screen, output),
-        Look::Slots { path, form } => {
-            show_slots(alloc, edition, image, path, form, screen, output)
+        Look::Df { form } => {
+            plain_string(super_text(alloc, edition, &image, SuperPart::Space, form))
         }
-    }
+        Look::Map { picture } => plain_string(map_text(alloc, edition, &image, picture, screen)),
+        Look::Check { graded, form } => check(alloc, edition, &image, graded, form),
+        Look::List { path, listing } => {
+            plain(list_image(alloc, edition, &image, path, listing, screen))
+        }
+    };
+    print(shown, output)
 }

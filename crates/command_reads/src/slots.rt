@@ -7,7 +7,8 @@ ghost use Rattle.vol_layout.specs.Geometry.{Fits};
 ghost use Rattle.vol_dir.specs.Entries.{slot_count};
 ghost use Rattle.command_faults.specs.Streams.{ErrorStream, Hears, streams};
 ghost use Rattle.vol_archive.specs.Write.{Writes};
-ghost use Rattle.command_reads.specs.Slots.{is_blank, slot_columns, slot_data, slot_item, slot_line, slot_lines, slot_text, slots_in, slots_json, ShowsSlots};
+ghost use Rattle.command_reads.specs.Print.{ShowsInPieces, plainly};
+ghost use Rattle.command_reads.specs.Slots.{is_blank, slot_columns, slot_data, slot_item, slot_line, slot_lines, slot_text, slots_in, slots_json, IsSlotsFault, IsSlotsText};
 
 use crate::export::unstarted;
 use crate::looks::OutputForm;
@@ -34,52 +35,28 @@ pub(crate) enum SlotForm {
     Item,
 }
 
-/// Shows the slots of the directory at a path, in order, each on a line: its number, its i-number and its name. An empty slot has i-number 0, and still
-/// has the name of the entry that was removed. A slot with only zero bytes has no line. As JSON, one object has the same. The path is walked as user 0. The image must keep rules 1 and
-/// 2, and may be any bytes otherwise. The status is 0; 1 if the image breaks one of these rules or the path leads to no directory, 3 if `output`
-/// failed, 4 if memory ran out. With 3 or 4 some of the lines may have been printed.
+/// Shows the slots of the directory at a path, in order, each on a line: its number, its i-number and its name. An empty slot has i-number 0, and
+/// still has the name of the entry that was removed. A slot with only zero bytes has no line. As JSON, one object has the same. The path is walked as
+/// user 0. The image must keep rules 1 and 2, and may be any bytes otherwise. The status is 0; 1 if the image breaks one of these rules or the path
+/// leads to no directory, 3 if `output` failed, 4 if memory ran out. With 3 or 4 some of the lines may have been printed.
 ///
 /// Costs the walk of the path, and two block-map lookups and a read of its slots for each stored logical block of the directory: the time depends on
 /// the number of these blocks, not on the directory's size. Takes memory for the lines of one block, which are printed before the next block's.
+#[tactic(auto, using(crate::proofs::Printed::kept_same))]
 pub(crate) fn show_slots<O: Sink>(
     alloc: Global,
     edition: Edition,
-    image: Vec<u8>,
+    image: &Image,
     path: &str,
     form: OutputForm,
     screen: Screen,
     output: &mut O,
 ) -> Ending
     ensures { (errors : ErrorStream) → Hears errors result.fault
-        → ShowsSlots edition image.items path.now form screen (streams O.contents O.failed output.old output.new errors) result.status }
+        → ShowsInPieces (plainly (IsSlotsText edition image.now path.now form screen) (IsSlotsFault edition image.now path.now))
+        (streams O.contents O.failed output.old output.new errors) result.status }
 {
-    let image = Image::from_bytes(image);
-    print_slots(
-        alloc,
-        edition,
-        &image,
-        path.as_bytes(),
-        form,
-        screen,
-        output,
-    )
-}
-
-/// Prints the slots of the directory at a path.
-#[tactic(auto, using(crate::proofs::Printed::kept_same))]
-fn print_slots<O: Sink>(
-    alloc: Global,
-    edition: Edition,
-    image: &Image,
-    path: &[u8],
-    form: OutputForm,
-    screen: Screen,
-    output: &mut O,
-) -> Ending
-    ensures { (errors : ErrorStream) → Hears errors result.fault
-        → ShowsSlots edition image.now path.now form screen (streams O.contents O.failed output.old output.new errors) result.status }
-{
-    match start_of(edition, image, path) {
+    match start_of(edition, image, path.as_bytes()) {
         Ok(start) => {
             let (geometry, dir) = (&start.geometry, start.inode);
             let written = put_all(alloc, image, geometry, dir, form, screen, output);
@@ -183,8 +160,8 @@ fn put_slots<O: Sink>(
     Ok(())
 }
 
-/// Writes the texts of the first `count` slots in logical block `b` of directory `dir`, without their first `left` bytes. Returns how many of these there
-/// are still to leave out.
+/// Writes the texts of the first `count` slots in logical block `b` of directory `dir`, without their first `left` bytes. Returns how many of these
+/// there are still to leave out.
 fn put_block<O: Sink>(
     alloc: Global,
     image: &Image,

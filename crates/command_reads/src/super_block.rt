@@ -1,15 +1,13 @@
 //! `super` and `df`: show the super-block, or the space of the volume.
 ghost use Rattle.std.specs.Prelude.{◌≡◌, ◌≤◌, ◌++◌, IfErr, IfOk, OnOk, string_bytes};
 ghost use Rattle.serde_json.specs.View.{members_view, view};
-ghost use Rattle.command_faults.specs.Streams.{streams, ErrorStream, Hears};
-ghost use Rattle.command_reads.specs.SuperBlock.{fault_data, part_data, part_text, space_data, super_data, super_in, with_sizes, with_flags, with_free, with_cache, IsSuperText, IsSuperFault, ShowsSuper};
+ghost use Rattle.command_reads.specs.SuperBlock.{fault_data, part_data, part_text, space_data, super_data, super_in, with_sizes, with_flags, with_free, with_cache, IsSuperText, IsSuperFault};
 
 use crate::faults::uninspected;
 use crate::json::list;
 use crate::looks::OutputForm;
-use crate::print::finish;
-use command_faults::{Ending, Fault};
-use pdp_words::{Image, Sink};
+use command_faults::Fault;
+use pdp_words::Image;
 use serde_json::{Map, Value, json, put};
 use std::alloc::{AllocError, Global};
 use vol_free::FreeFault;
@@ -26,28 +24,10 @@ pub(crate) enum SuperPart {
     Space,
 }
 
-/// Shows part of the report on the super-block of an image in which rules 1 and 2 hold, as [`show_inode`](crate::inode::show_inode) shows an
-/// i-node.
+/// Returns part of the report on the super-block of an image in which rules 1 and 2 hold, in this format.
 ///
 /// Takes the memory of [`inspect_super`], and memory for the text.
-pub(crate) fn show_super<O: Sink>(
-    alloc: Global,
-    edition: Edition,
-    image: Vec<u8>,
-    part: SuperPart,
-    form: OutputForm,
-    output: &mut O,
-) -> Ending
-    ensures { (errors : ErrorStream) → Hears errors result.fault
-        → ShowsSuper edition image.items part form (streams O.contents O.failed output.old output.new errors) result.status }
-{
-    let image = Image::from_bytes(image);
-    let text = super_text(alloc, edition, &image, part, form);
-    finish(text, output)
-}
-
-/// Returns the text of part of the report on the super-block.
-fn super_text(
+pub(crate) fn super_text(
     alloc: Global,
     edition: Edition,
     image: &Image,

@@ -4,8 +4,10 @@ ghost use Rattle.vol_layout.specs.Geometry.{Fits};
 ghost use Rattle.vol_compare.specs.Merge.{tree_lines};
 ghost use Rattle.command_faults.specs.Faults.{fault_status, line_after};
 ghost use Rattle.command_faults.specs.Streams.{ErrorStream, Hears, streams};
+ghost use Rattle.command_reads.specs.Diff.{diff_status};
 ghost use Rattle.command_reads.specs.Export.{unwritten};
-ghost use Rattle.command_reads.specs.TreeDiff.{AppendsSoundness, AreRemarks, IsTreeOf, PrintsTrees, ShowsTreeDiff, tree_status};
+ghost use Rattle.command_reads.specs.Print.{PrintsInPieces, ShowsInPieces};
+ghost use Rattle.command_reads.specs.TreeDiff.{AppendsSoundness, AreRemarks, IsTreeOf, tree_differences, tree_status};
 
 use crate::diff::{DIFFERENT, NamedImage, measured, push_unsound_line};
 use crate::export::unwritten;
@@ -54,7 +56,7 @@ struct Soundness {
 /// file. The status is 0 if the trees are equal, 1 if they differ or an image breaks rule 1 or 2; 3 if `output` failed, 4 if memory ran out.
 ///
 /// Costs [`judge`] and [`met_tree`] of each image, and [`put_differences`].
-pub fn show_tree_diff<O: Sink>(
+pub(crate) fn show_tree_diff<O: Sink>(
     alloc: Global,
     edition: Edition,
     old: NamedImage<'_>,
@@ -63,7 +65,7 @@ pub fn show_tree_diff<O: Sink>(
     output: &mut O,
 ) -> Ending
     ensures { (errors : ErrorStream) → Hears errors result.fault
-        → ShowsTreeDiff edition old.entry new.entry times (streams O.contents O.failed output.old output.new errors) result.status }
+        → ShowsInPieces (tree_differences edition old.entry new.entry times) (streams O.contents O.failed output.old output.new errors) result.status }
 {
     let before = Image::from_bytes(old.bytes);
     let after = Image::from_bytes(new.bytes);
@@ -142,8 +144,8 @@ fn print_trees<O: Sink>(alloc: Global, trees: Trees<'_>, times: bool, output: &m
     requires new_fits { Fits trees.new.geometry.now trees.new.image.now }
     requires roots { trees.old.root.path ≡ trees.new.root.path }
     ensures { (errors : ErrorStream) → Hears errors result.fault
-        → PrintsTrees (tree_lines times trees.entry.old trees.entry.new) trees.entry.remarks.lines.items
-        (streams O.contents O.failed output.old output.new errors) result.status }
+        → PrintsInPieces (diff_status (tree_lines times trees.entry.old trees.entry.new)) trees.entry.remarks.lines.items
+        (streams O.contents O.failed output.old output.new errors) (tree_lines times trees.entry.old trees.entry.new) result.status }
 {
     let differ = put_differences(alloc, &trees.old, &trees.new, times, output);
     ending_of(differ, trees.remarks)

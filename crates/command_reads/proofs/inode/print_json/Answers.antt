@@ -1,16 +1,17 @@
-use Rattle.std.proofs.Common.{Option, inl, inr, refl, subst}
+use Rattle.std.proofs.Common.{[], inl, inr, refl}
 use Rattle.std.proofs.KnownBytes.{Keeps-refl}
-use Rattle.command_faults.specs.Streams.{Hears, streams}
-use Rattle.command_faults.specs.declared.fault.Fault.{Fault}
+use Rattle.command_faults.specs.Streams.{streams}
 use Rattle.command_reads.specs.Inode.{inode_json}
-use Rattle.command_reads.proofs.Printed.{in_pieces}
+use Rattle.command_reads.proofs.Printed.{in_pieces, told_only}
 use Rattle.command_reads.proofs.inode.print_json.Goals as goal
 
 pub returns-in-Ok : goal.returns-in-Ok
 returns-in-Ok g c errors hears =
     inl (
       inode_json c.in-Ok.report,
-      (c.in-Ok.report, c.in-Ok.ensures, refl),
+      0,
+      [],
+      (((c.in-Ok.report, c.in-Ok.ensures, refl), refl), refl),
       in_pieces 0
           (streams g.O.Sink.contents g.O.Sink.failed c.args.output.now c.put_report.new.output errors) _ _ c.ending_after.result.fault c.put_report.result
           c.put_report.ensures c.ending_after.ensures.whole c.ending_after.ensures.fault hears,
@@ -21,10 +22,6 @@ returns-in-Err g c errors hears =
     inr (
       _,
       (c.in-Err.fault, c.in-Err.ensures, c.uninspected.ensures),
-      record {
-        status = c.from.ensures.0;
-        kept = Keeps-refl (g.O.Sink.contents c.args.output.now);
-        working = refl;
-        said = subst (λ (fault : Option Fault). Hears errors fault) c.from.ensures.1 hears;
-      },
+      told_only (streams g.O.Sink.contents g.O.Sink.failed c.args.output.now c.args.output.now errors) _ c.from.result.fault c.from.result.status
+          (Keeps-refl (g.O.Sink.contents c.args.output.now)) refl c.from.ensures hears,
     )

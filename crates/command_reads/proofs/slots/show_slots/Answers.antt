@@ -1,14 +1,27 @@
-use Rattle.std.proofs.Common.{List, ℕ, subst}
-use Rattle.command_faults.specs.Streams.{Streams, streams}
-use Rattle.command_reads.specs.Slots.{ShowsSlots}
+use Rattle.std.proofs.Common.{[], inl, inr, refl, sym, ap, ◌∙◌}
+use Rattle.std.proofs.KnownBytes.{Keeps-refl}
+use Rattle.command_faults.specs.Streams.{streams}
+use Rattle.vol_archive.specs.Export.{start_of}
+use Rattle.command_reads.proofs.Printed.{in_pieces, told_only}
 use Rattle.command_reads.proofs.slots.show_slots.Goals as goal
 
-pub returns : goal.returns
-returns g c errors hears =
-    let edition = c.args.edition in
-    let screen = c.args.screen in
-    let form = c.args.form in
-    let both : Streams = streams g.O.Sink.contents g.O.Sink.failed c.args.output.now c.print_slots.new.output errors in
-    subst (λ (path : List ℕ). ShowsSlots edition c.args.image.items path form screen both c.print_slots.result.status) c.as_bytes.ensures.value
-    (subst (λ (image : List ℕ). ShowsSlots edition image c.as_bytes.result.now form screen both c.print_slots.result.status) c.from_bytes-image.ensures
-    (c.print_slots.ensures errors hears))
+pub returns-in-Ok : goal.returns-in-Ok
+returns-in-Ok g c errors hears =
+    inl (
+      _,
+      0,
+      [],
+      ((record { start = c.in-Ok.start; begins = sym (c.in-Ok.ensures.exact ∙ ap (start_of c.args.edition c.args.image.now) c.as_bytes.ensures.value); lines = refl }, refl), refl),
+      in_pieces 0
+          (streams g.O.Sink.contents g.O.Sink.failed c.args.output.now c.put_all-written.new.output errors) _ _ c.ending_after.result.fault c.put_all-written.result
+          c.put_all-written.ensures c.ending_after.ensures.whole c.ending_after.ensures.fault hears,
+    )
+
+pub returns-in-Err : goal.returns-in-Err
+returns-in-Err g c errors hears =
+    inr (
+      _,
+      (c.in-Err.fault, sym (c.in-Err.ensures.exact ∙ ap (start_of c.args.edition c.args.image.now) c.as_bytes.ensures.value), c.unstarted.ensures),
+      told_only (streams g.O.Sink.contents g.O.Sink.failed c.args.output.now c.args.output.now errors) _ c.from.result.fault c.from.result.status
+          (Keeps-refl (g.O.Sink.contents c.args.output.now)) refl c.from.ensures hears,
+    )

@@ -1,7 +1,8 @@
 use Rattle.std.proofs.Common.{inr, refl}
 use Rattle.std.proofs.KnownBytes.{Keeps-refl}
 use Rattle.command_faults.specs.Streams.{streams}
-use Rattle.command_reads.proofs.Trees.{first_unmeasured, second_unmeasured, shows, told_only}
+use Rattle.command_reads.proofs.Printed.{told_only}
+use Rattle.command_reads.proofs.Trees.{first_unmeasured, second_unmeasured, shows}
 use Rattle.command_reads.proofs.tree_diff.show_tree_diff.Goals as goal
 
 pub returns-in-Err : goal.returns-in-Err

@@ -95,6 +95,15 @@ int fsync(int file) { return (int)answered(host_sync(file)); }
 int fdatasync(int file) { return (int)answered(host_sync(file)); }
 int rename(const char *from, const char *to) { return (int)answered(host_rename(from, to)); }
 int unlink(const char *path) { return (int)answered(host_unlink(path)); }
+// There are no folders here.
+int rattle_open_dir_at(int folder, const char *name) {
+    (void)folder, (void)name;
+    return refused(ENOSYS);
+}
+int64_t getdents64(int folder, void *buffer, uint64_t size) {
+    (void)folder, (void)buffer, (void)size;
+    return refused(ENOSYS);
+}
 int64_t readlink(const char *path, char *buffer, uint64_t size) { return answered(host_readlink(path, buffer, size)); }
 
 // The host has no locks, as some file systems haven't. Then the program goes on without.

@@ -2,6 +2,7 @@
 // it built for x86-64 alone. Nothing proves this file.
 #define _GNU_SOURCE
 #include <errno.h>
+#include <fcntl.h>
 #include <pthread.h>
 #include <stdint.h>
 #include <stdlib.h>
@@ -46,6 +47,9 @@ int64_t rattle_env_at(uint64_t index, char *buffer, uint64_t size) {
     }
     return NONE;
 }
+
+// Opens a folder for reading. It refuses a file, and a link that the name ends in.
+int rattle_open_dir_at(int folder, const char *name) { return openat(folder, name, O_RDONLY | O_DIRECTORY | O_NOFOLLOW | O_CLOEXEC); }
 
 int rattle_errno(void) { return errno; }
 

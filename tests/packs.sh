@@ -298,5 +298,87 @@ has 'the status of a server without requests' 0 $?
 has 'the status of a server that only reads' 0 $?
 saves 'a pack after servers without requests' pack before
 
+if [ -n "${ELSEWHERE:-}" ]; then
+    echo 'skipped: the files below folders, since a program elsewhere may know no folders'
+    echo "$passed passed, $failed failed"
+    [ "$failed" = 0 ]
+    exit
+fi
+
+# A folder of images: its files come first, then its folders, by the bytes of their names. Links aren't followed, and only regular files are read.
+mkdir -p tree/b/deep tree/a tree/empty tree/B
+"$program" mkfs 7 tree/volume 20 1 0 0 1
+for number in $(seq 10 27); do
+    printf 'text' > "tree/a/text.$number"
+    printf '' > "tree/b/empty.$number"
+done
+cp tree/volume tree/b/deep/volume
+cp tree/volume tree/B/volume
+printf 'BZh' > tree/z
+ln -s . tree/loop
+ln -s ../z tree/a/link
+ln -s nowhere tree/a/astray
+mkfifo tree/pipe
+volume='looks like a volume of edition 7, with 20 blocks, sound'
+{
+    echo "tree/volume: $volume"
+    echo 'tree/z: looks packed by bzip2'
+    echo "tree/B/volume: $volume"
+    for number in $(seq 10 27); do echo "tree/a/text.$number: looks like nothing that unixvol knows"; done
+    for number in $(seq 10 27); do echo "tree/b/empty.$number: looks empty: it has no bytes but zeros"; done
+    echo "tree/b/deep/volume: $volume"
+} > lines
+prints lines identify -r tree
+(ulimit -v 300000 && exec "$program" identify --recursive tree) > output 2> error
+has 'the files below a folder, in little memory' "0$(cat lines)" "$?$(cat output error)"
+sed 's@^tree@tree/@' lines > slashed
+prints slashed identify -r tree/
+has 'the number of files below a folder' 40 "$(wc -l < lines)"
+
+# Words that are files have their lines, in their places; without the option a folder isn't read.
+{ echo 'tree/z: looks packed by bzip2' && grep '^tree/b/' lines && echo "tree/volume: $volume"; } > some
+prints some identify -r tree/z tree/b tree/volume
+prints none identify -r tree/empty
+refuses 3 'unixvol: cannot read tree' identify tree
+{ echo 'tree/z: looks packed by bzip2' && grep '^tree/b/' lines; } > some
+runs identify -r tree/z tree/none tree/b
+echo 'unixvol: cannot read tree/none' > line
+wants 'a word that names nothing, between others' 3 some line
+
+# A link that is a word is followed.
+ln -s tree/b there
+sed -n 's@^tree/b/@there/@p' lines > some
+prints some identify -r there
+
+# One object a file, and one table for all.
+"$program" identify --json -r tree > output
+has 'the objects of the files below a folder' "$(sed 's/: looks.*//' lines)" "$(sed 's/.*"file":"\([^"]*\)".*/\1/' output)"
+"$program" identify --csv -r tree > output
+has 'the rows of the volumes below a folder' "$(printf '%s\n' file tree/volume tree/B/volume tree/b/deep/volume)" "$(cut -d , -f 1 output)"
+
+# A name that isn't UTF-8, and a folder without rights: a fault each, and the run goes on.
+printf x > "$(printf 'tree/b/\377')"
+runs identify -r tree
+echo 'unixvol: cannot read tree/b' > line
+wants "a name that isn't UTF-8" 3 lines line
+runs identify -r tree --explain
+echo 'unixvol: tree/b: a name in it is not UTF-8 text' >> line
+wants "the second line for a name that isn't UTF-8" 3 lines line
+rm "$(printf 'tree/b/\377')"
+if [ "$(id -u)" = 0 ]; then
+    echo 'skipped: the super-user may read each folder'
+else
+    chmod 0 tree/b
+    grep -v '^tree/b/' lines > some
+    echo 'unixvol: cannot read tree/b' > line
+    runs identify -r tree
+    wants 'a folder without rights' 3 some line
+    chmod 755 tree/b
+fi
+
+# If standard output fails, no further file is read.
+"$program" identify -r tree > /dev/full 2> error
+has 'the files below a folder, to a full device' '3 unixvol: cannot write -' "$? $(cat error)"
+
 echo "$passed passed, $failed failed"
 [ "$failed" = 0 ]

@@ -170,7 +170,7 @@ asks_listing clock given edition image path (invocations.Resize volume blocks is
 asks_listing clock given edition image path (invocations.Serve volume serving) test e_is i_is p_is none is = absurd (true≢false (sym test))
 asks_listing clock given edition image path (invocations.ExportBad volume file p options) test e_is i_is p_is none is = absurd (true≢false (sym test))
 asks_listing clock given edition image path (invocations.Diff volume other by) test e_is i_is p_is none is = absurd (true≢false (sym test))
-asks_listing clock given edition image path (invocations.Identify images form) test e_is i_is p_is none is = absurd (true≢false (sym test))
+asks_listing clock given edition image path (invocations.Identify images form is_deep) test e_is i_is p_is none is = absurd (true≢false (sym test))
 asks_listing clock given edition image path (invocations.Change volume (changes.Put p file keep now) trace) test e_is i_is p_is none is = absurd (true≢false (sym test))
 asks_listing clock given edition image path (invocations.Change volume (changes.Import p options now) trace) test e_is i_is p_is none is = absurd (true≢false (sym test))
 asks_listing clock given edition image path (invocations.Change volume (changes.Rm p now) trace) test e_is i_is p_is none is = absurd (true≢false (sym test))
@@ -261,7 +261,7 @@ listing_asks clock (Some met) edition image path (invocations.Resize volume bloc
 listing_asks clock (Some met) edition image path (invocations.Serve volume serving) is listed = absurd listed
 listing_asks clock (Some met) edition image path (invocations.ExportBad volume file p options) is listed = absurd listed
 listing_asks clock (Some met) edition image path (invocations.Diff volume other by) is listed = absurd listed
-listing_asks clock (Some met) edition image path (invocations.Identify images form) is listed = absurd listed
+listing_asks clock (Some met) edition image path (invocations.Identify images form is_deep) is listed = absurd listed
 listing_asks clock (Some met) edition image path (invocations.Look v (looks.Export p options)) is listed = absurd listed
 listing_asks clock (Some met) edition image path (invocations.Look v (looks.Sums p form lost)) is listed = absurd listed
 listing_asks clock (Some met) edition image path (invocations.Look v (looks.Inode number form)) is listed = absurd listed

@@ -69,7 +69,7 @@ puts clock given (invocations.Resize volume blocks is_trial) put is = absurd (tr
 puts clock given (invocations.Serve volume serving) put is = absurd (true≢false (sym put))
 puts clock given (invocations.ExportBad volume map p options) put is = absurd (true≢false (sym put))
 puts clock given (invocations.Diff volume other by) put is = absurd (true≢false (sym put))
-puts clock given (invocations.Identify images form) put is = absurd (true≢false (sym put))
+puts clock given (invocations.Identify images form is_deep) put is = absurd (true≢false (sym put))
 
 -- every invocation of `get` reads one file or several
 gets : (clock : Option ℕ) (given : Words) (invocation : Invocation) → is_get (verb_of invocation) ≡ true → IsGiven clock given invocation → IsGot given
@@ -116,7 +116,7 @@ gets clock given (invocations.Resize volume blocks is_trial) got is = absurd (tr
 gets clock given (invocations.Serve volume serving) got is = absurd (true≢false (sym got))
 gets clock given (invocations.ExportBad volume map p options) got is = absurd (true≢false (sym got))
 gets clock given (invocations.Diff volume other by) got is = absurd (true≢false (sym got))
-gets clock given (invocations.Identify images form) got is = absurd (true≢false (sym got))
+gets clock given (invocations.Identify images form is_deep) got is = absurd (true≢false (sym got))
 
 -- if the words put neither one file nor several, `put` has no invocation
 no_put : (clock : Option ℕ) (given : Words) → (IsPut clock given → ⊥) → AsksForNothing clock verbs.Put given

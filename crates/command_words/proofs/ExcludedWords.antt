@@ -36,7 +36,7 @@ is_identify _ = false
 abbrev IsChosen : Invocation → Type 0
 IsChosen invocation =
     ((place : NewPlace) × (volume : NewVolume) × (invocation ≡ invocations.Mkfs place volume))
-    ⊎ (((images : Vec (Bor (List ℕ))) × (form : GuessForm) × (invocation ≡ invocations.Identify images form))
+    ⊎ (((images : Vec (Bor (List ℕ))) × (form : GuessForm) × (is_deep : Bool) × (invocation ≡ invocations.Identify images form is_deep))
     ⊎ ((is_mkfs (verb_of invocation) ≡ false) × (is_identify (verb_of invocation) ≡ false)))
 
 chosen : (invocation : Invocation) → IsChosen invocation
@@ -83,7 +83,7 @@ chosen (invocations.Resize volume blocks is_trial) = inr (inr (refl, refl))
 chosen (invocations.Serve volume serving) = inr (inr (refl, refl))
 chosen (invocations.ExportBad volume map p options) = inr (inr (refl, refl))
 chosen (invocations.Diff volume other by) = inr (inr (refl, refl))
-chosen (invocations.Identify images form) = inr (inl (images, form, refl))
+chosen (invocations.Identify images form is_deep) = inr (inl (images, form, is_deep, refl))
 
 -- words for an invocation of `mkfs` in a file that must not exist have no block of a file
 makes : (given : Words) (place : NewPlace) → IsNewPlaceGiven given place → is_set (given (codes "new")) ≡ true → IsLeftOut given (codes "at")
@@ -111,7 +111,7 @@ place_wrong clock given (inl wrong) = no_value clock verbs.Mkfs given (inr (inr 
 place_wrong clock given (inr both) = λ invocation asks. elim (chosen invocation) [
   | inl of ↦ both.1 (makes given of.0 (subst (IsGiven clock given) of.2 asks.1).0 both.0)
   | inr other ↦ elim other [
-    | inl of ↦ absurd (true≢false (ap is_mkfs (asks.0 ∙ ap verb_of of.2)))
+    | inl of ↦ absurd (true≢false (ap is_mkfs (asks.0 ∙ ap verb_of of.3)))
     | inr neither ↦ absurd (true≢false (ap is_mkfs asks.0 ∙ neither.0))
   ]
 ]
@@ -122,7 +122,7 @@ unfolding AsksForNothing is_identify
 two_forms clock given both = λ invocation asks. elim (chosen invocation) [
   | inl of ↦ absurd (true≢false (ap is_identify (asks.0 ∙ ap verb_of of.2)))
   | inr other ↦ elim other [
-    | inl of ↦ guesses_one given of.1 (subst (IsGiven clock given) of.2 asks.1).1 both
+    | inl of ↦ guesses_one given of.1 (subst (IsGiven clock given) of.3 asks.1).1 both
     | inr neither ↦ absurd (true≢false (ap is_identify asks.0 ∙ neither.1))
   ]
 ]

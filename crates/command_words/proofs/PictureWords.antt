@@ -63,7 +63,7 @@ draws clock given (invocations.Resize volume blocks is_trial) drawn is json svg 
 draws clock given (invocations.Serve volume serving) drawn is json svg = absurd (true≢false (sym drawn))
 draws clock given (invocations.ExportBad volume map p options) drawn is json svg = absurd (true≢false (sym drawn))
 draws clock given (invocations.Diff volume other by) drawn is json svg = absurd (true≢false (sym drawn))
-draws clock given (invocations.Identify images form) drawn is json svg = absurd (true≢false (sym drawn))
+draws clock given (invocations.Identify images form is_deep) drawn is json svg = absurd (true≢false (sym drawn))
 
 -- if `--json` and `--svg` are given, `map` has no invocation
 pub picture_as_json : (clock : Option ℕ) (given : Words) → is_set (given (codes "json")) ≡ true → is_set (given (codes "svg")) ≡ true

@@ -161,7 +161,7 @@ values_given clock given (invocations.Serve volume (servings.Changes is_mine res
     (edition_value volume.edition volume.is_any _ is.0.0, (tt, (at_value volume.at _ is.0.2, (tt, (tt, (is.1.2.1, tt))))))
 values_given clock given (invocations.Diff volume other by) is =
     (edition_value volume.edition volume.is_any _ is.0.0, (tt, (at_value volume.at _ is.0.2, (tt, (tt, (tt, (tt, tt)))))))
-values_given clock given (invocations.Identify images form) is = (tt, (tt, (tt, tt)))
+values_given clock given (invocations.Identify images form is_deep) is = (tt, (tt, (tt, (tt, tt))))
 
 -- if all words are valid, none of them is wrong
 none_wrong : (clock : Option ℕ) (given : Words) (row : List Argument) → AreValues clock given row → IsOneWrong clock given row → ⊥

@@ -245,7 +245,7 @@ verb_of (invocations.Copy volume copying) = copying_verb copying
 verb_of (invocations.Work volume work) = work_verb work
 verb_of (invocations.Serve volume serving) = verbs.Serve
 verb_of (invocations.Diff volume other by) = verbs.Diff
-verb_of (invocations.Identify images form) = verbs.Identify
+verb_of (invocations.Identify images form is_deep) = verbs.Identify
 
 -- the volume in a file that a command works on, if its words name the volume's edition (this project)
 abbrev pub volume_of : Invocation → Option VolumeFile
@@ -262,7 +262,7 @@ volume_of (invocations.Work volume work) = Some volume
 volume_of (invocations.Serve volume serving) = Some volume
 volume_of (invocations.ExportBad volume map p options) = Some volume
 volume_of (invocations.Diff volume other by) = Some volume
-volume_of (invocations.Identify images form) = None
+volume_of (invocations.Identify images form is_deep) = None
 
 -- the same command on this volume, if it works on a volume whose edition its words name; else the command itself (this project)
 abbrev pub with_volume : Invocation → VolumeFile → Invocation
@@ -279,7 +279,7 @@ with_volume (invocations.Work old work) volume = invocations.Work volume work
 with_volume (invocations.Serve old serving) volume = invocations.Serve volume serving
 with_volume (invocations.ExportBad old map p options) volume = invocations.ExportBad volume map p options
 with_volume (invocations.Diff old other by) volume = invocations.Diff volume other by
-with_volume (invocations.Identify images form) volume = invocations.Identify images form
+with_volume (invocations.Identify images form is_deep) volume = invocations.Identify images form is_deep
 
 -- the words say that a volume begins at this block of a file: 0 if they say nothing of it (this project)
 abbrev pub IsAtGiven : Words → ℕ → Type 0
@@ -539,7 +539,8 @@ IsGiven clock given (invocations.Work volume work) = IsVolumeGiven given volume 
 IsGiven clock given (invocations.Serve volume serving) = IsVolumeGiven given volume × IsServingGiven given serving
 IsGiven clock given (invocations.Diff volume other by) =
     IsVolumeGiven given volume × (other.now ≡ the_word given (codes "OTHER")) × IsComparisonGiven given by
-IsGiven clock given (invocations.Identify images form) = (map (λ image. image.now) images.items ≡ given (codes "IMAGE")) × IsGuessFormGiven given form
+IsGiven clock given (invocations.Identify images form is_deep) = (map (λ image. image.now) images.items ≡ given (codes "IMAGE")) × IsGuessFormGiven given form
+    × (is_deep ≡ is_set (given (codes "recursive")))
 
 -- the command, with the words for its arguments, is read as this invocation (this project)
 abbrev pub AsksFor : Option ℕ → Verb → Words → Invocation → Type 0

@@ -173,7 +173,7 @@ arguments_of verbs.Migrate =
     word (codes "OLD") ∷ word (codes "NEW") ∷ long_number (codes "FSIZE") ∷ number (codes "IBLOCKS") ∷ moment ∷ option (codes "new") ∷ at ∷ []
 arguments_of verbs.Serve = on_volume (option (codes "read-only") ∷ option (codes "mine")
     ∷ (codes "rescue", kinds.Path, needs.Value (Some 114) values.Rescue) ∷ [])
-arguments_of verbs.Identify = (codes "IMAGE", kinds.Text, needs.Several) ∷ option (codes "json") ∷ option (codes "csv") ∷ []
+arguments_of verbs.Identify = (codes "IMAGE", kinds.Text, needs.Several) ∷ option (codes "json") ∷ option (codes "csv") ∷ lettered (codes "recursive") 114 ∷ []
 
 -- all commands, in the order in which the help lists them (this project)
 abbrev pub all_verbs : List Verb

@@ -19,7 +19,11 @@ pub(crate) fn read_identify<'a, G: Given<'a>>(
 {
     let images = given.all(alloc, "IMAGE")?;
     let form = guess_form_in(given)?;
-    Ok(Invocation::Identify { images, form })
+    Ok(Invocation::Identify {
+        images,
+        form,
+        is_deep: flag_in(given, "recursive"),
+    })
 }
 
 /// Reads the format of guesses. JSON and a catalogue exclude each other.

@@ -185,10 +185,11 @@ pub enum Invocation<'a> {
         other: &'a str,
         by: Comparison,
     },
-    /// Guess what the images in these files are, in this format.
+    /// Guess what the images in these files are, in this format; if `is_deep`, also in all regular files below those that are folders.
     Identify {
         images: Vec<&'a str>,
         form: GuessForm,
+        is_deep: bool,
     },
 }
 

@@ -1,4 +1,5 @@
 pub mod Archives
+pub mod Folders
 pub mod OpenedFiles
 pub mod Packs
 pub mod ReadParts

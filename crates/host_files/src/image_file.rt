@@ -3,6 +3,7 @@ ghost use Rattle.std.specs.Prelude.{◌≡◌, ◌↔◌, ◌==◌, ◌&&◌, If
 ghost use Rattle.std.specs.Fs.{IsDir, IsFile, file_type, metadata_len};
 ghost use Rattle.host_files.specs.OpenedFiles.{IsOpenTo, OpensTo};
 
+use crate::folders::{FolderListing, folder_listing};
 use crate::system::ImageFiles;
 use std::fs::{self, File, Metadata, OpenFile, TryLockError};
 use std::io::{self, IsTerminal, Seek, SeekFrom};
@@ -102,6 +103,8 @@ impl ImageFiles for HostRuntime {
 
     ghost stands = { λ _ _. Unit {0} };
 
+    ghost listed = { λ _ _. Unit {0} };
+
     ghost refused = { λ _ _ _. Unit {0} };
 
     fn stamp_of(&self, file: &File) -> io::Result<Stamp> {
@@ -120,6 +123,10 @@ impl ImageFiles for HostRuntime {
 
     fn stamp_of_name(&self, path: &str) -> io::Result<Stamp> {
         Ok(Stamp::of(&fs::symlink_metadata(self, path)?))
+    }
+
+    fn folder_at(&self, path: &str) -> io::Result<FolderListing> {
+        folder_listing(self, path)
     }
 
     fn is_there(&self, path: &str) -> bool {

@@ -4,6 +4,7 @@
 mod acts;
 mod archive_front;
 mod filling;
+mod folders;
 mod holed_file;
 mod holes;
 mod image_file;
@@ -14,6 +15,7 @@ mod saved_files;
 mod system;
 mod volume_front;
 
+pub use folders::{FolderListing, Found, FoundKind, stack_found};
 pub use holes::{HoleSink, SinkFailed, write_with_holes};
 pub use image_file::{FileKind, OpenFault, Stamp, expect_image, open_image, open_stamped};
 pub use marks::{Marks, modified_in, permissions_of};

@@ -2,9 +2,11 @@
 ghost use Rattle.std.specs.Prelude.{ℕ, List, Bool, replicate, IfErr, IfOk, OnOk};
 ghost use Rattle.std.specs.Io.KnownBytes.{Appends};
 ghost use Rattle.std.specs.declared.io.Error.{Error};
+ghost use Rattle.host_files.specs.declared.folders.FolderListing.{FolderListing};
 ghost use Rattle.host_files.specs.declared.image_file.Stamp.{Stamp};
 ghost use Rattle.host_files.specs.Packs.{HasBytes, IsMovedTo};
 
+use crate::folders::FolderListing;
 use crate::image_file::Stamp;
 use std::fs::Files;
 use std::io;
@@ -20,6 +22,9 @@ pub trait ImageFiles: Files {
     /// The system reported whether something exists at a path.
     ghost stands: { List ℕ → Bool → Type 0 };
 
+    /// The system reported this of what is in the folder at a path.
+    ghost listed: { List ℕ → FolderListing → Type 0 };
+
     /// The system refused, with this error, to move over this number of bytes of an open file.
     ghost refused: { Self.File → ℕ → Error → Type 0 };
 
@@ -33,6 +38,11 @@ pub trait ImageFiles: Files {
 
     /// Returns the stamp of the name `path` itself: symbolic links aren't followed, and count as streams.
     fn stamp_of_name(&self, path: &str) -> io::Result<Stamp>;
+
+    /// Returns the regular files and the folders in the folder at `path`, each with its path, in any order; symbolic links in it aren't followed. Fails if
+    /// the folder can't be read, or memory runs out. If something in it can't be examined, the rest is returned with the reason.
+    fn folder_at(&self, path: &str) -> io::Result<FolderListing>
+        ensures { IfOk result (listed path.now) };
 
     /// True if something exists at `path`, even a symbolic link that leads nowhere. A path that can't be examined counts as existing.
     fn is_there(&self, path: &str) -> bool

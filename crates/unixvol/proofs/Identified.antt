@@ -74,7 +74,7 @@ take_past xs ys n =
     ∙ ap (λ t. xs ++ take n t) (drop_at xs ys (length xs) refl))
 
 -- if a part of some bytes follows others, so much of both is a part of them
-cut_behind : (a b c : Option (List ℕ)) (xs ys : List ℕ) (count : ℕ) → Appends a b xs → AppendsFront b c ys count → AppendsFront a c (xs ++ ys) (length xs + count)
+pub cut_behind : (a b c : Option (List ℕ)) (xs ys : List ℕ) (count : ℕ) → Appends a b xs → AppendsFront b c ys count → AppendsFront a c (xs ++ ys) (length xs + count)
 cut_behind a b c xs ys count had cut =
     (omega (arith, length-append xs ys, cut.0), subst (Appends a c) (sym (take_past xs ys count)) (Appends-trans a b c xs (take count ys) had cut.1))
 
@@ -134,7 +134,7 @@ printed_all remaining stamped stood form images k streams status all had working
     )
 
 -- the status of a line is at most 4
-line_few : {F : Type 0} (remaining : F → Option (List ℕ)) (stamped : F → Stamp → Type 0) (stood : Stamp → Type 0) (form : GuessForm) (path line : List ℕ) (one : ℕ) → IsLine remaining stamped stood form path line one → one ≤ 4
+pub line_few : {F : Type 0} (remaining : F → Option (List ℕ)) (stamped : F → Stamp → Type 0) (stood : Stamp → Type 0) (form : GuessForm) (path line : List ℕ) (one : ℕ) → IsLine remaining stamped stood form path line one → one ≤ 4
 line_few remaining stamped stood form path line one (inl told) = omega (arith, told.0)
 line_few remaining stamped stood form path line one (inr (inl three, none)) = omega (arith, three)
 line_few remaining stamped stood form path line one (inr (inr four, none)) = omega (arith, four)

@@ -14,3 +14,4 @@ pub mod Played
 pub mod Salvaged
 pub mod Saved
 pub mod Traced
+pub mod VisitedBelow

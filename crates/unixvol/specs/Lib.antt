@@ -1,3 +1,4 @@
+pub mod Below
 pub mod Compare
 pub mod Copies
 pub mod Editions

@@ -78,7 +78,7 @@ fn print_lines<R: ImageFiles + Eprint + AllocGlobal, O: Sink>(
 }
 
 /// Returns what is printed before the first line.
-fn front_of(form: GuessForm) -> &'static [u8]
+pub(crate) fn front_of(form: GuessForm) -> &'static [u8]
     ensures { result.now ≡ front_of form }
 {
     match form {
@@ -89,7 +89,7 @@ fn front_of(form: GuessForm) -> &'static [u8]
 
 /// Prints the line of a file, or the lines of its pack, and returns its status. If it can't be read, prints the fault too. Fails only if standard output
 /// does.
-fn print_line<R: ImageFiles + Eprint + AllocGlobal, O: Sink>(
+pub(crate) fn print_line<R: ImageFiles + Eprint + AllocGlobal, O: Sink>(
     host: &Surroundings<'_, R>,
     output: &mut O,
     form: GuessForm,

@@ -12,6 +12,7 @@ mod guesses;
 mod hints;
 mod host;
 mod identify;
+mod identify_below;
 mod line_meanings;
 mod looks;
 mod meanings;
@@ -99,9 +100,20 @@ fn main(rt: HostRuntime) -> ExitCode {
         Ok(Invocation::Diff { volume, other, by }) => {
             compare::run_to_end(&host, output, errors, volume, other, by)
         }
-        Ok(Invocation::Identify { images, form }) => {
-            identify::run_to_end(&host, output, errors, form, &images)
-        }
+        Ok(
+            Invocation::Identify {
+                images,
+                form,
+                is_deep: false,
+            },
+        ) => identify::run_to_end(&host, output, errors, form, &images),
+        Ok(
+            Invocation::Identify {
+                images,
+                form,
+                is_deep: true,
+            },
+        ) => identify_below::run_to_end(&host, output, errors, form, &images),
         read => commands::run_to_end(&host, output, errors, read),
     }
 }

@@ -16,5 +16,12 @@ const CSV: Parameter = Parameter {
     help: texts::identify::CSV,
 };
 
+const RECURSIVE: Parameter = Parameter {
+    name: "recursive",
+    kind: WordKind::Flag,
+    need: Need::Flag(Some('r')),
+    help: texts::identify::RECURSIVE,
+};
+
 /// The words of `identify`.
-pub static IDENTIFY_WORDS: [Parameter; 3] = [IMAGES, JSON, CSV];
+pub static IDENTIFY_WORDS: [Parameter; 4] = [IMAGES, JSON, CSV, RECURSIVE];

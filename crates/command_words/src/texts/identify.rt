@@ -6,6 +6,7 @@ pub const MORE: &str = "\
 Examples:
   unixvol identify pack.img other.img
   unixvol identify --json *.img
+  unixvol identify -r archive > found.txt
 
 Each image has a line: its path, and what it looks like. That is a guess by a few bytes; nothing is changed. All
 other commands must be told the edition. A file in which a volume begins after block 0 is a pack, and has lines:
@@ -39,6 +40,11 @@ A regular file is searched for volumes to its end; then each volume is read, one
 change the guess, its line ends with `, by its first 268435456 bytes`. All lines of an image are printed before
 the next one is read.
 
+With -r an IMAGE may be a folder: all regular files below it have their lines, as they are found. In each folder the
+files come first, then its folders, each in the order of their names' bytes. Symbolic links and special files below
+it are left out. A folder that can't be read, or that has a name which isn't UTF-8, has no line but
+`unixvol: cannot read FOLDER` on standard error.
+
 With --json each image is one object on a line:
 
   bytes    the size of a regular file; null of another
@@ -63,10 +69,12 @@ each volume once more; one volume at a time is in memory.
 Status, the greatest if there are several:
   0  all images were read
   2  the command line is wrong
-  3  `unixvol: cannot read IMAGE`: the others were read; or `unixvol: cannot write -`: standard output failed, and
-     the images after that line weren't read
+  3  `unixvol: cannot read IMAGE`, or a folder: the others were read; or `unixvol: cannot write -`: standard output
+     failed, and the images after that line weren't read
   4  `unixvol: 12 NoMemory: IMAGE`: the others were read";
 
 pub const CSV: &str = "Print a catalogue of volumes, as comma-separated values; not with --json";
 
 pub const IMAGES: &str = "The disk images, one or more";
+
+pub const RECURSIVE: &str = "Look at all regular files below each IMAGE that is a folder";

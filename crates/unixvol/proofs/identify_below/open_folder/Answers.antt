@@ -1,0 +1,7 @@
+use Rattle.std.proofs.Common.{inl}
+use Rattle.unixvol.proofs.identify_below.open_folder.Goals as goal
+
+pub returns-in-Ok-stack_found : goal.returns-in-Ok-stack_found
+returns-in-Ok-stack_found g c =
+    let more = c.in-Ok-stack_found.ensures.ok in
+    (more.0, inl (c.in-Ok.listing, c.in-Ok.ensures, more.1, c.tell_left_out.ensures), more.2)

@@ -291,6 +291,25 @@ else
     echo 'skipped: no loop device can be had, so no pack on a device is changed'
 fi
 
+# On a device a volume is made in its place, but in no block of another volume, and not past the end.
+image small 512000
+"$program" mkfs 7 one 300 10 0 0 1000
+"$program" mkfs 6 two 600 10 0 0 1000
+cp small wanted
+dd if=one of=wanted seek=100 conv=notrunc status=none
+dd if=two of=wanted seek=400 conv=notrunc status=none
+if device=$(losetup -f --show small 2> /dev/null); then
+    prints none mkfs 7 "$device" 300 10 0 0 1000 --at 100
+    refuses 3 "unixvol: cannot write $device"$'\n'"unixvol: $device: it would overwrite blocks of the volume at block 100, which has 300" \
+        --explain mkfs 6 "$device" 600 10 0 0 1000 --at 399
+    refuses 3 "unixvol: cannot write $device"$'\n'"unixvol: $device: it has only 1000 blocks" --explain mkfs 6 "$device" 601 10 0 0 1000 --at 400
+    prints none mkfs 6 "$device" 600 10 0 0 1000 --at 400
+    losetup -d "$device"
+    saves 'a device in which two volumes were made' small wanted
+else
+    echo 'skipped: no loop device can be had, so no volume is made in one'
+fi
+
 # A volume of a pack is served, and saved in its place.
 "$program" serve --at $seventh 7 pack < /dev/null > output 2> error
 has 'the status of a server without requests' 0 $?
@@ -304,6 +323,9 @@ if [ -n "${ELSEWHERE:-}" ]; then
     [ "$failed" = 0 ]
     exit
 fi
+
+# A device without an end that can be moved to has no blocks.
+refuses 3 $'unixvol: cannot write /dev/null\nunixvol: /dev/null: it has only 0 blocks' --explain mkfs 7 /dev/null 200 10 0 0 1000 --at 1
 
 # A folder of images: its files come first, then its folders, by the bytes of their names. Links aren't followed, and only regular files are read.
 mkdir -p tree/b/deep tree/a tree/empty tree/B

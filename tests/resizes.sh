@@ -215,10 +215,18 @@ echo 'unixvol: cannot write first' > line
 wants 'resize where the new file finds no room' 3 none line
 saves 'a volume whose new file found no room' first before
 
-# A volume on a device gets smaller, and not larger.
+# A volume on a device gets smaller, and larger up to the device's end or the next volume.
+cp pack wanted
+"$program" resize 7 wanted 600
+"$program" resize 6 wanted 400 --at 600
 if device=$(losetup -f --show pack 2> /dev/null); then
-    refuses 3 "unixvol: cannot write $device" resize 7 "$device" 301
-    refuses 3 "unixvol: cannot write $device"$'\n'"unixvol: $device: it is no regular file, and only in one a volume can become larger" --explain resize 7 "$device" 301
+    refuses 3 "unixvol: cannot write $device"$'\n'"unixvol: $device: it would overwrite blocks of the volume at block 600, which has 100" \
+        --explain resize 7 "$device" 601
+    refuses 3 "unixvol: cannot write $device"$'\n'"unixvol: $device: it has only 1000 blocks" --explain resize 6 "$device" 401 --at 600
+    prints none resize 7 "$device" 600
+    prints none resize 6 "$device" 400 --at 600
+    sync "$device"
+    saves 'a pack on a device with two larger volumes' pack wanted
     prints none resize 7 "$device" 200
     losetup -d "$device"
     "$program" check 7 pack > output && passes || fails 'a volume on a device that became smaller'

@@ -117,6 +117,15 @@ impl ImageFiles for HostRuntime {
         Ok(Stamp { kind, ..stamp })
     }
 
+    fn sized_stamp_of(&self, file: &mut File) -> io::Result<Stamp> {
+        let stamp = self.stamp_of(file)?;
+        if stamp.kind != FileKind::Device {
+            return Ok(stamp);
+        }
+        let size = end_of(file)?;
+        Ok(Stamp { size, ..stamp })
+    }
+
     fn stamp_at(&self, path: &str) -> io::Result<Stamp> {
         Ok(Stamp::of(&fs::metadata(self, path)?))
     }
@@ -158,6 +167,14 @@ impl ImageFiles for HostRuntime {
     }
 }
 
+/// Returns the number of bytes before the end of an open file, which stays where it was.
+fn end_of(file: &mut File) -> io::Result<u64> {
+    let here = file.stream_position()?;
+    let end = file.seek(SeekFrom::End(0))?;
+    file.seek(SeekFrom::Start(here))?;
+    Ok(end)
+}
+
 /// Returns the offset `count` bytes after another one, or an error if no file has it.
 fn offset_after(offset: u64, count: u64) -> io::Result<u64> {
     match offset.checked_add(count) {
@@ -172,6 +189,15 @@ pub fn open_stamped<R: ImageFiles>(rt: &R, path: &str) -> io::Result<(R::File, S
 {
     let file = fs::open(rt, path)?;
     let stamp = rt.stamp_of(&file)?;
+    Ok((file, stamp))
+}
+
+/// Opens a file, and returns it with its stamp; of a device, the stamp's size is the number of its bytes.
+pub fn open_sized<R: ImageFiles>(rt: &R, path: &str) -> io::Result<(R::File, Stamp)>
+    ensures { IfOk result (λ opened. R.had opened.0 opened.1) }
+{
+    let mut file = fs::open(rt, path)?;
+    let stamp = rt.sized_stamp_of(&mut file)?;
     Ok((file, stamp))
 }
 

@@ -17,7 +17,9 @@ mod volume_front;
 
 pub use folders::{FolderListing, Found, FoundKind, stack_found};
 pub use holes::{HoleSink, SinkFailed, write_with_holes};
-pub use image_file::{FileKind, OpenFault, Stamp, expect_image, open_image, open_stamped};
+pub use image_file::{
+    FileKind, OpenFault, Stamp, expect_image, open_image, open_sized, open_stamped,
+};
 pub use marks::{Marks, modified_in, permissions_of};
 pub use noted::{Noted, noted_reader, noted_writer};
 pub use pack::{MoveFault, SpliceFault, moved_to, splice};

@@ -1,5 +1,5 @@
 //! What the system does with the file of an image, and what it reported.
-ghost use Rattle.std.specs.Prelude.{ℕ, List, Bool, replicate, IfErr, IfOk, OnOk};
+ghost use Rattle.std.specs.Prelude.{◌≡◌, ℕ, List, Bool, replicate, IfErr, IfOk, OnOk};
 ghost use Rattle.std.specs.Io.KnownBytes.{Appends};
 ghost use Rattle.std.specs.declared.io.Error.{Error};
 ghost use Rattle.host_files.specs.declared.folders.FolderListing.{FolderListing};
@@ -31,6 +31,11 @@ pub trait ImageFiles: Files {
     /// Returns the present stamp of an open file; a terminal is a stream.
     fn stamp_of(&self, file: &Self::File) -> io::Result<Stamp>
         ensures { IfOk result (had file.now) };
+
+    /// Returns the present stamp of an open file; of a device, with the number of its bytes up to its end as its size. The file stays where it was.
+    fn sized_stamp_of(&self, file: &mut Self::File) -> io::Result<Stamp>
+        ensures stamp { IfOk result (had file.new) }
+        ensures kept { OnOk result (Self.File.remaining file.new ≡ Self.File.remaining file.old) };
 
     /// Returns the present stamp of the file at `path`. Symbolic links are followed; a terminal counts as a device.
     fn stamp_at(&self, path: &str) -> io::Result<Stamp>

@@ -7,7 +7,7 @@ ghost use Rattle.pack_files.specs.PackFiles.{blocks_in};
 ghost use Rattle.pack_files.specs.OtherVolumes.{FindsOther, is_in_way};
 
 use crate::judged_packs::{PackFault, blocks_in, scanned_parts};
-use host_files::{ImageFiles, noted_reader, open_stamped};
+use host_files::{ImageFiles, noted_reader, open_sized};
 use std::alloc::Global;
 use std::io::Read;
 use vol_identify::Part;
@@ -23,7 +23,8 @@ pub struct Growth {
     pub gets: u32,
 }
 
-/// Returns the first other volume of the pack in a file that has one of the blocks which a volume would get. The file is a regular one.
+/// Returns the first other volume of the pack in a file that has one of the blocks which a volume would get. The file is a regular one, or a device,
+/// of which all blocks up to its end are read.
 ///
 /// Reads the file to its end. A scan keeps less than 66 KiB.
 pub fn other_volume<R: ImageFiles + AllocGlobal>(
@@ -33,7 +34,7 @@ pub fn other_volume<R: ImageFiles + AllocGlobal>(
 ) -> Result<Option<Part>, PackFault>
     ensures { IfOk result (FindsOther R.File.remaining R.had growth) }
 {
-    match open_stamped(rt, path) {
+    match open_sized(rt, path) {
         Ok((file, stamp)) => find_in_way(rt.alloc(), file, blocks_in(stamp.size), growth),
         Err(why) => Err(PackFault::Unread(Some(why))),
     }

@@ -7,21 +7,15 @@ use crate::explain::{NamedFile, explain_no_memory, explain_unread, explain_unwri
 use crate::host::Surroundings;
 use crate::meanings::shown;
 use command_faults::status::BAD_FILE;
-use host_files::{FileKind, ImageFiles, Stamp};
+use host_files::{FileKind, ImageFiles, Stamp, open_sized};
 use pack_files::{Growth, PackFault, other_volume};
 use pdp_words::BLOCK;
 use std::alloc::{AllocError, Global};
 use std::io;
 use vol_identify::Part;
 
-/// The message for a volume that isn't in a regular file.
-const DEVICE: &str = "it is no regular file, and only in one a volume can become larger";
-
-/// The message for a new volume whose place isn't in a regular file.
-const NO_FILE: &str = "it is no regular file, and only in one a volume can be made at a block";
-
-/// Checks that a volume can become larger in the file at `path`, which has this stamp: the file is a regular one, no other volume has blocks that it would
-/// get, and a pack has them. If it can't, prints why and returns the status. A volume can always become smaller.
+/// Checks that a volume can become larger in the file at `path`, which has this stamp: no other volume has blocks that it would get, and a pack or a
+/// device has them. If it can't, prints why and returns the status. A volume can always become smaller.
 pub fn expect_place<R: ImageFiles + Eprint + AllocGlobal>(
     host: &Surroundings<'_, R>,
     path: &str,
@@ -34,15 +28,10 @@ pub fn expect_place<R: ImageFiles + Eprint + AllocGlobal>(
     if growth.gets <= growth.had {
         return Ok(());
     }
+    if growth.at > 0 || stamp.kind != FileKind::Regular {
+        expect_end(host, path, stamp, growth)?;
+    }
     let named = NamedFile::File(path);
-    if stamp.kind != FileKind::Regular {
-        return Err(explain_unwritten(host, named, io::Error::other(DEVICE)));
-    }
-    let end = u64::from(growth.at) + u64::from(growth.gets);
-    let blocks = stamp.size / BLOCK as u64;
-    if growth.at > 0 && blocks < end {
-        return Err(explain_end(host, path, blocks));
-    }
     match other_volume(host.rt, path, growth) {
         Ok(None) => Ok(()),
         Ok(Some(part)) => Err(explain_other(host, path, part)),
@@ -52,8 +41,38 @@ pub fn expect_place<R: ImageFiles + Eprint + AllocGlobal>(
     }
 }
 
-/// Checks that a new volume can be made in the file at `path`, which has this stamp: the file is a regular one that has all its blocks, and none of them
-/// is another volume's. If it can't, prints why and returns the status.
+/// Checks that the file at `path`, which has this stamp, has all blocks of a volume. If it hasn't, prints why and returns the status.
+fn expect_end<R: ImageFiles + Eprint + AllocGlobal>(
+    host: &Surroundings<'_, R>,
+    path: &str,
+    stamp: Stamp,
+    growth: Growth,
+) -> Result<(), u8>
+    ensures { IfErr result IsStatusOfFileOrMemory }
+{
+    let size = match size_at(host.rt, path, stamp) {
+        Ok(size) => size,
+        Err(why) => return Err(explain_unwritten(host, NamedFile::File(path), why)),
+    };
+    let end = u64::from(growth.at) + u64::from(growth.gets);
+    let blocks = size / BLOCK as u64;
+    if blocks < end {
+        return Err(explain_end(host, path, blocks));
+    }
+    Ok(())
+}
+
+/// Returns the number of bytes of the file at `path`, which has this stamp: of a device, those up to its end.
+fn size_at<R: ImageFiles>(rt: &R, path: &str, stamp: Stamp) -> io::Result<u64> {
+    if stamp.kind == FileKind::Regular {
+        return Ok(stamp.size);
+    }
+    let (_, sized) = open_sized(rt, path)?;
+    Ok(sized.size)
+}
+
+/// Checks that a new volume can be made in the file at `path`, which has this stamp: the file has all its blocks, and none of them is another volume's. If it
+/// can't, prints why and returns the status.
 pub fn expect_room<R: ImageFiles + Eprint + AllocGlobal>(
     host: &Surroundings<'_, R>,
     path: &str,
@@ -63,15 +82,7 @@ pub fn expect_room<R: ImageFiles + Eprint + AllocGlobal>(
     ensures room { OnOk result (IsAlone R.File.remaining R.had place) }
     ensures fault { IfErr result IsStatusOfFileOrMemory }
 {
-    if stamp.kind != FileKind::Regular {
-        let named = NamedFile::File(path);
-        return Err(explain_unwritten(host, named, io::Error::other(NO_FILE)));
-    }
-    let end = u64::from(place.at) + u64::from(place.gets);
-    let blocks = stamp.size / BLOCK as u64;
-    if blocks < end {
-        return Err(explain_end(host, path, blocks));
-    }
+    expect_end(host, path, stamp, place)?;
     expect_place(host, path, stamp, place)
 }
 

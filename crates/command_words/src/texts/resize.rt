@@ -16,7 +16,7 @@ IMAGE is written only if everything succeeded: a new file is written beside it a
 begins at block 0 and the file ends with it, the file ends with the resized volume too, longer or shorter than before.
 Otherwise the file stays as long as it is. Blocks that a smaller volume gave up then keep what they have. A larger
 one takes blocks after it, whatever they have; but none of another volume, which is searched for as `unixvol
-identify` does. With --at it has to end where the file ends, or before. On a device a volume can't become larger.
+identify` does. With --at, and on a device, it has to end where the file ends, or before.
 
 With -n nothing is written: the status is what it would be, unless writing failed.
 

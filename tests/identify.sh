@@ -197,5 +197,74 @@ helps identify --help
     has 'the line of a full disk' 'unixvol: cannot write -' "$(cat error)"
 }
 
+# Tapes and disks of other systems, by the bytes that tell them for sure; without one of these, nothing is said.
+foreign() {
+    looks "$1.img" "looks like $2"
+    "$program" identify --json "$1.img" > output
+    has "the word for $2" "\"guess\":\"$3\"" "$(grep -o '"guess":"[^"]*"' output)"
+    while read -r at hex; do
+        changed "$1.img" other.img "$at" "$hex"
+        looks other.img 'looks like nothing that unixvol knows'
+    done
+}
+image tape.img 2064
+put tape.img 0 '00 04 00 00 d3 07'
+put tape.img 1028 '00 04 00 00 00 04 00 00 11'
+put tape.img 2060 '00 04 00 00'
+foreign tape 'a tape in the format of SIMH' simh << 'END'
+0 01
+2 01
+1028 02
+1030 01
+4 00040000
+END
+# The words of the header have the sum 84446, of which 16 bits are kept.
+python3 - << 'PYTHON'
+import struct
+words = [1, 5, 6, 0, 0, 1, 0, 0, 0, 60011, 0] + [7] * 245
+words[10] = (84446 - sum(words)) % 65536
+open("dump.img", "wb").write(struct.pack("<256H", *words) + bytes(1536))
+home = [3] * 240 + list(struct.unpack("<6H", b"DECFILE11A  ")) + [0] * 3
+home += [0] * (255 - len(home))
+home.append(sum(home) % 65536)
+open("files11.img", "wb").write(b"x" * 512 + struct.pack("<256H", *home) + bytes(1024))
+open("rt11.img", "wb").write(b"y" * 512 + bytes(496) + b"DECRT11A    " + bytes(4) + bytes(1024))
+boot = bytearray(2048)
+boot[0:3] = b"\xeb\x3c\x90"
+boot[3:11] = b"MSDOS5.0"
+struct.pack_into("<HBHBHHB", boot, 11, 512, 1, 1, 2, 112, 720, 0xFD)
+boot[510:512] = b"\x55\xaa"
+open("fat.img", "wb").write(boot)
+PYTHON
+foreign dump "a tape of V7's dump" dump << 'END'
+0 02
+18 6c
+20 00
+300 08
+END
+foreign files11 'a disk of Files-11' files11 << 'END'
+1008 64
+600 04
+1022 00
+END
+foreign rt11 'a disk of RT-11' rt11 << 'END'
+1008 64
+1015 42
+END
+foreign fat 'a volume of FAT' fat << 'END'
+0 ea
+2 91
+12 01
+14 0000
+16 03
+21 ef
+510 54
+END
+# A volume with such bytes in its boot block is a volume.
+for name in tape dump fat; do
+    { head -c 512 "$name.img" && tail -c +513 seven.img; } > boot.img
+    looks boot.img 'looks like a volume of edition 7, with 8 blocks, sound'
+done
+
 echo "$passed passed, $failed failed"
 [ "$failed" = 0 ]

@@ -6,7 +6,7 @@ use Rattle.serde_json.specs.View.{items_of}
 use Rattle.serde_json.specs.Written.{has_float, items_have_float}
 use Rattle.vol_identify.specs.declared.front.FoundVolume.{FoundVolume}
 use Rattle.vol_identify.specs.declared.guess.Guess.{Guess}
-use Rattle.vol_identify.specs.declared.guess.Guess.TheVariants.{Empty, Packed, Tar, Volume, Swapped, Ext2, CutOff, Inside, Unknown}
+use Rattle.vol_identify.specs.declared.guess.Guess.TheVariants.{Empty, Packed, Tar, Volume, Swapped, Ext2, CutOff, Foreign, Inside, Unknown}
 use Rattle.vol_identify.specs.declared.pack_scan.Part.{Part}
 use Rattle.vol_identify.specs.declared.pack_scan.Part.TheVariants as parts
 use Rattle.vol_identify.specs.declared.pack_texts.JudgedPart.{JudgedPart}
@@ -43,6 +43,7 @@ guess_whole path (Volume volume) broken = rw (volume_whole path 0 volume broken)
 guess_whole path (Swapped volume) broken = refl
 guess_whole path Ext2 broken = refl
 guess_whole path (CutOff volume there) broken = refl
+guess_whole path (Foreign foreign) broken = refl
 guess_whole path (Inside volume block) broken = refl
 guess_whole path Unknown broken = refl
 

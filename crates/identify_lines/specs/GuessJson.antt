@@ -7,9 +7,11 @@ use Rattle.serde_json.specs.Written.{compact_text}
 use Rattle.vol_findings.specs.Reports.{edition_number}
 use Rattle.vol_identify.specs.PackTexts.{command_text}
 use Rattle.vol_identify.specs.Texts.{packing_text}
+use Rattle.vol_identify.specs.declared.foreign.Foreign as foreigns
+use Rattle.vol_identify.specs.declared.foreign.Foreign.TheVariants.{Simh, Dump, Fat, Rt11, Files11}
 use Rattle.vol_identify.specs.declared.front.FoundVolume.{FoundVolume}
 use Rattle.vol_identify.specs.declared.guess.Guess.{Guess}
-use Rattle.vol_identify.specs.declared.guess.Guess.TheVariants.{Empty, Packed, Tar, Volume, Swapped, Ext2, CutOff, Inside, Unknown}
+use Rattle.vol_identify.specs.declared.guess.Guess.TheVariants.{Empty, Packed, Tar, Volume, Swapped, Ext2, CutOff, Foreign, Inside, Unknown}
 use Rattle.vol_identify.specs.declared.pack_scan.Part.{Part}
 use Rattle.vol_identify.specs.declared.pack_scan.Part.TheVariants as parts
 use Rattle.vol_identify.specs.declared.pack_texts.JudgedPart.{JudgedPart}
@@ -66,6 +68,14 @@ part_by path (parts.Between block blocks zeros) broken = between_data block bloc
 abbrev pub part_data : List ℕ → JudgedPart → Data
 part_data path judged = part_by path judged.part judged.broken
 
+-- the word for a tape or a disk of another system (this project)
+abbrev pub foreign_word : foreigns.Foreign → List ℕ
+foreign_word Simh = codes "simh"
+foreign_word Dump = codes "dump"
+foreign_word Fat = codes "fat"
+foreign_word Rt11 = codes "rt11"
+foreign_word Files11 = codes "files11"
+
 -- the word for a guess: what packed a file is named (this project)
 abbrev pub guess_word : Guess → List ℕ
 guess_word Empty = codes "empty"
@@ -75,6 +85,7 @@ guess_word (Volume volume) = codes "volume"
 guess_word (Swapped volume) = codes "swapped"
 guess_word Ext2 = codes "ext2"
 guess_word (CutOff volume there) = codes "cut"
+guess_word (Foreign foreign) = foreign_word foreign
 guess_word (Inside volume block) = codes "inside"
 guess_word Unknown = codes "unknown"
 

@@ -1,14 +1,14 @@
 //! What a file seems to be, as JSON.
 ghost use Rattle.std.specs.Prelude.{◌≡◌, IfOk, map, string_bytes};
 ghost use Rattle.serde_json.specs.View.{view};
-ghost use Rattle.identify_lines.specs.GuessJson.{between_data, fault_word, front_data, guess_parts, guess_word, next_command, part_by, part_data, seen_data, seen_json, seen_parts, seen_read, seen_word, unread_data, unread_json, volume_command, volume_data};
+ghost use Rattle.identify_lines.specs.GuessJson.{between_data, fault_word, foreign_word, front_data, guess_parts, guess_word, next_command, part_by, part_data, seen_data, seen_json, seen_parts, seen_read, seen_word, unread_data, unread_json, volume_command, volume_data};
 
 use crate::seen::Seen;
 use crate::shell_words::shell_word;
 use serde_json::{Value, json};
 use std::alloc::{AllocError, Global};
 use vol_findings::edition_number;
-use vol_identify::{FoundVolume, Guess, JudgedPart, Part, command_text, packing_text};
+use vol_identify::{Foreign, FoundVolume, Guess, JudgedPart, Part, command_text, packing_text};
 use vol_listing::json::line;
 
 /// The status of a run that had too little memory.
@@ -99,8 +99,22 @@ fn guess_word(guess: Guess) -> &'static str
         Guess::Swapped(_) => "swapped",
         Guess::Ext2 => "ext2",
         Guess::CutOff { .. } => "cut",
+        Guess::Foreign(foreign) => foreign_word(foreign),
         Guess::Inside { .. } => "inside",
         Guess::Unknown => "unknown",
+    }
+}
+
+/// Returns the word for a tape or a disk of another system.
+fn foreign_word(foreign: Foreign) -> &'static str
+    ensures { result.now ≡ foreign_word foreign }
+{
+    match foreign {
+        Foreign::Simh => "simh",
+        Foreign::Dump => "dump",
+        Foreign::Fat => "fat",
+        Foreign::Rt11 => "rt11",
+        Foreign::Files11 => "files11",
     }
 }
 
@@ -170,7 +184,12 @@ fn guess_parts(
             values.push(front_value(alloc, 0, volume)?)?;
         }
         Guess::Inside { volume, block } => values.push(front_value(alloc, block, volume)?)?,
-        Guess::Empty | Guess::Packed(_) | Guess::Tar | Guess::Ext2 | Guess::Unknown => {}
+        Guess::Empty
+        | Guess::Packed(_)
+        | Guess::Tar
+        | Guess::Ext2
+        | Guess::Foreign(_)
+        | Guess::Unknown => {}
     }
     Ok(values)
 }

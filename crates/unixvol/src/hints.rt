@@ -14,6 +14,7 @@ pub fn is_no_volume(guess: Guess) -> bool {
         | Guess::Tar
         | Guess::Swapped(_)
         | Guess::Ext2
+        | Guess::Foreign(_)
         | Guess::Inside { .. } => true,
     }
 }
@@ -32,7 +33,7 @@ pub fn hint(
     match guess {
         Guess::Volume(_) | Guess::Unknown => Ok(String::new(alloc)),
         Guess::CutOff { volume, .. } if volume.edition == edition => Ok(String::new(alloc)),
-        Guess::CutOff { .. } | Guess::Empty | Guess::Tar | Guess::Ext2 => {
+        Guess::CutOff { .. } | Guess::Empty | Guess::Tar | Guess::Ext2 | Guess::Foreign(_) => {
             format!(in alloc; "; it {found}")
         }
         Guess::Packed(packing) => {

@@ -4,11 +4,12 @@ use Rattle.std.specs.Option.{option_or, unwrap_or}
 use Rattle.ustar.specs.Read.{is_zeros}
 use Rattle.vol_layout.specs.declared.edition.Edition.TheVariants.{V6, V7}
 use Rattle.vol_judge.specs.Sound.{IsJudged}
+use Rattle.vol_identify.specs.Foreign.{foreign_of}
 use Rattle.vol_identify.specs.Front.{begins, begun, front_at, is_volume, swab, volume_of, within_either}
 use Rattle.vol_identify.specs.Magic.{is_ext2, is_tar, packing_of}
 use Rattle.vol_identify.specs.declared.front.FoundVolume.{FoundVolume}
 use Rattle.vol_identify.specs.declared.guess.Guess.{Guess}
-use Rattle.vol_identify.specs.declared.guess.Guess.TheVariants.{Empty, Packed, Tar, Volume, Swapped, Ext2, CutOff, Inside, Unknown}
+use Rattle.vol_identify.specs.declared.guess.Guess.TheVariants.{Empty, Packed, Tar, Volume, Swapped, Ext2, CutOff, Foreign, Inside, Unknown}
 
 -- a guess by the first bytes: zeros, a packed file, an archive (this project)
 unfoldable pub by_magic : List ℕ → Option Guess
@@ -52,11 +53,12 @@ inside_from image (suc blocks) k = option_or (inside_at image k) (inside_from im
 unfoldable pub inside : List ℕ → Option Guess
 inside image = inside_from image (min (length image / 512) (2 ^ 32 - 1) - 3) 1
 
--- a guess by super-blocks: a whole volume, one with exchanged bytes, ext2, one that is cut off, one that begins further on (this project)
+-- a guess by super-blocks: a whole volume, one with exchanged bytes, ext2, one that is cut off, what another system wrote, a volume that begins further on
+-- (this project)
 unfoldable pub by_front : List ℕ → Guess
 by_front image =
     unwrap_or (option_or (whole image) (option_or (swapped image) (if is_ext2 image then Some Ext2 else
-    option_or (cut_off image) (inside image)))) Unknown
+    option_or (cut_off image) (option_or (option_map Foreign (foreign_of image)) (inside image))))) Unknown
 
 -- a whole volume whose sizes, head of the free list and root are those of one, whatever its boot block has (this project)
 unfoldable pub begun_whole : List ℕ → Option Guess

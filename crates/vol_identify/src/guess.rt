@@ -2,6 +2,7 @@
 ghost use Rattle.std.specs.Prelude.{◌≡◌, ◌+◌, ◌*◌, ◌≤◌, length, IfOk};
 ghost use Rattle.vol_identify.specs.Guesses.{IsJudgedSo, begun_whole, is_open, by_front, by_magic, cut_off, fits_in, guess_of, inside, inside_at, swapped, whole};
 
+use crate::foreign::{Foreign, foreign_of};
 use crate::front::{
     FRONT, FoundVolume, begun, begun_within, front_at, is_volume, swapped_front, volume_of,
 };
@@ -29,6 +30,8 @@ pub enum Guess {
     Ext2,
     /// A volume of which only the first `there` blocks are there.
     CutOff { volume: FoundVolume, there: u32 },
+    /// The tape or the disk of another system.
+    Foreign(Foreign),
     /// A larger pack: a volume begins at this block.
     Inside { volume: FoundVolume, block: u32 },
     /// None of these.
@@ -134,6 +137,9 @@ fn by_front(alloc: Global, image: &Image) -> Result<Guess, AllocError>
     }
     if let Some(guess) = cut_off(image) {
         return Ok(guess);
+    }
+    if let Some(foreign) = foreign_of(image) {
+        return Ok(Guess::Foreign(foreign));
     }
     Ok(inside(alloc, image)?.unwrap_or(Guess::Unknown))
 }

@@ -1,6 +1,7 @@
 //! Guesses what an unknown image is.
 #![tactic(auto)]
 
+mod foreign;
 mod front;
 mod guess;
 mod laws;
@@ -9,6 +10,7 @@ mod pack_scan;
 mod pack_texts;
 mod texts;
 
+pub use foreign::Foreign;
 pub use front::{FoundVolume, blocks_wanted};
 pub use guess::{Guess, Identified, guess_image, identify};
 pub use laws::{sound_volumes_are_found, sound_volumes_are_guessed};

@@ -1,7 +1,8 @@
 //! The words for a guess.
 ghost use Rattle.std.specs.Prelude.{◌≡◌, Some};
-ghost use Rattle.vol_identify.specs.Texts.{identified_text, packing_text, volume_text};
+ghost use Rattle.vol_identify.specs.Texts.{foreign_text, identified_text, packing_text, volume_text};
 
+use crate::foreign::Foreign;
 use crate::front::FoundVolume;
 use crate::guess::{Guess, Identified};
 use crate::magic::Packing;
@@ -18,6 +19,19 @@ pub fn packing_text(packing: Packing) -> &'static str
         Packing::Xz => "xz",
         Packing::Zstd => "zstd",
         Packing::Zip => "zip",
+    }
+}
+
+/// Returns the words for a tape or a disk of another system.
+fn foreign_text(foreign: Foreign) -> &'static str
+    ensures { result.now ≡ foreign_text foreign }
+{
+    match foreign {
+        Foreign::Simh => "a tape in the format of SIMH",
+        Foreign::Dump => "a tape of V7's dump",
+        Foreign::Fat => "a volume of FAT",
+        Foreign::Rt11 => "a disk of RT-11",
+        Foreign::Files11 => "a disk of Files-11",
     }
 }
 
@@ -52,6 +66,10 @@ impl fmt::Display for Identified {
             Guess::Ext2 => write!(f, "looks like a volume of ext2, ext3 or ext4"),
             Guess::CutOff { volume, there } => {
                 write!(f, "looks like {volume}, cut off after {there}")
+            }
+            Guess::Foreign(foreign) => {
+                let text = foreign_text(foreign);
+                write!(f, "looks like {text}")
             }
             Guess::Inside { volume, block } => {
                 write!(

@@ -28,6 +28,10 @@ other files the first of these that fits is printed:
   looks like .., with each pair of bytes exchanged   `dd conv=swab` exchanges them again
   looks like a volume of ext2, ext3 or ext4
   looks like .., cut off after C                     only the first C blocks are there
+  looks like a tape in the format of SIMH            its first record is between its length and its length
+  looks like a tape of V7's dump                     its header, with its checksum
+  looks like a volume of FAT                         the fields of its boot sector, and its signature
+  looks like a disk of RT-11, or of Files-11         the name in its home block; of Files-11 also the checksum
   looks like a larger pack: at block K begins ..     only of a pipe or a device, which isn't searched further
   looks like nothing that unixvol knows
 
@@ -50,7 +54,8 @@ With --json each image is one object on a line:
   bytes    the size of a regular file; null of another
   file     the path, as it was given
   format   1
-  guess    pack, volume, empty, tar, ext2, swapped, cut, inside, unknown; or gzip, bzip2, xz, zstd, zip
+  guess    pack, volume, empty, tar, ext2, swapped, cut, inside, unknown; simh, dump, fat, rt11, files11; or gzip,
+           bzip2, xz, zstd, zip
   parts    of a pack all that it has, in order; else the volume that the guess names, if it names one
   read     the number of bytes that the guess is by; null of a pack, which was read to its end
 

@@ -224,7 +224,7 @@ import struct
 words = [1, 5, 6, 0, 0, 1, 0, 0, 0, 60011, 0] + [7] * 245
 words[10] = (84446 - sum(words)) % 65536
 open("dump.img", "wb").write(struct.pack("<256H", *words) + bytes(1536))
-home = [3] * 240 + list(struct.unpack("<6H", b"DECFILE11A  ")) + [0] * 3
+home = [3] * 248 + list(struct.unpack("<6H", b"DECFILE11A  "))
 home += [0] * (255 - len(home))
 home.append(sum(home) % 65536)
 open("files11.img", "wb").write(b"x" * 512 + struct.pack("<256H", *home) + bytes(1024))

@@ -1,0 +1,3 @@
+pub mod Comparison
+pub mod Pairing
+pub mod Telling

@@ -1,0 +1,48 @@
+-- A repaired copy of an image, with the lines of all that differs.
+use Rattle.std.specs.Prelude.{◌≡◌, ◌⊎◌, ℕ, ◌+◌, ◌<◌, ◌≤◌, ◌==◌, Bool, false, true, List, [], ◌++◌, length, slice_index}
+use Rattle.std.specs.List.{All, list_any, list_all}
+use Rattle.vol_layout.specs.Geometry.{geometry_of}
+use Rattle.vol_layout.specs.Inode.{inode_of}
+use Rattle.vol_layout.specs.declared.edition.Edition.{Edition}
+use Rattle.vol_layout.specs.declared.geometry.Geometry.{Geometry}
+use Rattle.vol_judge.specs.Sound.{IsSound, IsLeastBroken}
+use Rattle.vol_repair.specs.Kept.{KeepsFile, FitsFile}
+use Rattle.vol_repair.specs.Lines.{subject, is_about, is_for_links, is_for_slot, is_for_list, IsTold, dir_entry, IsTrueLine}
+use Rattle.vol_repair.specs.declared.repair_line.RepairLine.{RepairLine}
+use Rattle.vol_repair.specs.declared.repaired_volume.RepairFault.{RepairFault}
+use Rattle.vol_repair.specs.declared.repaired_volume.RepairFault.TheVariants as faults
+
+-- the lines tell all that differs between the i-nodes and directories of two images from i-number 1 to n, each line is true, and each file that fits is
+-- kept, with no line but one about its links (this project)
+pub record TellsUpTo (geometry : Geometry) (old new : List ℕ) (n : ℕ) (lines : List RepairLine) : Type 0 where
+  pub files : (i : ℕ) → 1 ≤ i → i ≤ n → KeepsFile geometry old new i ⊎ IsTold (is_about i) lines
+  pub links : (i : ℕ) → 1 ≤ i → i ≤ n
+      → ((inode_of geometry.edition new i).links ≡ (inode_of geometry.edition old i).links) ⊎ IsTold (is_for_links i) lines
+  pub entries : (d s : ℕ) → 1 ≤ d → d ≤ n
+      → (dir_entry geometry new d s ≡ dir_entry geometry old d s) ⊎ IsTold (is_for_slot d s) lines
+  pub fitting : (i : ℕ) → i ≤ n → FitsFile geometry old i → KeepsFile geometry old new i × (list_any (is_about i) lines ≡ false)
+  pub right : All (IsTrueLine geometry old new) lines
+  pub fresh : (i : ℕ) → n < i → list_any (is_about i) lines ≡ false
+
+-- the copy is sound, as long as the image, and has the same boot block and sizes; the lines tell all that differs in its i-nodes, directories and
+-- super-block; each file that fits is kept (this project)
+pub record IsMended (edition : Edition) (old new : List ℕ) (lines : List RepairLine) : Type 0 where
+  pub sound : IsSound edition new
+  pub len : length new ≡ length old
+  pub sizes : geometry_of edition new ≡ geometry_of edition old
+  pub boot : (k : ℕ) → k < 512 → slice_index new k ≡ slice_index old k
+  pub list : ((k : ℕ) → k < 512 → slice_index new (512 + k) ≡ slice_index old (512 + k)) ⊎ IsTold is_for_list lines
+  pub told : TellsUpTo (geometry_of edition old) old new (geometry_of edition old).last_inode lines
+
+-- a repaired copy of an image, with its lines; a sound image is its own copy, with no line (this project)
+pub record IsRepaired (edition : Edition) (old new : List ℕ) (lines : List RepairLine) : Type 0 where
+  pub mended : IsMended edition old new lines
+  pub same : IsSound edition old → (new ≡ old) × (lines ≡ [])
+
+-- the reason why an image isn't repaired: its sizes aren't known, since it breaks rule 1 or 2, whichever is first; it isn't sound, and wasn't mended;
+-- or memory ran out (this project)
+abbrev pub IsRepairFault : Edition → List ℕ → RepairFault → Type 0
+IsRepairFault edition image (faults.Unsized n) = IsLeastBroken true edition image n × (n ≤ 2)
+IsRepairFault edition image faults.NotRepaired = IsSound edition image → ⊥
+IsRepairFault edition image faults.NoSpace = IsSound edition image → ⊥
+IsRepairFault edition image faults.NoMemory = Unit {0}

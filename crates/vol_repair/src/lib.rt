@@ -1,0 +1,12 @@
+//! Repairs the image of a damaged volume to a copy, and tells all that differs.
+#![tactic(auto)]
+
+pub mod compared;
+mod entry_pairs;
+pub mod repair_line;
+pub mod repaired_volume;
+mod told_lines;
+
+pub use compared::{changed_blocks, is_kept};
+pub use repair_line::RepairLine;
+pub use repaired_volume::RepairFault;

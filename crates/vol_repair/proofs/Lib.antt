@@ -1,3 +1,4 @@
+pub mod Claiming
 pub mod Comparison
 pub mod Pairing
 pub mod Telling

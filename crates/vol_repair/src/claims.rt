@@ -1,0 +1,168 @@
+//! The blocks that files claim: each block by the first position that points to it. Other positions, and those that point outside the data zone, clash.
+ghost use Rattle.std.specs.Prelude.{◌≡◌, ℕ, ◌+◌, ◌<◌, ◌≤◌, true, false, IfOk, length, slice_index_or};
+ghost use Rattle.vol_layout.specs.Geometry.{Fits};
+ghost use Rattle.vol_file.specs.Changes.{blocks_of};
+ghost use Rattle.vol_judge.specs.Marks.{blocks_from};
+ghost use Rattle.vol_repair.specs.Claims.{Claims};
+ghost use Rattle.vol_repair.specs.Kept.{FitsFile};
+ghost use Rattle.vol_repair.specs.Told.{IsNotFit};
+
+use pdp_words::{BLOCK, Image};
+use std::alloc::{AllocError, Global};
+use vol_file::next_pointer;
+use vol_layout::i_list::{address, kind, mode, size};
+use vol_layout::{BlockMap, Geometry, Kind, number};
+
+/// The size in bytes of the largest small file of the sixth edition: eight blocks.
+const SMALL: u32 = 4096;
+
+/// Where a block number is stored.
+#[derive(Clone, Copy)]
+pub(crate) enum Pointer {
+    /// An address of an i-node.
+    Address {
+        inode: u16,
+        index: usize,
+    },
+    /// An entry of an indirect block.
+    Entry {
+        block: u32,
+        index: u32,
+    },
+}
+
+/// A block number that can't stay where it is.
+#[derive(Clone, Copy)]
+pub(crate) struct Clash {
+    /// Where it is stored.
+    pub at: Pointer,
+    /// The number: it isn't that of a data block, or a position before this one points to the block.
+    pub block: u32,
+    /// The number of levels below the block.
+    pub level: u8,
+}
+
+/// The blocks that files claim, and all that is wrong with them.
+#[derive(Drop)]
+pub(crate) struct FoundClaims {
+    /// A mark for each block, true if a position points to it.
+    pub used: Vec<bool>,
+    /// A mark for each i-number, true if its file doesn't fit.
+    pub unfit: Vec<bool>,
+    /// The block numbers that can't stay, in the order of i-numbers and block maps.
+    pub clashes: Vec<Clash>,
+}
+
+/// Finds the blocks that the files of an image claim.
+///
+/// Costs a read of each i-node and of each entry of each indirect block. Takes a byte for each block and i-number, and memory for the clashes. An error:
+/// memory ran out.
+pub(crate) fn find_claims(
+    alloc: Global,
+    image: &Image,
+    geometry: &Geometry,
+) -> Result<FoundClaims, AllocError>
+    requires fits { Fits geometry.now image.now }
+    ensures used { IfOk result (λ found. length found.used.items ≡ geometry.now.zone_end) }
+    ensures unfit { IfOk result (λ found. IsNotFit geometry.now image.now found.unfit.items) }
+{
+    let mut used = vec![in alloc; false; geometry.zone_end as usize]?;
+    let mut unfit = vec![in alloc; false; geometry.last_inode as usize + 1]?;
+    let mut clashes = Vec::new(alloc);
+    for before in 0..geometry.last_inode {
+        let i = before + 1;
+        let clash = claim_file(image, geometry, i, &mut used, &mut clashes)?;
+        unfit[i as usize] = clash || !is_regular(image, geometry, i);
+    }
+    Ok(FoundClaims {
+        used,
+        unfit,
+        clashes,
+    })
+}
+
+/// True if i-node `i` is a regular file and not the root, and its size is within the limit.
+fn is_regular(image: &Image, geometry: &Geometry, i: u16) -> bool
+    requires fits { Fits geometry.now image.now }
+    requires first { 1 ≤ i }
+    requires last { i ≤ geometry.now.last_inode }
+    ensures { result ≡ false → FitsFile geometry.now image.now i → ⊥ }
+{
+    let constants = geometry.edition.constants();
+    let limit = match BlockMap::of(geometry.edition, mode(image, geometry, i)) {
+        BlockMap::Small => SMALL,
+        _ => constants.greatest,
+    };
+    kind(image, geometry, i) == Kind::Regular
+        && i != constants.root
+        && size(image, geometry, i) <= limit
+}
+
+/// Claims the blocks of i-node `i`. Returns true if one of its block numbers can't stay.
+fn claim_file(
+    image: &Image,
+    geometry: &Geometry,
+    i: u16,
+    used: &mut [bool],
+    clashes: &mut Vec<Clash>,
+) -> Result<bool, AllocError>
+    requires fits { Fits geometry.now image.now }
+    requires first { 1 ≤ i }
+    requires last { i ≤ geometry.now.last_inode }
+    requires len { length used.old ≡ geometry.now.zone_end }
+    ensures { IfOk result (λ clash. Claims geometry.now (blocks_of geometry.now image.now i) used.old used.new clash) }
+{
+    let form = BlockMap::of(geometry.edition, mode(image, geometry, i));
+    let mut clash = false;
+    for k in 0..form.address_count() {
+        let at = Pointer::Address { inode: i, index: k };
+        let b = address(image, geometry, i, k);
+        let below = claim(image, geometry, at, b, form.levels(k), used, clashes)?;
+        clash = clash || below;
+    }
+    Ok(clash)
+}
+
+/// Claims block `b`, which the position `at` points to, and the blocks in the `level` levels below it. Returns true if one of these block numbers can't
+/// stay. What is below such a number isn't claimed.
+fn claim(
+    image: &Image,
+    geometry: &Geometry,
+    at: Pointer,
+    b: u32,
+    level: u8,
+    used: &mut [bool],
+    clashes: &mut Vec<Clash>,
+) -> Result<bool, AllocError>
+    requires fits { Fits geometry.now image.now }
+    requires low { level ≤ 3 }
+    requires len { length used.old ≡ geometry.now.zone_end }
+    ensures { IfOk result (λ clash. Claims geometry.now (blocks_from geometry.now image.now level b) used.old used.new clash) }
+{
+    if b == 0 {
+        return Ok(false);
+    }
+    if !geometry.in_zone(b) || used[b as usize] {
+        clashes.push(Clash {
+            at,
+            block: b,
+            level,
+        })?;
+        return Ok(true);
+    }
+    used[b as usize] = true;
+    if level == 0 {
+        return Ok(false);
+    }
+    let pointers = geometry.edition.constants().pointers;
+    let mut clash = false;
+    let mut j = next_pointer(image, geometry, b, 0);
+    while j < pointers {
+        let at = Pointer::Entry { block: b, index: j };
+        let entry = number(image, geometry.edition, BLOCK * b as usize, j as usize);
+        let below = claim(image, geometry, at, entry, level - 1, used, clashes)?;
+        clash = clash || below;
+        j = next_pointer(image, geometry, b, j + 1);
+    }
+    Ok(clash)
+}

@@ -19,6 +19,7 @@ use Rattle.vol_judge.proofs.NamedOnce.{in_left, in_right}
 use Rattle.vol_reports.specs.Icheck.{use_count}
 use Rattle.vol_repair.specs.Claims.{HasMet, IsClash, Claims}
 use Rattle.vol_repair.specs.Kept.{FitsFile}
+use Rattle.vol_repair.specs.Told.{IsNotFit}
 
 -- the count over joined lists is the sum of the counts
 count_append : (t : ℕ → Bool) (xs ys : List ℕ) → count_by t (xs ++ ys) ≡ count_by t xs + count_by t ys
@@ -38,7 +39,7 @@ count_in b [] among = absurd among
 count_in b (x ∷ xs) (inl same) =
     let here : (x == b) ≡ true = eq-eqb x b (sym same) in
     let count : count_by (λ k. k == b) (x ∷ xs) ≡ cond (x == b) 1 0 + count_by (λ k. k == b) xs = sum_by-cons (λ k. cond (k == b) 1 0) x xs in
-    let one : cond (x == b) 1 0 ≡ 1 = ap (λ t. cond t 1 0) here in
+    let one : ◌≡◌ {A = ℕ} (cond (x == b) 1 0) 1 = ap (λ t. cond t 1 0) here in
     omega (arith, count, one)
 count_in b (x ∷ xs) (inr later) =
     let count : count_by (λ k. k == b) (x ∷ xs) ≡ cond (x == b) 1 0 + count_by (λ k. k == b) xs = sum_by-cons (λ k. cond (k == b) 1 0) x xs in
@@ -254,3 +255,14 @@ clash_unfit geometry image n m old new clash next last has claims found fits =
           let same = uses geometry image bad.block in
           absurd (omega (arith, twice, join, all, one, same))
     ]
+
+-- a mark that is right is set
+pub unfit_set : (geometry : Geometry) (image : List ℕ) (unfit : List Bool) (i : ℕ) (mark : Bool) → i < length unfit → IsNotFit geometry image unfit
+    → (mark ≡ true → FitsFile geometry image i → ⊥) → IsNotFit geometry image (set unfit i mark)
+unfit_set geometry image unfit i mark within known right = λ x marked. elim (cases_eq x i) [
+  | inl same ↦
+      let here : get_or (set unfit i mark) x false ≡ mark =
+      ap (λ k. get_or (set unfit i mark) k false) same ∙ get_or-set_same unfit i mark false within in
+      λ fits. right (sym here ∙ marked) (subst (FitsFile geometry image) same fits)
+  | inr other ↦ known x (sym (get_or-set_other unfit i x mark false other) ∙ marked)
+]

@@ -1,4 +1,5 @@
 pub mod Claiming
 pub mod Comparison
 pub mod Pairing
+pub mod Repairs
 pub mod Telling

@@ -60,7 +60,7 @@ abouts_other geometry old new i j (line ∷ more) each other =
     ∙ abouts_other geometry old new i j more (λ k d h. each (suc k) d (omega (arith, h))) other
 
 -- a test that the first of two passes
-or_false : (b : Bool) → (b || false) ≡ b
+pub or_false : (b : Bool) → (b || false) ≡ b
 or_false true = refl
 or_false false = refl
 

@@ -1,13 +1,13 @@
 -- A repaired copy of an image, with the lines of all that differs.
-use Rattle.std.specs.Prelude.{◌≡◌, ◌⊎◌, ℕ, ◌+◌, ◌<◌, ◌≤◌, ◌==◌, Bool, false, true, List, [], ◌++◌, length, slice_index}
-use Rattle.std.specs.List.{All, list_any, list_all}
+use Rattle.std.specs.Prelude.{◌≡◌, ◌⊎◌, ℕ, ◌+◌, ◌<◌, ◌≤◌, false, List, [], length, slice_index}
+use Rattle.std.specs.List.{All, list_any}
 use Rattle.vol_layout.specs.Geometry.{geometry_of}
 use Rattle.vol_layout.specs.Inode.{inode_of}
 use Rattle.vol_layout.specs.declared.edition.Edition.{Edition}
 use Rattle.vol_layout.specs.declared.geometry.Geometry.{Geometry}
 use Rattle.vol_judge.specs.Sound.{IsSound, IsLeastBroken}
 use Rattle.vol_repair.specs.Kept.{KeepsFile, FitsFile}
-use Rattle.vol_repair.specs.Lines.{subject, is_about, is_for_links, is_for_slot, is_for_list, IsTold, dir_entry, IsTrueLine}
+use Rattle.vol_repair.specs.Lines.{is_about, is_for_links, is_for_slot, is_for_list, IsTold, dir_entry, IsTrueLine}
 use Rattle.vol_repair.specs.declared.repair_line.RepairLine.{RepairLine}
 use Rattle.vol_repair.specs.declared.repaired_volume.RepairFault.{RepairFault}
 use Rattle.vol_repair.specs.declared.repaired_volume.RepairFault.TheVariants as faults
@@ -24,15 +24,23 @@ pub record TellsUpTo (geometry : Geometry) (old new : List ℕ) (n : ℕ) (lines
   pub right : All (IsTrueLine geometry old new) lines
   pub fresh : (i : ℕ) → n < i → list_any (is_about i) lines ≡ false
 
+-- the lines tell all that differs between the i-nodes, directories and super-blocks of two images (this project)
+pub record TellsAll (geometry : Geometry) (old new : List ℕ) (lines : List RepairLine) : Type 0 where
+  pub told : TellsUpTo geometry old new geometry.last_inode lines
+  pub list : ((k : ℕ) → k < 512 → slice_index new (512 + k) ≡ slice_index old (512 + k)) ⊎ IsTold is_for_list lines
+
+-- the copy is as long as the image, and has the same boot block and sizes (this project)
+pub record HasSameFront (edition : Edition) (old new : List ℕ) : Type 0 where
+  pub len : length new ≡ length old
+  pub boot : (k : ℕ) → k < 512 → slice_index new k ≡ slice_index old k
+  pub sizes : geometry_of edition new ≡ geometry_of edition old
+
 -- the copy is sound, as long as the image, and has the same boot block and sizes; the lines tell all that differs in its i-nodes, directories and
 -- super-block; each file that fits is kept (this project)
 pub record IsMended (edition : Edition) (old new : List ℕ) (lines : List RepairLine) : Type 0 where
   pub sound : IsSound edition new
-  pub len : length new ≡ length old
-  pub sizes : geometry_of edition new ≡ geometry_of edition old
-  pub boot : (k : ℕ) → k < 512 → slice_index new k ≡ slice_index old k
-  pub list : ((k : ℕ) → k < 512 → slice_index new (512 + k) ≡ slice_index old (512 + k)) ⊎ IsTold is_for_list lines
-  pub told : TellsUpTo (geometry_of edition old) old new (geometry_of edition old).last_inode lines
+  pub front : HasSameFront edition old new
+  pub told : TellsAll (geometry_of edition old) old new lines
 
 -- a repaired copy of an image, with its lines; a sound image is its own copy, with no line (this project)
 pub record IsRepaired (edition : Edition) (old new : List ℕ) (lines : List RepairLine) : Type 0 where

@@ -1,6 +1,6 @@
 //! The blocks that files claim: each block by the first position that points to it. Other positions, and those that point outside the data zone, clash.
-ghost use Rattle.std.specs.Prelude.{◌≡◌, ℕ, ◌+◌, ◌<◌, ◌≤◌, true, false, IfOk, length, slice_index_or};
-ghost use Rattle.vol_layout.specs.Geometry.{Fits};
+ghost use Rattle.std.specs.Prelude.{◌≡◌, ◌⊎◌, ℕ, ◌+◌, ◌≤◌, true, false, IfOk, length, slice_index_or};
+ghost use Rattle.vol_layout.specs.Geometry.{Fits, in_zone};
 ghost use Rattle.vol_file.specs.Changes.{blocks_of};
 ghost use Rattle.vol_judge.specs.Marks.{blocks_from};
 ghost use Rattle.vol_repair.specs.Claims.{Claims};
@@ -69,16 +69,45 @@ pub(crate) fn find_claims(
     let mut used = vec![in alloc; false; geometry.zone_end as usize]?;
     let mut unfit = vec![in alloc; false; geometry.last_inode as usize + 1]?;
     let mut clashes = Vec::new(alloc);
-    for before in 0..geometry.last_inode {
-        let i = before + 1;
-        let clash = claim_file(image, geometry, i, &mut used, &mut clashes)?;
-        unfit[i as usize] = clash || !is_regular(image, geometry, i);
-    }
+    claim_files(image, geometry, &mut used, &mut unfit, &mut clashes)?;
     Ok(FoundClaims {
         used,
         unfit,
         clashes,
     })
+}
+
+/// Claims the blocks of all files, and marks the files that don't fit. There are no marks at first.
+fn claim_files(
+    image: &Image,
+    geometry: &Geometry,
+    used: &mut [bool],
+    unfit: &mut [bool],
+    clashes: &mut Vec<Clash>,
+) -> Result<(), AllocError>
+    requires fits { Fits geometry.now image.now }
+    requires used { length used.old ≡ geometry.now.zone_end }
+    requires unfit { length unfit.old ≡ geometry.now.last_inode + 1 }
+    requires free { (k : ℕ) → slice_index_or used.old k false ≡ false }
+    requires clear { (k : ℕ) → slice_index_or unfit.old k false ≡ false }
+    ensures { IfOk result (λ _. IsNotFit geometry.now image.now unfit.new) }
+{
+    for before in 0..geometry.last_inode {
+        let i = before + 1;
+        let clash = claim_file(image, geometry, i, used, clashes)?;
+        unfit[i as usize] = is_unfit(image, geometry, i, clash);
+    }
+    Ok(())
+}
+
+/// True if i-node `i` has a clash, isn't a regular file, or is the root, or if its size is above the limit.
+fn is_unfit(image: &Image, geometry: &Geometry, i: u16, clash: bool) -> bool
+    requires fits { Fits geometry.now image.now }
+    requires first { 1 ≤ i }
+    requires last { i ≤ geometry.now.last_inode }
+    ensures { result ≡ true → (clash ≡ true) ⊎ (FitsFile geometry.now image.now i → ⊥) }
+{
+    clash || !is_regular(image, geometry, i)
 }
 
 /// True if i-node `i` is a regular file and not the root, and its size is within the limit.
@@ -123,6 +152,15 @@ fn claim_file(
     Ok(clash)
 }
 
+/// True if block number `b` can't stay: it isn't that of a data block, or the block is claimed.
+fn is_taken(geometry: &Geometry, used: &[bool], b: u32) -> bool
+    requires { length used.now ≡ geometry.now.zone_end }
+    ensures taken { result ≡ true → (in_zone geometry.now b ≡ false) ⊎ (slice_index_or used.now b false ≡ true) }
+    ensures inside { result ≡ false → in_zone geometry.now b ≡ true }
+{
+    !geometry.in_zone(b) || used[b as usize]
+}
+
 /// Claims block `b`, which the position `at` points to, and the blocks in the `level` levels below it. Returns true if one of these block numbers can't
 /// stay. What is below such a number isn't claimed.
 fn claim(
@@ -142,7 +180,7 @@ fn claim(
     if b == 0 {
         return Ok(false);
     }
-    if !geometry.in_zone(b) || used[b as usize] {
+    if is_taken(geometry, used, b) {
         clashes.push(Clash {
             at,
             block: b,

@@ -1,7 +1,9 @@
 //! Repairs the image of a damaged volume to a copy, and tells all that differs.
 #![tactic(auto)]
 
+mod claims;
 pub mod compared;
+mod edits;
 mod entry_pairs;
 pub mod repair_line;
 pub mod repaired_volume;
@@ -9,4 +11,4 @@ mod told_lines;
 
 pub use compared::{changed_blocks, is_kept};
 pub use repair_line::RepairLine;
-pub use repaired_volume::RepairFault;
+pub use repaired_volume::{RepairFault, Repaired, repair};

@@ -1,5 +1,20 @@
 //! The repair of a damaged volume, to a copy.
+ghost use Rattle.std.specs.Prelude.{◌≡◌, true, IfOk, IfErr, IfSome};
+ghost use Rattle.vol_layout.specs.Geometry.{Fits, geometry_of};
+ghost use Rattle.vol_judge.specs.Sound.{IsLeastBroken, IsSound};
+ghost use Rattle.vol_repair.specs.Repaired.{HasSameFront, IsRepaired, IsRepairFault, TellsAll};
+ghost use Rattle.vol_repair.specs.Told.{IsNotFit};
+
+use crate::claims::find_claims;
+use crate::compared::changed_blocks;
+use crate::edits::mend;
+use crate::repair_line::RepairLine;
+use crate::told_lines::push_lines;
+use pdp_words::Image;
+use std::alloc::{AllocError, Global};
 use thiserror::Error;
+use vol_judge::judge;
+use vol_layout::{Edition, Geometry, GeometryFault, Super};
 
 /// The reason why an image wasn't repaired.
 #[derive(Clone, Copy, Debug, Error)]
@@ -16,4 +31,149 @@ pub enum RepairFault {
     /// Memory ran out.
     #[error("12 NoMemory")]
     NoMemory,
+}
+
+impl From<AllocError> for RepairFault {
+    ghost use Rattle.vol_repair.specs.declared.repaired_volume.RepairFault.TheVariants as faults;
+
+    ghost from_gives = { λ _ fault. fault ≡ faults.NoMemory };
+
+    fn from(_: AllocError) -> RepairFault {
+        RepairFault::NoMemory
+    }
+}
+
+/// A repaired copy of an image.
+#[derive(Drop)]
+pub struct Repaired {
+    /// The copy.
+    pub image: Image,
+    /// All that differs between the image and the copy.
+    pub lines: Vec<RepairLine>,
+}
+
+/// Repairs the image of a volume to a copy, which is sound and as long as the image, and returns it with a line for all that differs. A sound image is
+/// its own copy, with no line. Each file that fits, as [`FitsFile`](crate) says, keeps its i-node and its bytes; only its link count may differ. `now`
+/// is the time of new i-nodes, in seconds.
+///
+/// Costs a few times as much as judging an image. Takes the memory of the copy, that to judge it, a few bytes for each block, and that of the lines.
+/// `Unsized` is checked first; `NoMemory` can come at any time. It isn't said which images can be repaired.
+pub fn repair(
+    alloc: Global,
+    edition: Edition,
+    old: &Image,
+    now: u32,
+) -> Result<Repaired, RepairFault>
+    ensures repaired { IfOk result (λ repaired. IsRepaired edition old.now repaired.image repaired.lines.items) }
+    ensures fault { IfErr result (IsRepairFault edition old.now) }
+{
+    let geometry = match Geometry::read(edition, old) {
+        Ok(geometry) => geometry,
+        Err(GeometryFault::Short) => return Err(RepairFault::Unsized(1)),
+        Err(GeometryFault::Bounds) => return Err(RepairFault::Unsized(2)),
+    };
+    match judge(alloc, edition, old, true) {
+        Ok(None) => unchanged(alloc, edition, old),
+        Ok(Some(rule)) => repair_broken(alloc, &geometry, old, rule, now),
+        Err(_) => Err(RepairFault::NoMemory),
+    }
+}
+
+/// Returns the copy of a sound image.
+fn unchanged(alloc: Global, edition: Edition, old: &Image) -> Result<Repaired, RepairFault>
+    requires sound { IsSound edition old.now }
+    ensures repaired { IfOk result (λ repaired. IsRepaired edition old.now repaired.image repaired.lines.items) }
+    ensures fault { IfErr result (IsRepairFault edition old.now) }
+{
+    Ok(Repaired {
+        image: Image::from_bytes(Vec::from_slice(alloc, old.as_bytes())?),
+        lines: Vec::new(alloc),
+    })
+}
+
+/// Repairs an image that breaks `rule`, the least of the broken rules, and not 1 or 2.
+fn repair_broken(
+    alloc: Global,
+    geometry: &Geometry,
+    old: &Image,
+    rule: u8,
+    now: u32,
+) -> Result<Repaired, RepairFault>
+    requires geometry { geometry.now ≡ geometry_of geometry.now.edition old.now }
+    requires fits { Fits geometry.now old.now }
+    requires broken { IsLeastBroken true geometry.now.edition old.now rule }
+    ensures repaired { IfOk result (λ repaired. IsRepaired geometry.now.edition old.now repaired.image repaired.lines.items) }
+    ensures fault { IfErr result (IsRepairFault geometry.now.edition old.now) }
+{
+    let mut image = Image::from_bytes(Vec::from_slice(alloc, old.as_bytes())?);
+    let claims = find_claims(alloc, old, geometry)?;
+    mend(alloc, &mut image, geometry, &claims, rule, now)?;
+    told(alloc, geometry, old, image, &claims.unfit)
+}
+
+/// Returns a copy with the lines of all that differs, if it is sound and keeps each file that isn't marked in `unfit`.
+fn told(
+    alloc: Global,
+    geometry: &Geometry,
+    old: &Image,
+    image: Image,
+    unfit: &[bool],
+) -> Result<Repaired, RepairFault>
+    requires geometry { geometry.now ≡ geometry_of geometry.now.edition old.now }
+    requires old { Fits geometry.now old.now }
+    requires new { Fits geometry.now image }
+    requires broken { IsSound geometry.now.edition old.now → ⊥ }
+    requires unfit { IsNotFit geometry.now old.now unfit.now }
+    ensures repaired { IfOk result (λ repaired. IsRepaired geometry.now.edition old.now repaired.image repaired.lines.items) }
+    ensures fault { IfErr result (IsRepairFault geometry.now.edition old.now) }
+{
+    if !has_same_front(geometry, old, &image) {
+        return Err(RepairFault::NotRepaired);
+    }
+    if judge(alloc, geometry.edition, &image, true)?.is_some() {
+        return Err(RepairFault::NotRepaired);
+    }
+    match lines_of(alloc, geometry, old, &image, unfit)? {
+        Some(lines) => Ok(Repaired { image, lines }),
+        None => Err(RepairFault::NotRepaired),
+    }
+}
+
+/// True if two images have the same length, boot block and sizes.
+fn has_same_front(geometry: &Geometry, old: &Image, new: &Image) -> bool
+    requires old { Fits geometry.now old.now }
+    requires new { Fits geometry.now new.now }
+    ensures { result ≡ true → HasSameFront geometry.now.edition old.now new.now }
+{
+    let super_block = Super {
+        edition: geometry.edition,
+    };
+    old.len() == new.len()
+        && old.block(0) == new.block(0)
+        && super_block.list_size(old) == super_block.list_size(new)
+        && super_block.block_count(old) == super_block.block_count(new)
+}
+
+/// Returns the lines of all that differs, or `None` if a file isn't kept that isn't marked in `unfit`.
+fn lines_of(
+    alloc: Global,
+    geometry: &Geometry,
+    old: &Image,
+    new: &Image,
+    unfit: &[bool],
+) -> Result<Option<Vec<RepairLine>>, AllocError>
+    requires old { Fits geometry.now old.now }
+    requires new { Fits geometry.now new.now }
+    requires unfit { IsNotFit geometry.now old.now unfit.now }
+    ensures { IfOk result (λ told. IfSome told (λ lines. TellsAll geometry.now old.now new.now lines.items)) }
+{
+    let changed = changed_blocks(alloc, geometry, old, new)?;
+    let mut lines = Vec::new(alloc);
+    if !push_lines(alloc, old, new, geometry, &changed, unfit, &mut lines)? {
+        return Ok(None);
+    }
+    if old.block(1) != new.block(1) {
+        lines.push(RepairLine::FreeList)?;
+    }
+    Ok(Some(lines))
 }

@@ -22,12 +22,18 @@ not_false : (b : Bool) → not b ≡ false → true ≡ b
 not_false true e = refl
 not_false false e = let clash : true ≡ false = e in cc
 
+-- a block that is compared and found the same has the same bytes
+pub block_same : (old new : List ℕ) (k r : ℕ) (xs ys : List ℕ) → true ≡ pointwise nat_eq xs ys → xs ≡ block_of old k → ys ≡ block_of new k → r < 512
+    → get_or new (512 * k + r) 0 ≡ get_or old (512 * k + r) 0
+block_same old new k r xs ys found first second low =
+    let same : xs ≡ ys = same_text xs ys found in
+    sym (get_or-slice_range new (512 * k) 512 r low) ∙ (ap (λ zs. get_or zs r 0) (sym second ∙ (sym same ∙ first)) ∙ get_or-slice_range old (512 * k) 512 r low)
+
 -- a block that two images are found to share has the same bytes in both
 pub block_unmarked : (old new : List ℕ) (k r : ℕ) (xs ys : List ℕ) (differs : Bool) → differs ≡ not (pointwise nat_eq xs ys)
     → xs ≡ block_of old k → ys ≡ block_of new k → differs ≡ false → r < 512 → get_or new (512 * k + r) 0 ≡ get_or old (512 * k + r) 0
 block_unmarked old new k r xs ys differs told first second equal h =
-    let same : xs ≡ ys = same_text xs ys (not_false (pointwise nat_eq xs ys) (sym told ∙ equal)) in
-    sym (get_or-slice_range new (512 * k) 512 r h) ∙ (ap (λ zs. get_or zs r 0) (sym second ∙ (sym same ∙ first)) ∙ get_or-slice_range old (512 * k) 512 r h)
+    block_same old new k r xs ys (not_false (pointwise nat_eq xs ys) (sym told ∙ equal)) first second h
 
 -- the same i-node, but for its link count, has the same block map, addresses and size
 kept_places : (geometry : Geometry) (old new : List ℕ) (i : ℕ)

@@ -1,17 +1,19 @@
 -- Lemmas on repaired copies.
-use Rattle.std.proofs.Common.{◌≡◌, ◌⊎◌, ℕ, ◌+◌, ◌*◌, ◌<◌, ◌≤◌, ◌∙◌, sym, ap, subst, Bool, true, false, not, nat_eq, List, [], ◌∷◌, ◌++◌, length, get_or, refl, arith, inl, inr, ◌||◌}
+use Rattle.std.proofs.Common.{◌≡◌, ◌⊎◌, ℕ, ◌+◌, ◌*◌, ◌<◌, ◌≤◌, ◌∙◌, sym, ap, subst, Bool, true, false, not, nat_eq, List, [], ◌∷◌, ◌++◌, length, get_or, refl, arith, inl, inr, Option, Some, None}
 use Rattle.std.proofs.lemmas.List.Folds.{list_any-append}
 use Rattle.std.proofs.lemmas.List.Elements.{All-append, All-cons, All-nil}
-use Rattle.std.specs.Cmp.Lexicographic.{pointwise, same_text}
+use Rattle.std.proofs.lemmas.Bool.{true≢false}
 use Rattle.std.specs.List.{All, list_any}
-use Rattle.pdp_words.specs.Words.{block_of}
+use Rattle.std.specs.Option.{is_some}
 use Rattle.vol_layout.specs.Geometry.{geometry_of, list_size, block_count, first_data_block}
-use Rattle.vol_layout.specs.Inode.{inode_of}
+use Rattle.vol_layout.specs.Edition.{constants}
+use Rattle.vol_layout.specs.Inode.{inode_of, IsStorable}
+use Rattle.vol_layout.specs.Inode.IsStorable.{in_v6, in_v7}
+use Rattle.vol_layout.specs.declared.i_node.Inode.{Inode}
 use Rattle.vol_layout.specs.declared.edition.Edition.{Edition}
 use Rattle.vol_layout.specs.declared.edition.Edition.TheVariants.{V6, V7}
 use Rattle.vol_layout.specs.declared.geometry.Geometry.{Geometry}
-use Rattle.vol_layout.proofs.BodyLaws.{get_or-slice_range}
-use Rattle.vol_judge.specs.Sound.{IsSound}
+use Rattle.vol_judge.specs.Sound.{IsSound, IsJudged}
 use Rattle.vol_repair.specs.Kept.{KeepsFile, FitsFile}
 use Rattle.vol_repair.specs.Lines.{is_about, is_for_links, is_for_slot, is_for_list, IsTold, dir_entry, IsTrueLine}
 use Rattle.vol_repair.specs.Repaired.{TellsUpTo, TellsAll, HasSameFront, IsMended, IsRepaired}
@@ -54,29 +56,17 @@ tells_list geometry old new n xs ys items told = subst (TellsUpTo geometry old n
 pub list_told : (xs ys : List RepairLine) → ys ≡ xs ++ (lines.FreeList ∷ []) → IsTold is_for_list ys
 list_told xs ys items = subst (IsTold is_for_list) (sym items) (told_last is_for_list xs lines.FreeList refl)
 
--- what is not false is true
-not_false : (b : Bool) → not b ≡ false → true ≡ b
-not_false true e = refl
-not_false false e = let clash : true ≡ false = e in cc
-
--- a block that is compared and found the same has the same bytes
-pub block_same : (old new : List ℕ) (k r : ℕ) (xs ys : List ℕ) → true ≡ pointwise nat_eq xs ys → xs ≡ block_of old k → ys ≡ block_of new k → r < 512
-    → get_or new (512 * k + r) 0 ≡ get_or old (512 * k + r) 0
-block_same old new k r xs ys found first second low =
-    let same : xs ≡ ys = same_text xs ys found in
-    sym (get_or-slice_range new (512 * k) 512 r low) ∙ (ap (λ zs. get_or zs r 0) (sym second ∙ (sym same ∙ first)) ∙ get_or-slice_range old (512 * k) 512 r low)
-
--- a block that isn't found to differ has the same bytes
-pub block_undiffering : (old new : List ℕ) (k r : ℕ) (xs ys : List ℕ) (differs : Bool) → differs ≡ not (pointwise nat_eq xs ys) → differs ≡ false
-    → xs ≡ block_of old k → ys ≡ block_of new k → r < 512 → get_or new (512 * k + r) 0 ≡ get_or old (512 * k + r) 0
-block_undiffering old new k r xs ys differs told equal first second low =
-    block_same old new k r xs ys (not_false (pointwise nat_eq xs ys) (sym told ∙ equal)) first second low
-
 -- two images with the same numbers of blocks in their super-blocks have the same sizes
 pub sizes_same : (edition : Edition) (old new : List ℕ) → list_size new ≡ list_size old → block_count edition new ≡ block_count edition old
     → geometry_of edition new ≡ geometry_of edition old
 sizes_same V6 old new list count = cc
 sizes_same V7 old new list count = cc
+
+-- a storable i-node stays storable with another link count
+pub storable_links : (edition : Edition) (was : Inode) (links : ℕ) → IsStorable edition was → links ≤ (constants edition).link_limit
+    → IsStorable edition (record was { links = links })
+storable_links V6 was links (in_v6 count uid gid size low high none) limit = in_v6 (omega (arith, limit)) uid gid size low high none
+storable_links V7 was links (in_v7 all some) limit = in_v7 all some
 
 -- a sound image is its own repaired copy
 pub same_repaired : (edition : Edition) (old new : List ℕ) (xs : List RepairLine) → IsSound edition old → new ≡ old → xs ≡ [] → IsRepaired edition old new xs
@@ -107,3 +97,8 @@ other_repaired edition geometry old new xs sizes broken sound front told = recor
   mended = record { sound = sound; front = front; told = subst (λ g. TellsAll g old new xs) sizes told };
   same = λ was. absurd (broken was);
 }
+
+-- an image in whose judgement no rule is broken is sound
+pub judged_sound : (edition : Edition) (image : List ℕ) (least : Option ℕ) → IsJudged true edition image least → is_some least ≡ false → IsSound edition image
+judged_sound edition image None judged none = judged
+judged_sound edition image (Some n) judged none = let clash : true ≡ false = none in absurd (true≢false clash)

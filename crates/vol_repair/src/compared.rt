@@ -1,5 +1,5 @@
 //! What is the same in two images of a volume, found by the blocks in which they differ.
-ghost use Rattle.std.specs.Prelude.{◌≡◌, ℕ, ◌<◌, ◌≤◌, true, IfOk, length};
+ghost use Rattle.std.specs.Prelude.{◌≡◌, ℕ, ◌+◌, ◌*◌, ◌<◌, ◌≤◌, true, IfOk, length, slice_index};
 ghost use Rattle.vol_layout.specs.Geometry.{Fits};
 ghost use Rattle.vol_losses.specs.Losses.{AgreesOutside};
 ghost use Rattle.vol_repair.specs.Kept.{KeepsFile};
@@ -27,6 +27,15 @@ pub fn changed_blocks(
         marks[k as usize] = old.block(k) != new.block(k);
     }
     Ok(marks)
+}
+
+/// True if block `k` has the same bytes in two images.
+pub(crate) fn is_same_block(old: &Image, new: &Image, k: u32) -> bool
+    requires old { 512 * k + 512 ≤ length old.now }
+    requires new { 512 * k + 512 ≤ length new.now }
+    ensures { result ≡ true → (r : ℕ) → r < 512 → slice_index new.now (512 * k + r) ≡ slice_index old.now (512 * k + r) }
+{
+    old.block(k) == new.block(k)
 }
 
 /// True if i-node `i` of both images, an i-number of the volume, differs at most in its link count, and the bytes of the file are in blocks that didn't

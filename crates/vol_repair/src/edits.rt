@@ -1,8 +1,7 @@
 //! The edits that mend the copy of a damaged image. All that is proved of them is that the copy still has all blocks of the volume: the copy is judged,
 //! and compared with the image, afterwards.
-ghost use Rattle.std.specs.Prelude.{◌≡◌, ◌≤◌, length};
+ghost use Rattle.std.specs.Prelude.{◌≡◌, ◌+◌, ◌≤◌, length};
 ghost use Rattle.vol_layout.specs.Geometry.{Fits};
-ghost use Rattle.vol_layout.specs.Edition.{constants};
 
 use crate::claims::FoundClaims;
 use pdp_words::Image;
@@ -71,6 +70,7 @@ fn put_links(image: &mut Image, geometry: &Geometry, i: u16, links: u64)
     }
     let links = links as u16;
     if node.links != links && kind(image, geometry, i) != Kind::Free {
-        put_inode(image, geometry, i, &Inode { links, ..node });
+        let linked = Inode { links, ..node };
+        put_inode(image, geometry, i, &linked);
     }
 }

@@ -1,12 +1,12 @@
 //! The repair of a damaged volume, to a copy.
-ghost use Rattle.std.specs.Prelude.{◌≡◌, true, IfOk, IfErr, IfSome};
+ghost use Rattle.std.specs.Prelude.{◌≡◌, ◌≤◌, length, true, IfOk, IfErr, IfSome};
 ghost use Rattle.vol_layout.specs.Geometry.{Fits, geometry_of};
 ghost use Rattle.vol_judge.specs.Sound.{IsLeastBroken, IsSound};
 ghost use Rattle.vol_repair.specs.Repaired.{HasSameFront, IsRepaired, IsRepairFault, TellsAll};
 ghost use Rattle.vol_repair.specs.Told.{IsNotFit};
 
 use crate::claims::find_claims;
-use crate::compared::changed_blocks;
+use crate::compared::{changed_blocks, is_same_block};
 use crate::edits::mend;
 use crate::repair_line::RepairLine;
 use crate::told_lines::push_lines;
@@ -74,7 +74,7 @@ pub fn repair(
     };
     match judge(alloc, edition, old, true) {
         Ok(None) => unchanged(alloc, edition, old),
-        Ok(Some(rule)) => repair_broken(alloc, &geometry, old, rule, now),
+        Ok(Some(rule)) => repair_broken(alloc, edition, &geometry, old, rule, now),
         Err(_) => Err(RepairFault::NoMemory),
     }
 }
@@ -94,43 +94,45 @@ fn unchanged(alloc: Global, edition: Edition, old: &Image) -> Result<Repaired, R
 /// Repairs an image that breaks `rule`, the least of the broken rules, and not 1 or 2.
 fn repair_broken(
     alloc: Global,
+    edition: Edition,
     geometry: &Geometry,
     old: &Image,
     rule: u8,
     now: u32,
 ) -> Result<Repaired, RepairFault>
-    requires geometry { geometry.now ≡ geometry_of geometry.now.edition old.now }
+    requires geometry { geometry.now ≡ geometry_of edition old.now }
     requires fits { Fits geometry.now old.now }
-    requires broken { IsLeastBroken true geometry.now.edition old.now rule }
-    ensures repaired { IfOk result (λ repaired. IsRepaired geometry.now.edition old.now repaired.image repaired.lines.items) }
-    ensures fault { IfErr result (IsRepairFault geometry.now.edition old.now) }
+    requires broken { IsLeastBroken true edition old.now rule }
+    ensures repaired { IfOk result (λ repaired. IsRepaired edition old.now repaired.image repaired.lines.items) }
+    ensures fault { IfErr result (IsRepairFault edition old.now) }
 {
     let mut image = Image::from_bytes(Vec::from_slice(alloc, old.as_bytes())?);
     let claims = find_claims(alloc, old, geometry)?;
     mend(alloc, &mut image, geometry, &claims, rule, now)?;
-    told(alloc, geometry, old, image, &claims.unfit)
+    told(alloc, edition, geometry, old, image, &claims.unfit)
 }
 
 /// Returns a copy with the lines of all that differs, if it is sound and keeps each file that isn't marked in `unfit`.
 fn told(
     alloc: Global,
+    edition: Edition,
     geometry: &Geometry,
     old: &Image,
     image: Image,
     unfit: &[bool],
 ) -> Result<Repaired, RepairFault>
-    requires geometry { geometry.now ≡ geometry_of geometry.now.edition old.now }
+    requires geometry { geometry.now ≡ geometry_of edition old.now }
     requires old { Fits geometry.now old.now }
     requires new { Fits geometry.now image }
-    requires broken { IsSound geometry.now.edition old.now → ⊥ }
+    requires broken { IsSound edition old.now → ⊥ }
     requires unfit { IsNotFit geometry.now old.now unfit.now }
-    ensures repaired { IfOk result (λ repaired. IsRepaired geometry.now.edition old.now repaired.image repaired.lines.items) }
-    ensures fault { IfErr result (IsRepairFault geometry.now.edition old.now) }
+    ensures repaired { IfOk result (λ repaired. IsRepaired edition old.now repaired.image repaired.lines.items) }
+    ensures fault { IfErr result (IsRepairFault edition old.now) }
 {
-    if !has_same_front(geometry, old, &image) {
+    if !has_same_front(edition, old, &image) {
         return Err(RepairFault::NotRepaired);
     }
-    if judge(alloc, geometry.edition, &image, true)?.is_some() {
+    if judge(alloc, edition, &image, true)?.is_some() {
         return Err(RepairFault::NotRepaired);
     }
     match lines_of(alloc, geometry, old, &image, unfit)? {
@@ -140,17 +142,25 @@ fn told(
 }
 
 /// True if two images have the same length, boot block and sizes.
-fn has_same_front(geometry: &Geometry, old: &Image, new: &Image) -> bool
-    requires old { Fits geometry.now old.now }
-    requires new { Fits geometry.now new.now }
-    ensures { result ≡ true → HasSameFront geometry.now.edition old.now new.now }
+fn has_same_front(edition: Edition, old: &Image, new: &Image) -> bool
+    requires old { 1024 ≤ length old.now }
+    requires new { 1024 ≤ length new.now }
+    ensures { result ≡ true → HasSameFront edition old.now new.now }
 {
-    let super_block = Super {
-        edition: geometry.edition,
-    };
-    old.len() == new.len()
-        && old.block(0) == new.block(0)
-        && super_block.list_size(old) == super_block.list_size(new)
+    if old.len() != new.len() {
+        return false;
+    }
+    is_same_block(old, new, 0) && has_same_sizes(edition, old, new)
+}
+
+/// True if the super-blocks of two images have the same sizes.
+fn has_same_sizes(edition: Edition, old: &Image, new: &Image) -> bool
+    requires old { 1024 ≤ length old.now }
+    requires new { 1024 ≤ length new.now }
+    ensures { result ≡ true → geometry_of edition new.now ≡ geometry_of edition old.now }
+{
+    let super_block = Super { edition };
+    super_block.list_size(old) == super_block.list_size(new)
         && super_block.block_count(old) == super_block.block_count(new)
 }
 
@@ -172,7 +182,7 @@ fn lines_of(
     if !push_lines(alloc, old, new, geometry, &changed, unfit, &mut lines)? {
         return Ok(None);
     }
-    if old.block(1) != new.block(1) {
+    if !is_same_block(old, new, 1) {
         lines.push(RepairLine::FreeList)?;
     }
     Ok(Some(lines))

@@ -1,6 +1,8 @@
 //! The blocks that files claim: each block by the first position that points to it. Other positions, and those that point outside the data zone, clash.
 ghost use Rattle.std.specs.Prelude.{◌≡◌, ◌⊎◌, ℕ, ◌+◌, ◌≤◌, true, false, IfOk, length, slice_index_or};
+ghost use Rattle.vol_layout.specs.Edition.{constants};
 ghost use Rattle.vol_layout.specs.Geometry.{Fits, in_zone};
+ghost use Rattle.vol_layout.specs.BlockPointers.{form_at};
 ghost use Rattle.vol_file.specs.Changes.{blocks_of};
 ghost use Rattle.vol_judge.specs.Marks.{blocks_from};
 ghost use Rattle.vol_repair.specs.Claims.{Claims};
@@ -117,14 +119,23 @@ fn is_regular(image: &Image, geometry: &Geometry, i: u16) -> bool
     requires last { i ≤ geometry.now.last_inode }
     ensures { result ≡ false → FitsFile geometry.now image.now i → ⊥ }
 {
-    let constants = geometry.edition.constants();
-    let limit = match BlockMap::of(geometry.edition, mode(image, geometry, i)) {
-        BlockMap::Small => SMALL,
-        _ => constants.greatest,
-    };
     kind(image, geometry, i) == Kind::Regular
-        && i != constants.root
-        && size(image, geometry, i) <= limit
+        && i != geometry.edition.constants().root
+        && size(image, geometry, i) <= size_limit(image, geometry, i)
+}
+
+/// Returns the greatest size that a file with the block map of i-node `i` can have, in bytes.
+pub(crate) fn size_limit(image: &Image, geometry: &Geometry, i: u16) -> u32
+    requires fits { Fits geometry.now image.now }
+    requires first { 1 ≤ i }
+    requires last { i ≤ geometry.now.last_inode }
+    ensures exact { (result ≡ (constants geometry.now.edition).greatest) ⊎ ((form_at geometry.now image.now i ≡ BlockMap.Small) × (result ≡ 4096)) }
+    ensures bound { result ≤ (constants geometry.now.edition).greatest }
+{
+    match BlockMap::of(geometry.edition, mode(image, geometry, i)) {
+        BlockMap::Small => SMALL,
+        _ => geometry.edition.constants().greatest,
+    }
 }
 
 /// Claims the blocks of i-node `i`. Returns true if one of its block numbers can't stay.

@@ -1,11 +1,21 @@
-//! The edits that mend the copy of a damaged image. All that is proved of them is that the copy still has all blocks of the volume: the copy is judged,
-//! and compared with the image, afterwards.
+//! The edits that mend the copy of a damaged image. All that is proved of them is that the copy still has all blocks of the volume: it is judged, and
+//! compared with the image, afterwards.
 ghost use Rattle.std.specs.Prelude.{◌≡◌, ◌+◌, ◌≤◌, length};
 ghost use Rattle.vol_layout.specs.Geometry.{Fits};
 
-use crate::claims::FoundClaims;
+mod blocks;
+mod entries;
+mod nodes;
+mod orphans;
+mod tree;
+
+use crate::claims::find_claims;
+use blocks::mend_blocks;
+use entries::mend_directories;
+use nodes::mend_nodes;
 use pdp_words::Image;
 use std::alloc::{AllocError, Global};
+use tree::mend_tree;
 use vol_free::rebuild;
 use vol_judge::find_entered;
 use vol_layout::i_list::kind;
@@ -14,24 +24,46 @@ use vol_layout::{Geometry, Inode, Kind, inode, put_inode};
 /// The last of the rules about i-nodes and blocks; those after it are about directories.
 const LAST_OF_BLOCKS: u8 = 8;
 
-/// Mends an image whose least broken rule is `rule`, and whose files claim these blocks.
+/// Why an image can't be mended.
+#[derive(Clone, Copy)]
+pub(crate) enum EditFault {
+    /// There is no free block or i-node for a directory, or no room in its block map.
+    NoSpace,
+    /// Memory ran out.
+    NoMemory,
+}
+
+impl From<AllocError> for EditFault {
+    fn from(_: AllocError) -> EditFault {
+        EditFault::NoMemory
+    }
+}
+
+/// Mends an image whose least broken rule is `rule`. New i-nodes get the time `now`, in seconds.
+///
+/// The edits, in this order: odd i-nodes are cleared, sizes cut to the limit, and a root that is no directory is made one; block numbers that can't stay
+/// are cleared, or their blocks copied; entries that no directory may have are removed; each directory keeps one entry; orphans get a name in
+/// `/lost+found`; `.` and `..` are set; the free list is rebuilt; and link counts are set.
 pub(crate) fn mend(
     alloc: Global,
     image: &mut Image,
     geometry: &Geometry,
-    claims: &FoundClaims,
     rule: u8,
     now: u32,
-) -> Result<(), AllocError>
-    requires fits { Fits geometry.now image.old }
-    requires used { length claims.now.used.items ≡ geometry.now.zone_end }
+) -> Result<(), EditFault>
+    requires { Fits geometry.now image.old }
     ensures { Fits geometry.now image.new }
 {
-    let _ = now;
-    if rule <= LAST_OF_BLOCKS {
+    mend_nodes(image, geometry, now);
+    let mut claims = find_claims(alloc, image, geometry)?;
+    mend_blocks(image, geometry, &claims.clashes, &mut claims.used);
+    mend_directories(alloc, image, geometry)?;
+    let taken = mend_tree(alloc, image, geometry, &mut claims.used, now)?;
+    if taken || rule <= LAST_OF_BLOCKS {
         rebuild(image, geometry, &claims.used);
     }
-    set_links(alloc, image, geometry)
+    set_links(alloc, image, geometry)?;
+    Ok(())
 }
 
 /// Sets the link count of each i-node to the number of its entries.

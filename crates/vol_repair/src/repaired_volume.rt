@@ -7,7 +7,7 @@ ghost use Rattle.vol_repair.specs.Told.{IsNotFit};
 
 use crate::claims::find_claims;
 use crate::compared::{changed_blocks, is_same_block};
-use crate::edits::mend;
+use crate::edits::{EditFault, mend};
 use crate::repair_line::RepairLine;
 use crate::told_lines::push_lines;
 use pdp_words::Image;
@@ -107,9 +107,12 @@ fn repair_broken(
     ensures fault { IfErr result (IsRepairFault edition old.now) }
 {
     let mut image = Image::from_bytes(Vec::from_slice(alloc, old.as_bytes())?);
-    let claims = find_claims(alloc, old, geometry)?;
-    mend(alloc, &mut image, geometry, &claims, rule, now)?;
-    told(alloc, edition, geometry, old, image, &claims.unfit)
+    let unfit = find_claims(alloc, old, geometry)?.unfit;
+    match mend(alloc, &mut image, geometry, rule, now) {
+        Ok(()) => told(alloc, edition, geometry, old, image, &unfit),
+        Err(EditFault::NoSpace) => Err(RepairFault::NoSpace),
+        Err(EditFault::NoMemory) => Err(RepairFault::NoMemory),
+    }
 }
 
 /// Returns a copy with the lines of all that differs, if it is sound and keeps each file that isn't marked in `unfit`.

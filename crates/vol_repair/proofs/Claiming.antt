@@ -11,7 +11,7 @@ use Rattle.vol_layout.specs.declared.geometry.Geometry.{Geometry}
 use Rattle.vol_free.specs.Stack.{IsIn}
 use Rattle.vol_file.specs.Changes.{blocks_of}
 use Rattle.vol_judge.specs.Marks.{blocks_from}
-use Rattle.vol_judge.proofs.AllBlocks.{all_blocks, files_from}
+use Rattle.vol_judge.proofs.AllBlocks.{files_from}
 use Rattle.vol_judge.proofs.BlocksFrom.{from_zero, from_leaf, from_suc, from_entries, entries_from}
 use Rattle.vol_judge.proofs.FileBlocks.{address_blocks, addresses_from}
 use Rattle.vol_judge.proofs.MarkLists.{flat_more}
@@ -227,7 +227,7 @@ count_files geometry image b n zero m size =
 count_files geometry image b n (suc k) m size =
     let before = count_files geometry image b n k (n + k) refl in
     let more : count_by (λ x. x == b) (files_from geometry image m)
-        ≡ count_by (λ x. x == b) (files_from geometry image (n + k)) + count_by (λ x. x == b) (blocks_of geometry image m) =
+    ≡ count_by (λ x. x == b) (files_from geometry image (n + k)) + count_by (λ x. x == b) (blocks_of geometry image m) =
     ap (count_by (λ x. x == b)) (files_next geometry image (n + k) m (omega (arith, size)))
     ∙ count_append (λ x. x == b) (files_from geometry image (n + k)) (blocks_of geometry image m) in
     omega (arith, before, more)
@@ -248,7 +248,7 @@ clash_unfit geometry image n m old new clash next last has claims found fits =
       | inl out ↦ absurd (true≢false (sym (fits.zoned bad.block bad.among) ∙ out))
       | inr twice ↦
           let join : count_by (λ x. x == bad.block) (files_from geometry image m)
-              ≡ count_by (λ x. x == bad.block) (files_from geometry image n ++ blocks_of geometry image m) =
+          ≡ count_by (λ x. x == bad.block) (files_from geometry image n ++ blocks_of geometry image m) =
           ap (count_by (λ x. x == bad.block)) (files_next geometry image n m next) in
           let all = count_files geometry image bad.block m (geometry.last_inode - m) geometry.last_inode (omega (arith, last)) in
           let one = fits.alone bad.block bad.among in

@@ -1,13 +1,12 @@
 -- Lemmas on files that are the same in two images.
-use Rattle.std.proofs.Common.{◌≡◌, ℕ, ◌+◌, ◌*◌, ◌/◌, ◌<◌, ◌≤◌, ◌∙◌, sym, ap, subst, Bool, true, false, List, get_or, length, refl, arith, inl, inr, not, nat_eq, min}
-use Rattle.std.proofs.lemmas.Bool.{cases_lt}
+use Rattle.std.proofs.Common.{◌≡◌, ℕ, ◌+◌, ◌*◌, ◌<◌, ◌∙◌, sym, ap, Bool, true, false, List, get_or, refl, not, nat_eq, min}
 use Rattle.std.specs.Cmp.Lexicographic.{pointwise, same_text}
 use Rattle.pdp_words.specs.Words.{block_of}
 use Rattle.vol_layout.specs.Edition.{constants}
 use Rattle.vol_layout.specs.Geometry.{Fits}
 use Rattle.vol_layout.specs.Inode.{inode_place, inode_of}
 use Rattle.vol_layout.specs.BlockPointers.{mode_of}
-use Rattle.vol_layout.specs.Body.{body_size, body}
+use Rattle.vol_layout.specs.Body.{body_size}
 use Rattle.vol_layout.specs.declared.geometry.Geometry.{Geometry}
 use Rattle.vol_layout.specs.declared.i_node.Inode.{Inode}
 use Rattle.vol_layout.proofs.InodeLaws.{inode_mode, inode_size, inode_address, form_same}

@@ -1,5 +1,5 @@
 -- Lemmas on the entries of a directory in two images.
-use Rattle.std.proofs.Common.{◌≡◌, ℕ, ◌*◌, ◌/◌, ◌<◌, ◌≤◌, ◌∙◌, sym, ap, List, Option, Some, None, arith, inl, inr, min, refl}
+use Rattle.std.proofs.Common.{◌≡◌, ℕ, ◌/◌, ◌≤◌, ◌∙◌, ap, List, Option, Some, None, arith, inl, inr, min, refl}
 use Rattle.std.proofs.lemmas.Bool.{cases_lt}
 use Rattle.vol_layout.specs.Edition.{constants}
 use Rattle.vol_layout.specs.declared.edition.Edition.{Edition}

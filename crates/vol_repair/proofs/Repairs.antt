@@ -1,22 +1,21 @@
 -- Lemmas on repaired copies.
-use Rattle.std.proofs.Common.{◌≡◌, ◌⊎◌, ℕ, ◌+◌, ◌*◌, ◌<◌, ◌≤◌, ◌∙◌, sym, ap, subst, Bool, true, false, not, nat_eq, List, [], ◌∷◌, ◌++◌, length, get_or, refl, arith, inl, inr, Option, Some, None}
+use Rattle.std.proofs.Common.{◌≡◌, ℕ, ◌≤◌, ◌∙◌, sym, subst, true, false, List, [], ◌∷◌, ◌++◌, refl, arith, inl, inr, Option, Some, None}
 use Rattle.std.proofs.lemmas.List.Folds.{list_any-append}
 use Rattle.std.proofs.lemmas.List.Elements.{All-append, All-cons, All-nil}
 use Rattle.std.proofs.lemmas.Bool.{true≢false}
-use Rattle.std.specs.List.{All, list_any}
+use Rattle.std.specs.List.{list_any}
 use Rattle.std.specs.Option.{is_some}
-use Rattle.vol_layout.specs.Geometry.{geometry_of, list_size, block_count, first_data_block}
+use Rattle.vol_layout.specs.Geometry.{geometry_of, list_size, block_count}
 use Rattle.vol_layout.specs.Edition.{constants}
-use Rattle.vol_layout.specs.Inode.{inode_of, IsStorable}
+use Rattle.vol_layout.specs.Inode.{IsStorable}
 use Rattle.vol_layout.specs.Inode.IsStorable.{in_v6, in_v7}
 use Rattle.vol_layout.specs.declared.i_node.Inode.{Inode}
 use Rattle.vol_layout.specs.declared.edition.Edition.{Edition}
 use Rattle.vol_layout.specs.declared.edition.Edition.TheVariants.{V6, V7}
 use Rattle.vol_layout.specs.declared.geometry.Geometry.{Geometry}
 use Rattle.vol_judge.specs.Sound.{IsSound, IsJudged}
-use Rattle.vol_repair.specs.Kept.{KeepsFile, FitsFile}
-use Rattle.vol_repair.specs.Lines.{is_about, is_for_links, is_for_slot, is_for_list, IsTold, dir_entry, IsTrueLine}
-use Rattle.vol_repair.specs.Repaired.{TellsUpTo, TellsAll, HasSameFront, IsMended, IsRepaired}
+use Rattle.vol_repair.specs.Lines.{is_about, is_for_links, is_for_slot, is_for_list, IsTold, IsTrueLine}
+use Rattle.vol_repair.specs.Repaired.{TellsUpTo, TellsAll, HasSameFront, IsRepaired}
 use Rattle.vol_repair.specs.declared.repair_line.RepairLine.{RepairLine}
 use Rattle.vol_repair.specs.declared.repair_line.RepairLine.TheVariants as lines
 use Rattle.vol_repair.proofs.Telling.{told_more, told_last, or_false}

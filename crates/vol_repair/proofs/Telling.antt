@@ -1,12 +1,11 @@
 -- Lemmas on lines that are appended for one i-number after another.
-use Rattle.std.proofs.Common.{◌≡◌, ◌≢◌, ◌⊎◌, ℕ, suc, ◌+◌, ◌*◌, ◌/◌, ◌<◌, ◌≤◌, ◌∙◌, sym, ap, subst, Bool, true, false, ◌||◌, ◌==◌, List, [], ◌∷◌, ◌++◌, length, refl, arith, inl, inr, append_assoc, Option, None}
-use Rattle.std.proofs.lemmas.Bool.{cases_lt, cases_eq, cases_Bool, eqb-true, true≢false}
+use Rattle.std.proofs.Common.{◌≡◌, ◌≢◌, ◌⊎◌, ℕ, suc, ◌+◌, ◌*◌, ◌∙◌, sym, ap, subst, Bool, true, false, ◌||◌, List, [], ◌∷◌, ◌++◌, length, refl, arith, inl, inr, append_assoc, None}
+use Rattle.std.proofs.lemmas.Bool.{cases_lt, cases_eq}
 use Rattle.std.proofs.lemmas.List.Folds.{list_any-append}
 use Rattle.std.proofs.lemmas.List.Elements.{All-append, All-cons, All-nil}
 use Rattle.std.proofs.lemmas.List.{append-nil}
 use Rattle.std.specs.List.{All, list_any}
-use Rattle.vol_layout.specs.Inode.{inode_place, inode_of, kind_of}
-use Rattle.vol_layout.specs.BlockPointers.{mode_of}
+use Rattle.vol_layout.specs.Inode.{inode_place, kind_of}
 use Rattle.vol_layout.specs.Body.{body_size, body}
 use Rattle.vol_layout.specs.Slot.{slot_at}
 use Rattle.vol_layout.specs.declared.geometry.Geometry.{Geometry}
@@ -84,8 +83,11 @@ grows_none geometry old new i xs = record { more = []; items = sym (append-nil x
 -- a line was appended
 pub grows_push : (geometry : Geometry) (old new : List ℕ) (i : ℕ) (xs ys : List RepairLine) (line : RepairLine) → ys ≡ xs ++ (line ∷ [])
     → subject line ≡ i → IsTrueLine geometry old new line → Grows geometry old new i xs ys
-grows_push geometry old new i xs ys line items about right = record { more = line ∷ []; items = items; 
-  each = All-cons (IsLineOf geometry old new i) line [] (about, right) (All-nil (IsLineOf geometry old new i)) }
+grows_push geometry old new i xs ys line items about right = record {
+  more = line ∷ [];
+  items = items;
+  each = All-cons (IsLineOf geometry old new i) line [] (about, right) (All-nil (IsLineOf geometry old new i));
+}
 
 -- more lines were appended
 pub grows_more : (geometry : Geometry) (old new : List ℕ) (i : ℕ) (xs ys zs : List RepairLine) → Grows geometry old new i xs ys

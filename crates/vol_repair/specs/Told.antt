@@ -1,6 +1,6 @@
 -- Appending the lines of one i-number.
 use Rattle.std.specs.Prelude.{◌≡◌, ◌⊎◌, ℕ, true, false, Bool, List, ◌++◌, slice_index_or}
-use Rattle.std.specs.List.{All, list_any}
+use Rattle.std.specs.List.{All}
 use Rattle.vol_layout.specs.Inode.{inode_of}
 use Rattle.vol_layout.specs.declared.geometry.Geometry.{Geometry}
 use Rattle.vol_repair.specs.Kept.{FitsFile}

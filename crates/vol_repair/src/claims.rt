@@ -22,15 +22,9 @@ const SMALL: u32 = 4096;
 #[derive(Clone, Copy)]
 pub(crate) enum Pointer {
     /// An address of an i-node.
-    Address {
-        inode: u16,
-        index: usize,
-    },
+    Address { inode: u16, index: usize },
     /// An entry of an indirect block.
-    Entry {
-        block: u32,
-        index: u32,
-    },
+    Entry { block: u32, index: u32 },
 }
 
 /// A block number that can't stay where it is.

@@ -13,12 +13,13 @@ use crate::entry_pairs::next_pair;
 use crate::repair_line::RepairLine;
 use pdp_words::Image;
 use std::alloc::{AllocError, Global};
+use vol_dir::entries::SLOTS;
 use vol_file::no_marks;
 use vol_layout::i_list::{kind, size};
 use vol_layout::{Geometry, Kind, inode};
 
 /// Appends the lines of all that differs in the i-nodes and directories of two images, and returns true. Returns false if a file isn't kept that isn't
-/// marked in `unfit`. `changed` marks the blocks that differ.
+/// marked in `unfit`, or if there are too many lines. `changed` marks the blocks that differ.
 ///
 /// Costs a read of each i-node, the search of [`is_kept`] for each, and a read of each slot of the directories that aren't kept. Takes six bytes for
 /// each block, and memory for the lines. An error: memory ran out.
@@ -58,7 +59,8 @@ pub(crate) fn push_lines(
     Ok(true)
 }
 
-/// Appends the lines of the i-number after `before`, and returns true. Returns false if its file isn't kept and isn't marked in `unfit`.
+/// Appends the lines of the i-number after `before`, and returns true. Returns false if its file isn't kept and isn't marked in
+/// `unfit`, or if there are too many lines.
 fn push_next(
     old: &Image,
     new: &Image,
@@ -92,8 +94,8 @@ fn push_next(
         return Ok(false);
     }
     lines.push(node_line(old, new, geometry, i))?;
-    push_entries(old, new, geometry, i, old_marks, new_marks, lines)?;
-    Ok(true)
+    let told = push_entries(old, new, geometry, i, old_marks, new_marks, lines)?;
+    Ok(told)
 }
 
 /// True if i-number `i` is marked.
@@ -163,7 +165,13 @@ fn node_line(old: &Image, new: &Image, geometry: &Geometry, i: u16) -> RepairLin
     }
 }
 
-/// Appends a line for each slot of directory `d` whose entries differ.
+/// Returns the number of lines after which no more entries are told: as many as directories without shared blocks can need.
+fn most_lines(geometry: &Geometry) -> usize {
+    2 * SLOTS as usize * geometry.zone_end as usize + 4 * geometry.last_inode as usize
+}
+
+/// Appends a line for each slot of directory `d` whose entries differ, and returns true. Returns false if there are more lines than directories need that
+/// share no blocks.
 fn push_entries(
     old: &Image,
     new: &Image,
@@ -172,7 +180,7 @@ fn push_entries(
     old_marks: &mut [bool],
     new_marks: &mut [bool],
     lines: &mut Vec<RepairLine>,
-) -> Result<(), AllocError>
+) -> Result<bool, AllocError>
     requires old { Fits geometry.now old.now }
     requires new { Fits geometry.now new.now }
     requires first { 1 ≤ d }
@@ -180,13 +188,17 @@ fn push_entries(
     requires old_marks { MarksEmpty geometry.now old.now old_marks.old }
     requires new_marks { MarksEmpty geometry.now new.now new_marks.old }
     ensures grows { IfOk result (λ _. Grows geometry.now old.now new.now d lines.old.items lines.new.items) }
-    ensures told { IfOk result (λ _. (s : ℕ) → TellsSlot geometry.now old.now new.now d s lines.new.items) }
+    ensures told { IfOk result (λ told. told ≡ true → (s : ℕ) → TellsSlot geometry.now old.now new.now d s lines.new.items) }
     ensures old_marks { MarksEmpty geometry.now old.now old_marks.new }
     ensures new_marks { MarksEmpty geometry.now new.now new_marks.new }
 {
+    let most = most_lines(geometry);
     let mut from = 0;
     while let Some(pair) = next_pair(old, new, geometry, d, from, old_marks, new_marks) {
         if !pair.is_same() {
+            if lines.len() >= most {
+                return Ok(false);
+            }
             lines.push(RepairLine::Entry {
                 directory: d,
                 slot: pair.number,
@@ -196,5 +208,5 @@ fn push_entries(
         }
         from = pair.number + 1;
     }
-    Ok(())
+    Ok(true)
 }

@@ -80,14 +80,17 @@ pub(super) fn read_pointer(image: &Image, geometry: &Geometry, at: Pointer) -> u
 {
     match at {
         Pointer::Address { inode, index }
-            if 1 <= inode && inode <= geometry.last_inode && index < 13 =>
-        {
+            if 1 <= inode && inode <= geometry.last_inode && index < 13 => {
             address(image, geometry, inode, index)
         }
         Pointer::Entry { block, index }
-            if geometry.in_zone(block) && index < geometry.edition.constants().pointers =>
-        {
-            number(image, geometry.edition, BLOCK * block as usize, index as usize)
+            if geometry.in_zone(block) && index < geometry.edition.constants().pointers => {
+            number(
+                image,
+                geometry.edition,
+                BLOCK * block as usize,
+                index as usize,
+            )
         }
         _ => 0,
     }

@@ -17,7 +17,12 @@ use vol_layout::slot::SLOT;
 use vol_layout::{BlockMap, Geometry, Kind, Slot, put_size};
 
 /// Returns the first entry of directory `d` at or after slot `from`, with its slot; `None` also if `d` isn't a directory.
-pub(super) fn next_slot(image: &Image, geometry: &Geometry, d: u16, from: u32) -> Option<(u32, Slot)>
+pub(super) fn next_slot(
+    image: &Image,
+    geometry: &Geometry,
+    d: u16,
+    from: u32,
+) -> Option<(u32, Slot)>
     requires fits { Fits geometry.now image.now }
     requires first { 1 ≤ d }
     requires last { d ≤ geometry.now.last_inode }
@@ -39,9 +44,7 @@ fn slot_place(image: &Image, geometry: &Geometry, d: u16, s: u32) -> Option<usiz
     ensures { IfSome result (λ at. at + 16 ≤ length image.now) }
 {
     match block_at(image, geometry, d, s / SLOTS) {
-        Some(k) if geometry.in_zone(k) => {
-            Some(BLOCK * k as usize + SLOT * (s % SLOTS) as usize)
-        }
+        Some(k) if geometry.in_zone(k) => { Some(BLOCK * k as usize + SLOT * (s % SLOTS) as usize) }
         _ => None,
     }
 }

@@ -1,4 +1,4 @@
-use Rattle.std.proofs.Common.{◌≡◌, ◌-◌, ◌≤◌, length}
+use Rattle.std.proofs.Common.{◌-◌, ◌≤◌}
 use Rattle.vol_layout.specs.Edition.{constants}
 use Rattle.vol_judge.proofs.BlocksFrom.{entries_from}
 use Rattle.vol_repair.specs.Claims.{Claims}

@@ -1,4 +1,4 @@
-use Rattle.std.proofs.Common.{◌≡◌, ◌+◌, ◌<◌, ◌≤◌, ◌∙◌, sym, refl, arith, true, false, inl, inr, length}
+use Rattle.std.proofs.Common.{◌+◌, ◌∙◌, sym, refl, arith, inl, inr}
 use Rattle.std.proofs.lemmas.Bool.{true≢false}
 use Rattle.vol_repair.proofs.Claiming.{met_none, met_next, clash_unfit, unfit_set}
 use Rattle.vol_repair.proofs.claims.claim_files.Goals as goal

@@ -1,4 +1,4 @@
-use Rattle.std.proofs.Common.{◌≡◌, ℕ, ◌+◌, ◌<◌, ◌≤◌, ◌*◌, ◌/◌, ◌∙◌, sym, ap, subst, min, arith}
+use Rattle.std.proofs.Common.{◌≡◌, ◌<◌, ◌∙◌, sym, ap, min, arith}
 use Rattle.std.proofs.lemmas.Bool.{eqb-true}
 use Rattle.std.specs.Int.{div_ceil}
 use Rattle.vol_layout.specs.Edition.{constants}
@@ -28,5 +28,5 @@ returns c = λ found.
     (ap (λ (node : Inode). record node { links = (inode_of edition old i).links }) (sym c.inode.ensures.value)
     ∙ (ap (λ (node : Inode). record c.inode.result { links = node.links }) (sym c.inode-node.ensures.value) ∙ (same ∙ c.inode-node.ensures.value)))
     (λ b low.
-        let inside : b < c.next_block.result = omega (arith, low, end, count) in
-        c.next_block.ensures.before b (omega arith) inside)
+    let inside : b < c.next_block.result = omega (arith, low, end, count) in
+    c.next_block.ensures.before b (omega arith) inside)

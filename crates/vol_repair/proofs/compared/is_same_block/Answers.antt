@@ -1,4 +1,4 @@
-use Rattle.std.proofs.Common.{◌≡◌, sym, ◌∙◌}
+use Rattle.std.proofs.Common.{sym, ◌∙◌}
 use Rattle.vol_repair.proofs.Comparison.{block_same}
 use Rattle.vol_repair.proofs.compared.is_same_block.Goals as goal
 

@@ -1,4 +1,3 @@
-use Rattle.vol_dir.specs.Entries.{IsDirectory}
 use Rattle.vol_judge.proofs.Decisions.{holds, fails}
 use Rattle.vol_repair.proofs.Pairing.{first_found, none_found}
 use Rattle.vol_repair.proofs.entry_pairs.first_entry.Goals as goal

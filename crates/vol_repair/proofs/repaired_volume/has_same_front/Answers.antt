@@ -1,4 +1,4 @@
-use Rattle.std.proofs.Common.{◌≡◌, ◌+◌, sym, ◌∙◌, subst, length, slice_index, arith}
+use Rattle.std.proofs.Common.{◌≡◌, ◌+◌, subst, slice_index, arith}
 use Rattle.vol_repair.proofs.repaired_volume.has_same_front.Goals as goal
 
 pub returns-then-is_same_block : goal.returns-then-is_same_block

@@ -1,4 +1,4 @@
-use Rattle.std.proofs.Common.{◌≡◌, sym, ◌∙◌}
+use Rattle.std.proofs.Common.{sym, ◌∙◌}
 use Rattle.std.proofs.lemmas.Bool.{eqb-true}
 use Rattle.vol_repair.proofs.Repairs.{sizes_same}
 use Rattle.vol_repair.proofs.repaired_volume.has_same_sizes.Goals as goal

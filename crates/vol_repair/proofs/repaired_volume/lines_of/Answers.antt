@@ -1,4 +1,4 @@
-use Rattle.std.proofs.Common.{◌≡◌, sym, subst, inl, inr}
+use Rattle.std.proofs.Common.{sym, subst, inl, inr}
 use Rattle.vol_repair.specs.Repaired.{TellsUpTo}
 use Rattle.vol_repair.proofs.Repairs.{tells_start, tells_list, list_told}
 use Rattle.vol_repair.proofs.repaired_volume.lines_of.Goals as goal

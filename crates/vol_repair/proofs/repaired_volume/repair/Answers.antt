@@ -1,4 +1,4 @@
-use Rattle.std.proofs.Common.{◌≡◌, ◌≤◌, sym, true, arith}
+use Rattle.std.proofs.Common.{sym, true, arith}
 use Rattle.vol_judge.proofs.RuleNumbers.{judged_short, judged_bounds, read_sizes}
 use Rattle.vol_repair.proofs.repaired_volume.repair.Goals as goal
 

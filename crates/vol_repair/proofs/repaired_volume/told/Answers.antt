@@ -1,4 +1,4 @@
-use Rattle.std.proofs.Common.{◌≡◌, sym, ◌∙◌}
+use Rattle.std.proofs.Common.{sym, ◌∙◌}
 use Rattle.vol_repair.proofs.Repairs.{other_repaired, judged_sound}
 use Rattle.vol_repair.proofs.repaired_volume.told.Goals as goal
 

@@ -1,4 +1,4 @@
-use Rattle.std.proofs.Common.{◌≡◌, ◌∙◌}
+use Rattle.std.proofs.Common.{◌∙◌}
 use Rattle.vol_repair.proofs.Repairs.{same_repaired}
 use Rattle.vol_repair.proofs.repaired_volume.unchanged.Goals as goal
 

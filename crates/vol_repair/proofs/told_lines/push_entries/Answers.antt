@@ -1,10 +1,9 @@
-use Rattle.std.proofs.Common.{◌≡◌, ℕ, ◌+◌, ◌<◌, ◌≤◌, ◌∙◌, sym, arith, inl, inr, refl, eq-eqb, ◌&&◌, ◌==◌, true, ap, subst}
+use Rattle.std.proofs.Common.{◌∙◌, sym, arith, inl, inr, refl, subst}
 use Rattle.std.proofs.lemmas.Bool.{cases_lt, cases_eq}
-use Rattle.vol_repair.specs.Lines.{is_for_slot}
 use Rattle.vol_repair.specs.Told.{Grows, TellsSlot}
 use Rattle.vol_repair.proofs.Telling.{grows_none, grows_push, grows_more, tells_grown, tells_entry, tells_none}
 use Rattle.vol_repair.proofs.told_lines.push_entries.Goals as goal
-use Rattle.vol_repair.proofs.told_lines.push_entries.Goals.{then-not-is_same+in_ok-push, else-not-is_same}
+use Rattle.vol_repair.proofs.told_lines.push_entries.Goals.{then-not-is_same+else-len-most+in_ok-push, else-not-is_same}
 
 pub loop-pair-preserved : goal.loop-pair-preserved
 loop-pair-preserved c =
@@ -17,12 +16,12 @@ loop-pair-preserved c =
     let before = c.loop-pair.lines.items in
     let after = c.if-not-is_same.lines.items in
     let grows : Grows geometry old new d before after = elim c.if-not-is_same.branch [
-      | then-not-is_same+in_ok-push w ↦ rw w.lines-is
+      | then-not-is_same+else-len-most+in_ok-push w ↦ rw w.lines-is
           (grows_push geometry old new d before _ _ w.in_ok-push.ensures.items refl (next.was, next.is))
       | else-not-is_same w ↦ rw w.lines-is (grows_none geometry old new d before)
     ] in
     let here : TellsSlot geometry old new d pair.number after = elim c.if-not-is_same.branch [
-      | then-not-is_same+in_ok-push w ↦ rw w.lines-is
+      | then-not-is_same+else-len-most+in_ok-push w ↦ rw w.lines-is
           (tells_entry geometry old new d pair.number before _ pair.old pair.new w.in_ok-push.ensures.items)
       | else-not-is_same w ↦ inl (next.is ∙ (c.is_same.ensures w.if-not-is_same.false ∙ sym next.was))
     ] in
@@ -41,7 +40,7 @@ loop-pair-preserved c =
     }
 
 pub returns-clause-told : goal.returns-clause-told
-returns-clause-told c = λ s.
+returns-clause-told c = λ told s.
     let lines = c.loop-pair.lines.items in
     elim (cases_lt s c.loop-pair.from) [
       | inl below ↦ c.loop-pair.invariant.told s below

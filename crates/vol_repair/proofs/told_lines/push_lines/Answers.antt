@@ -1,4 +1,4 @@
-use Rattle.std.proofs.Common.{◌≡◌, ℕ, subst, arith}
+use Rattle.std.proofs.Common.{◌≡◌, subst, arith}
 use Rattle.vol_repair.specs.Repaired.{TellsUpTo}
 use Rattle.vol_repair.proofs.told_lines.push_lines.Goals as goal
 

@@ -1,4 +1,3 @@
-use Rattle.std.proofs.Common.{◌≡◌}
 use Rattle.vol_dir.specs.Repeats.{MarksEmpty}
 use Rattle.vol_repair.specs.Repaired.{TellsUpTo}
 use Rattle.vol_repair.proofs.told_lines.push_lines.Given as goal

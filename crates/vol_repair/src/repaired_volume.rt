@@ -53,11 +53,12 @@ pub struct Repaired {
 }
 
 /// Repairs the image of a volume to a copy, which is sound and as long as the image, and returns it with a line for all that differs. A sound image is
-/// its own copy, with no line. Each file that fits, as [`FitsFile`](crate) says, keeps its i-node and its bytes; only its link count may differ. `now`
-/// is the time of new i-nodes, in seconds.
+/// its own copy, with no line. A file fits if it is regular, isn't the root, has a size within the limit, and has only data blocks that no other position
+/// points to: each such file keeps its i-node and its bytes, and only its link count may differ. `now` is the time of new i-nodes, in seconds.
 ///
 /// Costs a few times as much as judging an image. Takes the memory of the copy, that to judge it, a few bytes for each block, and that of the lines.
-/// `Unsized` is checked first; `NoMemory` can come at any time. It isn't said which images can be repaired.
+/// `Unsized` is checked first; `NoSpace` and `NotRepaired` come only of an image that isn't sound, and `NoMemory` at any time. No clause says which images
+/// can be repaired.
 pub fn repair(
     alloc: Global,
     edition: Edition,

@@ -1,7 +1,7 @@
 //! Tests of public functions, for properties that no contract states and no command shows: devices that fail at each of their calls, headers of
 //! another program, and the words of faults; threads that wait for one another, with sessions, as checkers and as scripts; the arguments
-//! of a log and a sweep; a volume that is cut at each of its bytes; what is left of a cut image, and of its tree; what differs between two trees; a
-//! view that learns twice; and functions that no command calls.
+//! of a log and a sweep; a volume that is cut at each of its bytes; what is left of a cut image, and of its tree; repairs; what differs between two
+//! trees; a view that learns twice; and functions that no command calls.
 #![tactic(auto)]
 
 #[cfg(test)]
@@ -28,6 +28,8 @@ mod lost_blocks;
 mod meeting;
 #[cfg(test)]
 mod play;
+#[cfg(test)]
+mod repairs;
 #[cfg(test)]
 mod rescued_files;
 #[cfg(test)]

@@ -1,9 +1,10 @@
 -- The end of a comparison of two images.
-use Rattle.std.proofs.Common.{◌≡◌, ℕ, ◌≤◌, ◌==◌, Bool, true, false, if◌then◌else◌, List, [], length, Option, inl, inr, refl, subst, sym, arith}
+use Rattle.std.proofs.Common.{◌≡◌, ℕ, ◌≤◌, ◌==◌, Bool, true, false, if◌then◌else◌, List, [], length, Option, inl, inr, refl, subst, sym, ◌∙◌, arith}
 use Rattle.command_faults.proofs.Concluded.{fault_few}
 use Rattle.command_reads.specs.Comparison.{ShowsComparison}
-use Rattle.command_reads.specs.Diff.{ShowsDiff, diff_status}
-use Rattle.command_reads.specs.TreeDiff.{AreRemarks, ShowsTreeDiff}
+use Rattle.command_reads.specs.Diff.{diff_status, field_differences}
+use Rattle.command_reads.specs.Print.{Shows, ShowsInPieces}
+use Rattle.command_reads.specs.TreeDiff.{AreRemarks, tree_differences}
 use Rattle.command_reads.specs.declared.comparison.Comparison.{Comparison}
 use Rattle.command_reads.specs.declared.comparison.Comparison.TheVariants as comparisons
 use Rattle.command_reads.specs.declared.diff.NamedImage.{NamedImage}
@@ -13,7 +14,7 @@ use Rattle.vol_layout.specs.declared.edition.Edition.{Edition}
 use Rattle.unixvol.specs.Compare.{EndsComparison, RunsDiff}
 use Rattle.unixvol.specs.Runs.{IsEnd, IsUnread, host_files}
 use Rattle.host_files.specs.declared.image_file.Stamp.{Stamp}
-use Rattle.unixvol.proofs.Looked.{ends_prints, ends_told}
+use Rattle.unixvol.proofs.Looked.{AreFew, ends_shows}
 
 -- the status after a text of differences is at most 4
 status_few : (text : List ℕ) → diff_status text ≤ 4
@@ -29,20 +30,22 @@ ends_silently : (volume : VolumeFile) (other : List ℕ) (all : Bool) (streams :
     → EndsComparison volume other (comparisons.Fields all) streams status
 ends_silently volume other all streams status ends = record { within = ends.within; whole = λ e. ((ends.whole e).0, ([], refl, (ends.whole e).1)) }
 
+-- differences between fields have a status of at most 4, and no lines about them
+fields_few : (edition : Edition) (old new : NamedImage) (all : Bool) → AreFew 4 (field_differences edition old new all)
+fields_few edition old new all = λ text wanted lines is. (subst (λ n. n ≤ 4) (sym is.0.1) (status_few text), λ e. is.1)
+
 -- differences between fields that were shown
 ends_fields : (volume : VolumeFile) (other : List ℕ) (edition : Edition) (old new : NamedImage) (all : Bool) (streams : Streams) (status : ℕ)
-    → ShowsDiff edition old new all streams status → EndsComparison volume other (comparisons.Fields all) streams status
-ends_fields volume other edition old new all streams status (inl (text, is, prints)) =
-    ends_silently volume other all streams status (ends_prints 4 (diff_status text) streams text status (omega arith) (status_few text) prints)
-ends_fields volume other edition old new all streams status (inr (fault, is, told)) =
-    ends_silently volume other all streams status (ends_told 4 streams fault status (omega arith) told)
+    → Shows (field_differences edition old new all) streams status → EndsComparison volume other (comparisons.Fields all) streams status
+ends_fields volume other edition old new all streams status shows =
+    ends_silently volume other all streams status (ends_shows 4 (field_differences edition old new all) streams status (omega arith) (fields_few edition old new all) shows)
 
 -- differences between trees that were shown
 ends_trees : (volume : VolumeFile) (other : List ℕ) (old new : NamedImage) (times : Bool) (streams : Streams) (status : ℕ)
     → old.name.now ≡ volume.image.now → new.name.now ≡ other
-    → ShowsTreeDiff volume.edition old new times streams status → EndsComparison volume other (comparisons.Tree times) streams status
-ends_trees volume other old new times streams status old_is new_is (inl (text, lines, is, remarks, inl printed)) = record {
-  within = subst (λ n. n ≤ 4) (sym printed.status) (status_few text);
+    → ShowsInPieces (tree_differences volume.edition old new times) streams status → EndsComparison volume other (comparisons.Tree times) streams status
+ends_trees volume other old new times streams status old_is new_is (inl (text, wanted, lines, is, inl (inl printed))) = record {
+  within = subst (λ n. n ≤ 4) (sym (printed.status ∙ is.2)) (status_few text);
   whole = λ e. (
     printed.working,
     (
@@ -51,15 +54,15 @@ ends_trees volume other old new times streams status old_is new_is (inl (text, l
         old.bytes.items,
         new.bytes.items,
         subst (λ name. AreRemarks volume.edition old.bytes.items name new.bytes.items other lines) old_is
-            (subst (λ name. AreRemarks volume.edition old.bytes.items old.name.now new.bytes.items name lines) new_is remarks),
+            (subst (λ name. AreRemarks volume.edition old.bytes.items old.name.now new.bytes.items name lines) new_is is.1),
       ),
       printed.said,
     ),
   );
 }
-ends_trees volume other old new times streams status old_is new_is (inl (text, lines, is, remarks, inr (inl broken))) =
+ends_trees volume other old new times streams status old_is new_is (inl (text, wanted, lines, is, inl (inr broken))) =
     ends_badly volume other (comparisons.Tree times) streams status (omega (arith, broken.status)) (omega (arith, broken.status))
-ends_trees volume other old new times streams status old_is new_is (inl (text, lines, is, remarks, inr (inr cut))) =
+ends_trees volume other old new times streams status old_is new_is (inl (text, wanted, lines, is, inr cut)) =
     ends_badly volume other (comparisons.Tree times) streams status (omega (arith, cut.status)) (omega (arith, cut.status))
 ends_trees volume other old new times streams status old_is new_is (inr (fault, is, told)) =
     ends_badly volume other (comparisons.Tree times) streams status (subst (λ n. 1 ≤ n) (sym told.status) (fault_few fault).0)

@@ -1,20 +1,14 @@
 -- The end of a run that saves a command's result, and of a run that can't read a file.
-use Rattle.std.proofs.Common.{◌≡◌, ◌∙◌, Bool, true, false, true≢false, ℕ, ◌≤◌, List, [], Option, None, Some, IsSome, IfSome, inl, inr, refl, sym, subst, arith}
+use Rattle.std.proofs.Common.{◌≡◌, ◌∙◌, Bool, true, false, true≢false, ℕ, ◌≤◌, List, [], Option, None, Some, Result, Ok, Err, IsSome, IfSome, inl, inr, refl, sym, subst, arith}
 use Rattle.std.specs.Global.{Vec}
 use Rattle.std.specs.Io.KnownBytes.{Keeps}
-use Rattle.command_faults.proofs.Concluded.{fault_few, refusal_few}
-use Rattle.command_faults.specs.Faults.{refusal_status}
+use Rattle.command_faults.proofs.Concluded.{fault_few}
 use Rattle.command_faults.specs.Outcomes.{Concludes, Outcomes}
 use Rattle.command_faults.specs.Streams.{Streams}
 use Rattle.command_faults.specs.declared.answer.Answer.{Answer}
-use Rattle.vol_dir.specs.declared.refusal.Refusal.{Refusal}
-use Rattle.vol_layout.specs.declared.edition.Edition.{Edition}
-use Rattle.command_reads.specs.GetFiles.{GetsFiles, get_status}
+use Rattle.command_faults.specs.declared.fault.Fault.{Fault}
 use Rattle.command_reads.specs.declared.get.FileRead.{FileRead}
-use Rattle.command_reads.specs.declared.get.FilesRead.{FilesRead}
-use Rattle.command_reads.specs.declared.get.GetFault.{GetFault}
-use Rattle.command_reads.specs.declared.get.GetFault.TheVariants.{Volume, File}
-use Rattle.unixvol.specs.Copies.{ReadSaved}
+use Rattle.unixvol.specs.Copies.{EndsRead}
 use Rattle.unixvol.specs.Runs.{EndsSaved, Ends, EndsWith, IsUnread, but_remarks}
 
 -- if a file can't be read, the run ends as `Ends` requires
@@ -60,32 +54,15 @@ ends_concluded outcomes streams taken answer status concludes (inr file) = recor
   whole = λ e. absurd (elim file.1 [ inl three ↦ omega (arith, three, e) | inr four ↦ omega (arith, four, e) ]);
 }
 
-refusal_within : (refusal : Refusal) → refusal_status refusal ≤ 4
-refusal_within refusal = elim (refusal_few refusal) [ inl one ↦ omega (arith, one) | inr four ↦ omega (arith, four) ]
-
-get_few : (fault : GetFault) → get_status fault ≤ 4
-get_few (Volume fault) = (fault_few fault).1
-get_few (File refusal path) = refusal_within refusal
-
--- if files were read, no fault is reported
-quiet_got : (P Q : List FileRead → Type 0) (said : List ℕ → Type 0) (files : Option (Vec FileRead)) → IsSome files
-    → IfSome files (λ files. P files.items × Q files.items × said []) → said []
-quiet_got P Q said (Some files) some given = given.2
-quiet_got P Q said None some given = absurd (true≢false (sym some))
-
--- if files are read and saved, the run ends as `Ends` requires
-pub ends_got : (edition : Edition) (image : List ℕ) (paths : List (List ℕ)) (streams : Streams) (taken : List ℕ → Type 0) (read : FilesRead) (status : ℕ)
-    → GetsFiles edition image paths streams.said read → Keeps streams.old streams.new → streams.failed ≡ streams.had_failed → ReadSaved taken read status
-    → Ends streams status
-ends_got edition image paths streams taken read status gets unprinted unused (inl own) = record {
-  within =
-      subst (λ n. n ≤ 4) (sym own.0)
-      (few read.files read.status gets.answered.1 (λ none. let why = gets.refused (rw none refl) in subst (λ n. n ≤ 4) (sym why.2) (get_few why.0)));
+-- if files were read and saved, or weren't read, the run ends as `Ends` requires
+pub ends_got : (streams : Streams) (taken : List ℕ → Type 0) (read : Result (Vec FileRead) Fault) (status : ℕ) → EndsRead taken streams.said read status
+    → Keeps streams.old streams.new → streams.failed ≡ streams.had_failed → Ends streams status
+ends_got streams taken (Ok files) status (saved, said) unprinted unused = record {
+  within = elim saved [ inl all ↦ omega (arith, all.0) | inr (inl three) ↦ omega (arith, three) | inr (inr four) ↦ omega (arith, four) ];
   silent = λ _ _. unprinted;
-  whole = λ e. (unused, quiet_got _ _ streams.said read.files (gets.answered.0 (sym own.0 ∙ e)) gets.read);
+  whole = λ e. (unused, said);
 }
-ends_got edition image paths streams taken read status gets unprinted unused (inr file) = record {
-  within = elim file.1 [ inl e ↦ omega (arith, e) | inr e ↦ omega (arith, e) ];
-  silent = λ _ _. unprinted;
-  whole = λ e. absurd (elim file.1 [ inl three ↦ omega (arith, three, e) | inr four ↦ omega (arith, four, e) ]);
-}
+ends_got streams taken (Err fault) status told unprinted unused =
+    let one : 1 ≤ status = subst (λ n. 1 ≤ n) (sym told.0) (fault_few fault).0 in
+    let four : status ≤ 4 = subst (λ n. n ≤ 4) (sym told.0) (fault_few fault).1 in
+    record { within = four; silent = λ _ _. unprinted; whole = λ e. absurd (omega (arith, one, e)) }

@@ -1,12 +1,11 @@
 -- Copies of several files: their names, and the result of saving them.
-use Rattle.std.proofs.Common.{◌≡◌, ◌⊎◌, ◌∙◌, ◌<◌, ◌+◌, ◌++◌, ℕ, List, [], ◌∷◌, length, map, take, get_or, Option, Some, IsSome, IfSome, inl, inr, refl, sym, ap, subst, arith}
+use Rattle.std.proofs.Common.{◌≡◌, ◌⊎◌, ◌∙◌, ◌<◌, ◌+◌, ◌++◌, ℕ, List, [], ◌∷◌, length, map, take, get_or, Ok, inl, inr, sym, ap, subst, arith}
 use Rattle.std.specs.Borrow.{Bor}
 use Rattle.std.specs.Global.{Vec}
 use Rattle.std.proofs.lemmas.List.{map-append, take_more}
 use Rattle.command_reads.specs.declared.get.FileRead.{FileRead}
-use Rattle.command_reads.specs.declared.get.FilesRead.{FilesRead}
 use Rattle.command_changes.specs.declared.put.NewFile.{NewFile}
-use Rattle.unixvol.specs.Copies.{AreSaved, ReadSaved, name_of}
+use Rattle.unixvol.specs.Copies.{AreSaved, EndsRead, name_of}
 use Rattle.unixvol.specs.Runs.{IsStatusOfFileOrMemory}
 
 -- the name of a new file
@@ -33,12 +32,8 @@ saved_one status P (inl own) is = own.1
 saved_one status P (inr (inl three)) is = absurd (omega (arith, three, is))
 saved_one status P (inr (inr four)) is = absurd (omega (arith, four, is))
 
--- the status after the files that were read were saved satisfies `ReadSaved`
-pub read_saved : (taken : List ℕ → Type 0) (read : FilesRead) (files : Vec FileRead) (given : List FileRead) (status : ℕ) → read.files ≡ Some files
-    → given ≡ files.items → ((status ≡ read.status) × AreSaved taken given) ⊎ IsStatusOfFileOrMemory status → ReadSaved taken read status
-read_saved taken read files given status is same (inl saved) =
-    inl (
-      saved.0,
-      subst (λ (found : Option (Vec FileRead)). IfSome found (λ files. AreSaved taken files.items)) (sym is) (subst (AreSaved taken) same saved.1),
-    )
-read_saved taken read files given status is same (inr file) = inr (subst IsSome (sym is) refl, file)
+-- the end of a run that saved the files that were read
+pub saved_read : (taken said : List ℕ → Type 0) (files : Vec FileRead) (given : List FileRead) (status : ℕ) → given ≡ files.items
+    → ((status ≡ 0) × AreSaved taken given) ⊎ IsStatusOfFileOrMemory status → said [] → EndsRead taken said (Ok files) status
+saved_read taken said files given status same saved quiet =
+    (subst (λ (fs : List FileRead). ((status ≡ 0) × AreSaved taken fs) ⊎ IsStatusOfFileOrMemory status) same saved, quiet)

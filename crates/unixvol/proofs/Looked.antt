@@ -12,19 +12,17 @@ use Rattle.command_faults.specs.declared.fault.Fault.TheVariants as faults
 use Rattle.std.specs.Result.{is_ok}
 use Rattle.vol_layout.specs.Geometry.{geometry_read}
 use Rattle.vol_layout.specs.declared.edition.Edition.{Edition}
-use Rattle.command_reads.specs.Check.{Checks, verdict_status}
+use Rattle.command_reads.specs.Check.{checked, verdict_status}
 use Rattle.command_reads.specs.Export.{begun, Exports, ExportsBelow, ExportsFrom, ExportsTo, told_status, unstarted_status, whole, broken, short, unbegun}
 use Rattle.command_reads.specs.Losses.{IsReadAs, is_graded}
 use Rattle.command_reads.specs.declared.looks.ExportOptions.{ExportOptions}
-use Rattle.command_reads.specs.Inode.{ShowsFound, ShowsNumber}
-use Rattle.command_reads.specs.Node.{node_fault, number_of}
+use Rattle.command_reads.specs.Inode.{found}
+use Rattle.command_reads.specs.Node.{number_of}
 use Rattle.command_reads.specs.declared.node.NodeFault.{NodeFault}
-use Rattle.command_reads.specs.Look.{Looks}
+use Rattle.command_reads.specs.Look.{Looks, seen}
 use Rattle.command_reads.specs.declared.looks.OutputForm.{OutputForm}
 use Rattle.command_reads.specs.declared.looks.OutputForm.TheVariants as forms
-use Rattle.command_reads.specs.Find.{Finds}
-use Rattle.command_reads.specs.Print.{IsBrokenOff, IsTold, PrintsInPieces, PrintsOne, PrintsOneInPieces, PrintsTelling, PrintsWith}
-use Rattle.command_reads.specs.Sums.{Sums}
+use Rattle.command_reads.specs.Print.{IsBrokenOff, IsTold, PrintsTelling, Shows, ShowsIn, ShowsInPieces, Sights}
 use Rattle.command_reads.specs.declared.looks.Look.{Look}
 use Rattle.command_reads.specs.declared.looks.Look.TheVariants as looks
 use Rattle.vol_listing.specs.declared.options.Screen.{Screen}
@@ -45,27 +43,56 @@ ends_told most streams fault status few told =
 ends_broken : (most : ℕ) (streams : Streams) (bytes : List ℕ) (status : ℕ) → 4 ≤ most → IsBrokenOff streams bytes status → IsEndWithin most streams status
 ends_broken most streams bytes status few is = ends_badly most streams status (omega (arith, is.status)) (omega (arith, is.status, few))
 
-pub ends_prints : (most wanted : ℕ) (streams : Streams) (text : List ℕ) (status : ℕ) → 4 ≤ most → wanted ≤ most → PrintsWith wanted streams text status
-    → IsEndWithin most streams status
-ends_prints most wanted streams text status few within (inl printed) =
-    record { within = subst (λ n. n ≤ most) (sym printed.status) within; whole = λ e. (printed.working, printed.said) }
-ends_prints most wanted streams text status few within (inr is) = ends_broken most streams text status few is
+-- the texts that may be shown have a status of at most `most`, and no lines about them if it is 0
+abbrev pub AreFew : ℕ → Sights → Type 0
+AreFew most sights =
+    (text : List ℕ) (wanted : ℕ) (lines : List ℕ) → sights.shows text wanted lines → (wanted ≤ most) × (wanted ≡ 0 → lines ≡ [])
 
-ends_one : (IsText : List ℕ → Type 0) (IsFault : Fault → Type 0) (streams : Streams) (status : ℕ) → PrintsOne IsText IsFault streams status → IsEndWithin 4 streams status
-ends_one IsText IsFault streams status (inl (text, is, prints)) = ends_prints 4 0 streams text status (omega arith) (omega arith) prints
-ends_one IsText IsFault streams status (inr (fault, is, told)) = ends_told 4 streams fault status (omega arith) told
+ends_telling : (most wanted : ℕ) (lines : List ℕ) (streams : Streams) (text : List ℕ) (status : ℕ) → 4 ≤ most → wanted ≤ most → (wanted ≡ 0 → lines ≡ [])
+    → PrintsTelling wanted lines streams text status → IsEndWithin most streams status
+ends_telling most wanted lines streams text status few within quiet (inl printed) = record {
+  within = subst (λ n. n ≤ most) (sym printed.status) within;
+  whole = λ e. (printed.working, subst streams.said (quiet (sym printed.status ∙ e)) printed.said);
+}
+ends_telling most wanted lines streams text status few within quiet (inr is) = ends_broken most streams text status few is
+
+pub ends_shows : (most : ℕ) (sights : Sights) (streams : Streams) (status : ℕ) → 4 ≤ most → AreFew most sights → Shows sights streams status
+    → IsEndWithin most streams status
+ends_shows most sights streams status four few (inl (text, wanted, lines, is, prints)) =
+    let may = few text wanted lines is in
+    ends_telling most wanted lines streams text status four may.0 may.1 prints
+ends_shows most sights streams status four few (inr (fault, is, told)) = ends_told most streams fault status four told
 
 -- a text that is printed piece by piece
-ends_pieces : (most wanted : ℕ) (streams : Streams) (text : List ℕ) (status : ℕ) → 4 ≤ most → wanted ≤ most → PrintsInPieces wanted streams text status
+pub ends_pieces : (most : ℕ) (sights : Sights) (streams : Streams) (status : ℕ) → 4 ≤ most → AreFew most sights → ShowsInPieces sights streams status
     → IsEndWithin most streams status
-ends_pieces most wanted streams text status few within (inl prints) = ends_prints most wanted streams text status few within prints
-ends_pieces most wanted streams text status few within (inr cut) =
-    ends_badly most streams status (omega (arith, cut.status)) (omega (arith, cut.status, few))
+ends_pieces most sights streams status four few (inl (text, wanted, lines, is, inl prints)) =
+    let may = few text wanted lines is in
+    ends_telling most wanted lines streams text status four may.0 may.1 prints
+ends_pieces most sights streams status four few (inl (text, wanted, lines, is, inr cut)) =
+    ends_badly most streams status (omega (arith, cut.status)) (omega (arith, cut.status, four))
+ends_pieces most sights streams status four few (inr (fault, is, told)) = ends_told most streams fault status four told
 
-ends_one_in_pieces : (IsText : List ℕ → Type 0) (IsFault : Fault → Type 0) (streams : Streams) (status : ℕ) → PrintsOneInPieces IsText IsFault streams status
-    → IsEndWithin 4 streams status
-ends_one_in_pieces IsText IsFault streams status (inl (text, is, pieces)) = ends_pieces 4 0 streams text status (omega arith) (omega arith) pieces
-ends_one_in_pieces IsText IsFault streams status (inr (fault, is, told)) = ends_told 4 streams fault status (omega arith) told
+pub ends_in : (most : ℕ) (form : OutputForm) (sights : Sights) (streams : Streams) (status : ℕ) → 4 ≤ most → AreFew most sights → ShowsIn form sights streams status
+    → IsEndWithin most streams status
+ends_in most forms.Text sights streams status four few shows = ends_shows most sights streams status four few shows
+ends_in most forms.Json sights streams status four few shows = ends_pieces most sights streams status four few shows
+
+plain_few : (most : ℕ) (is_text : List ℕ → Type 0) (text : List ℕ) (wanted : ℕ) (lines : List ℕ) → (is_text text × (wanted ≡ 0)) × (lines ≡ [])
+    → (wanted ≤ most) × (wanted ≡ 0 → lines ≡ [])
+plain_few most is_text text wanted lines is = (omega (arith, is.0.1), λ e. is.1)
+
+lines_few : (most wanted status : ℕ) (lines : List ℕ) → 1 ≤ wanted → wanted ≤ most → status ≡ (if length lines == 0 then 0 else wanted)
+    → (status ≤ most) × (status ≡ 0 → lines ≡ [])
+lines_few most wanted status [] least within is = (omega (arith, is), λ e. refl)
+lines_few most wanted status (line ∷ lines) least within is =
+    let some : (length (line ∷ lines) == 0) ≡ false = ne_eqb _ _ (λ none. absurd (omega (arith, none))) in
+    let one : status ≡ wanted = is ∙ ap (λ (b : Bool). if b then 0 else wanted) some in
+    (omega (arith, one, within), λ e. absurd (omega (arith, one, least, e)))
+
+telling_few : (most told : ℕ) (is_text : List ℕ → List ℕ → Type 0) → 1 ≤ told → told ≤ most → (text : List ℕ) (wanted : ℕ) (lines : List ℕ)
+    → is_text text lines × (wanted ≡ (if length lines == 0 then 0 else told)) → (wanted ≤ most) × (wanted ≡ 0 → lines ≡ [])
+telling_few most told is_text least within text wanted lines is = lines_few most told wanted lines least within is.1
 
 -- the highest status, graded or not, is at least 4
 most_few : (graded : Bool) → 4 ≤ (if graded then 6 else 4)
@@ -104,11 +131,9 @@ told_within false false lost left none =
 -- an export that was written whole, and whose status is 0 if it has no remarks and `told` otherwise, satisfies `IsEndWithin`
 ends_lines : (most told : ℕ) (streams : Streams) (status : ℕ) (lines : List ℕ) → 1 ≤ told → told ≤ most → streams.failed ≡ streams.had_failed → streams.said lines
     → status ≡ (if length lines == 0 then 0 else told) → IsEndWithin most streams status
-ends_lines most told streams status [] least within working said is = record { within = omega (arith, is); whole = λ e. (working, said) }
-ends_lines most told streams status (line ∷ lines) least within working said is =
-    let some : (length (line ∷ lines) == 0) ≡ false = ne_eqb _ _ (λ none. absurd (omega (arith, none))) in
-    let one : status ≡ told = is ∙ ap (λ (b : Bool). if b then 0 else told) some in
-    ends_badly most streams status (omega (arith, one, least)) (omega (arith, one, within))
+ends_lines most told streams status lines least within working said is =
+    let few = lines_few most told status lines least within is in
+    record { within = few.0; whole = λ e. (working, subst streams.said (few.1 e) said) }
 
 -- the statuses of an export that isn't printed whole are at most `most`
 pub record IsMost (graded : Bool) (lost : List Bool) (most : ℕ) : Type 0 where
@@ -195,58 +220,32 @@ verdict_few true true false = omega arith
 verdict_few true false false = omega arith
 verdict_few false measured false = omega arith
 
-ends_checks : (edition : Edition) (image : List ℕ) (graded : Bool) (form : OutputForm) (streams : Streams) (status : ℕ) → Checks edition image graded form streams status
-    → IsEndWithin (if graded then 6 else 4) streams status
-ends_checks edition image graded form streams status (inl found) =
-    ends_prints (if graded then 6 else 4) (verdict_status graded (is_ok (geometry_read edition image)) found.sound) streams found.text status (most_few graded)
-    (verdict_few graded (is_ok (geometry_read edition image)) found.sound) found.prints
-ends_checks edition image graded form streams status (inr told) = ends_told (if graded then 6 else 4) streams no_memory status (most_few graded) told
+checked_few : (edition : Edition) (image : List ℕ) (graded : Bool) (form : OutputForm) → AreFew (if graded then 6 else 4) (checked edition image graded form)
+checked_few edition image graded form = λ text wanted lines is. (
+  subst (λ n. n ≤ (if graded then 6 else 4)) (sym is.0.2) (verdict_few graded (is_ok (geometry_read edition image)) is.0.0),
+  λ e. is.1,
+)
 
-ends_number : (edition : Edition) (image : List ℕ) (number : ℕ) (streams : Streams) (status : ℕ) (form : OutputForm)
-    → ShowsNumber edition image number streams status form → IsEndWithin 4 streams status
-ends_number edition image number streams status forms.Text shows = ends_one _ _ streams status shows
-ends_number edition image number streams status forms.Json shows = ends_one_in_pieces _ _ streams status shows
+found_few : (edition : Edition) (image : List ℕ) (form : OutputForm) (number : Result ℕ NodeFault) → AreFew 4 (found edition image form number)
+found_few edition image form (Ok number) = plain_few 4 _
+found_few edition image form (Err fault) = plain_few 4 _
 
-ends_found : (edition : Edition) (image : List ℕ) (form : OutputForm) (streams : Streams) (status : ℕ) (found : Result ℕ NodeFault)
-    → ShowsFound edition image form streams status found → IsEndWithin 4 streams status
-ends_found edition image form streams status (Ok number) shows = ends_number edition image number streams status form shows
-ends_found edition image form streams status (Err fault) told = ends_told 4 streams (node_fault fault) status (omega arith) told
-
--- a text that was printed with remarks satisfies `IsEndWithin`
-ends_telling : (most told : ℕ) (streams : Streams) (text lines : List ℕ) (status : ℕ) → 4 ≤ most → 1 ≤ told → told ≤ most
-    → PrintsTelling told streams text lines status → IsEndWithin most streams status
-ends_telling most told streams text lines status few least within (inl printed) =
-    ends_lines most told streams status lines least within printed.working printed.said printed.status
-ends_telling most told streams text lines status few least within (inr cut) = ends_broken most streams text status few cut
-
-ends_sums : (edition : Edition) (image path : List ℕ) (form : OutputForm) (lost : Bool) (streams : Streams) (status : ℕ)
-    → Sums edition image path form lost streams status → IsEndWithin 4 streams status
-ends_sums edition image path form lost streams status (inl (text, lines, is, printed)) =
-    ends_telling 4 1 streams text lines status (omega arith) (omega arith) (omega arith) printed
-ends_sums edition image path form lost streams status (inr (fault, is, told)) = ends_told 4 streams fault status (omega arith) told
-
-ends_finds : (edition : Edition) (image path : List ℕ) (pattern : Option (List ℕ)) (lost : Bool) (form : OutputForm) (screen : Screen) (streams : Streams) (status : ℕ)
-    → Finds edition image path pattern lost form screen streams status → IsEndWithin 5 streams status
-ends_finds edition image path pattern lost form screen streams status (inl (text, lines, is, printed)) =
-    ends_telling 5 5 streams text lines status (omega arith) (omega arith) (omega arith) printed
-ends_finds edition image path pattern lost form screen streams status (inr (fault, is, told)) = ends_told 5 streams fault status (omega arith) told
-
-ends_looks : (edition : Edition) (image : List ℕ) (screen : Screen) (streams : Streams) (status : ℕ) (look : Look)
-    → Looks edition image screen streams status look → IsEndWithin (highest_status look) streams status
-ends_looks edition image screen streams status (looks.Export path options) shows = ends_exports edition image path.now options screen streams status shows
-ends_looks edition image screen streams status (looks.Sums path form lost) shows = ends_sums edition image path.now form lost streams status shows
-ends_looks edition image screen streams status (looks.Inode node form) shows = ends_found edition image form streams status (number_of edition image node) shows
-ends_looks edition image screen streams status (looks.Super form) shows = ends_one _ _ streams status shows
-ends_looks edition image screen streams status (looks.Free form) shows = ends_one _ _ streams status shows
-ends_looks edition image screen streams status (looks.Block block form) shows = ends_one _ _ streams status shows
-ends_looks edition image screen streams status (looks.Dump target radix) shows = ends_one _ _ streams status shows
-ends_looks edition image screen streams status (looks.Df form) shows = ends_one _ _ streams status shows
-ends_looks edition image screen streams status (looks.Find path name lost form) shows = ends_finds edition image path.now _ lost form screen streams status shows
-ends_looks edition image screen streams status (looks.Map picture) shows = ends_one _ _ streams status shows
-ends_looks edition image screen streams status looks.Uses shows = ends_one_in_pieces _ _ streams status shows
-ends_looks edition image screen streams status (looks.Check graded form) shows = ends_checks edition image graded form streams status shows
-ends_looks edition image screen streams status (looks.List path listing) shows = ends_one _ _ streams status shows
-ends_looks edition image screen streams status (looks.Slots path form) shows = ends_one_in_pieces _ _ streams status shows
+-- what a look may come to has a status of at most its highest one
+seen_few : (edition : Edition) (image : List ℕ) (screen : Screen) (look : Look) → AreFew (highest_status look) (seen edition image screen look)
+seen_few edition image screen (looks.Export path options) = plain_few _ _
+seen_few edition image screen (looks.Sums path form lost) = telling_few 4 1 _ (omega arith) (omega arith)
+seen_few edition image screen (looks.Inode node form) = found_few edition image form (number_of edition image node)
+seen_few edition image screen (looks.Super form) = plain_few 4 _
+seen_few edition image screen (looks.Free form) = plain_few 4 _
+seen_few edition image screen (looks.Block block form) = plain_few 4 _
+seen_few edition image screen (looks.Dump target radix) = plain_few 4 _
+seen_few edition image screen (looks.Df form) = plain_few 4 _
+seen_few edition image screen (looks.Find path name lost form) = telling_few 5 5 _ (omega arith) (omega arith)
+seen_few edition image screen (looks.Map picture) = plain_few 4 _
+seen_few edition image screen looks.Uses = plain_few 4 _
+seen_few edition image screen (looks.Check graded form) = checked_few edition image graded form
+seen_few edition image screen (looks.List path listing) = plain_few 4 _
+seen_few edition image screen (looks.Slots path form) = plain_few 4 _
 
 -- the highest status of a command is at least 4
 highest_few : (look : Look) → 4 ≤ highest_status look
@@ -264,6 +263,28 @@ highest_few looks.Uses = omega arith
 highest_few (looks.Check graded form) = most_few graded
 highest_few (looks.List path listing) = omega arith
 highest_few (looks.Slots path form) = omega arith
+
+ends_seen : (edition : Edition) (image : List ℕ) (screen : Screen) (streams : Streams) (status : ℕ) (look : Look) → Shows (seen edition image screen look) streams status
+    → IsEndWithin (highest_status look) streams status
+ends_seen edition image screen streams status look shows =
+    ends_shows (highest_status look) (seen edition image screen look) streams status (highest_few look) (seen_few edition image screen look) shows
+
+ends_looks : (edition : Edition) (image : List ℕ) (screen : Screen) (streams : Streams) (status : ℕ) (look : Look)
+    → Looks edition image screen streams status look → IsEndWithin (highest_status look) streams status
+ends_looks edition image screen streams status (looks.Export path options) shows = ends_exports edition image path.now options screen streams status shows
+ends_looks edition image screen streams status (looks.Inode node form) shows = ends_in 4 form (seen edition image screen (looks.Inode node form)) streams status (omega arith) (seen_few edition image screen (looks.Inode node form)) shows
+ends_looks edition image screen streams status looks.Uses shows = ends_pieces 4 (seen edition image screen looks.Uses) streams status (omega arith) (seen_few edition image screen looks.Uses) shows
+ends_looks edition image screen streams status (looks.Slots path form) shows = ends_pieces 4 (seen edition image screen (looks.Slots path form)) streams status (omega arith) (seen_few edition image screen (looks.Slots path form)) shows
+ends_looks edition image screen streams status (looks.Sums path form lost) shows = ends_seen edition image screen streams status (looks.Sums path form lost) shows
+ends_looks edition image screen streams status (looks.Super form) shows = ends_seen edition image screen streams status (looks.Super form) shows
+ends_looks edition image screen streams status (looks.Free form) shows = ends_seen edition image screen streams status (looks.Free form) shows
+ends_looks edition image screen streams status (looks.Block block form) shows = ends_seen edition image screen streams status (looks.Block block form) shows
+ends_looks edition image screen streams status (looks.Dump target radix) shows = ends_seen edition image screen streams status (looks.Dump target radix) shows
+ends_looks edition image screen streams status (looks.Df form) shows = ends_seen edition image screen streams status (looks.Df form) shows
+ends_looks edition image screen streams status (looks.Find path name lost form) shows = ends_seen edition image screen streams status (looks.Find path name lost form) shows
+ends_looks edition image screen streams status (looks.Map picture) shows = ends_seen edition image screen streams status (looks.Map picture) shows
+ends_looks edition image screen streams status (looks.Check graded form) shows = ends_seen edition image screen streams status (looks.Check graded form) shows
+ends_looks edition image screen streams status (looks.List path listing) shows = ends_seen edition image screen streams status (looks.List path listing) shows
 
 pub ends_unread : {F : Type 0} (remaining : F → Option (List ℕ)) (most : ℕ) (streams : Streams) (status : ℕ) → 4 ≤ most → IsUnread remaining status
     → IsEndWithin most streams status

@@ -1,10 +1,12 @@
 -- The result of copying several files between the host and a volume.
-use Rattle.std.specs.Prelude.{All, ◌≡◌, ◌⊎◌, ℕ, List, [], map, Option, Some, IsSome, IfSome, Bool, true, false, unwrap_or, Result}
+use Rattle.std.specs.Prelude.{All, ◌≡◌, ◌⊎◌, ℕ, List, [], map, Option, Some, IsSome, IfSome, Result, Ok, Err, Bool, true, false, unwrap_or}
+use Rattle.std.specs.Global.{Vec}
 use Rattle.std.specs.Borrow.{Bor}
 use Rattle.std.specs.Io.KnownBytes.{Keeps}
 use Rattle.std.specs.Path.{path_file_name}
 use Rattle.vol_import.specs.Make.{told}
 use Rattle.vol_volume.specs.Volume.{reads_as}
+use Rattle.command_faults.specs.Faults.{fault_line, fault_status}
 use Rattle.command_faults.specs.Outcomes.{IsAmong}
 use Rattle.command_faults.specs.Streams.{Gets, Streams}
 use Rattle.command_faults.specs.declared.answer.Remarked.{Remarked}
@@ -17,7 +19,6 @@ use Rattle.command_reads.specs.GetFiles.{GetsFiles}
 use Rattle.command_changes.specs.Import.{of_import}
 use Rattle.command_changes.specs.Put.{calls_to_put}
 use Rattle.command_reads.specs.declared.get.FileRead.{FileRead}
-use Rattle.command_reads.specs.declared.get.FilesRead.{FilesRead}
 use Rattle.command_changes.specs.declared.kept.Keep.{Keep}
 use Rattle.command_changes.specs.declared.put.NewFile.{NewFile}
 use Rattle.unixvol.specs.Runs.{Ends, HostFiles, IsGivenFile, IsStatusOfFileOrMemory, RunsNothing}
@@ -74,19 +75,19 @@ RunsPut streams files stands edition directory names keep now trace status =
 abbrev pub AreSaved : (List ℕ → Type 0) → List FileRead → Type 0
 AreSaved taken files = All (λ (file : FileRead). taken file.bytes.items) files
 
--- the status after files were read from a volume: the status of the reading if each file that was read was saved; otherwise the status of a file
--- (this project)
-abbrev pub ReadSaved : (List ℕ → Type 0) → FilesRead → ℕ → Type 0
-ReadSaved taken read status =
-    ((status ≡ read.status) × IfSome read.files (λ files. AreSaved taken files.items)) ⊎ (IsSome read.files × IsStatusOfFileOrMemory status)
+-- a run ends after files were read from a volume: the status is 0 if each was saved, otherwise that of a file, and no fault is reported; or, if they
+-- weren't read, the fault is reported, with its status (this project)
+abbrev pub EndsRead : (List ℕ → Type 0) → (List ℕ → Type 0) → Result (Vec FileRead) Fault → ℕ → Type 0
+EndsRead taken said (Ok files) status = (((status ≡ 0) × AreSaved taken files.items) ⊎ IsStatusOfFileOrMemory status) × said []
+EndsRead taken said (Err fault) status = (status ≡ fault_status fault) × said (fault_line fault)
 
 -- the files at these paths of a volume are copied to the host: nothing is done; or nothing is printed, the files are read from an image, which is
 -- read from a file, and each is saved once all are read (this project)
 abbrev pub RunsGet : Streams → HostFiles → Edition → List (List ℕ) → ℕ → Type 0
 RunsGet streams files edition paths status =
     RunsNothing streams files status
-    ⊎ ((image : List ℕ) × (read : FilesRead) × files.shown edition image × GetsFiles edition image paths streams.said read
-    × Keeps streams.old streams.new × (streams.failed ≡ streams.had_failed) × ReadSaved files.taken read status)
+    ⊎ ((image : List ℕ) × (read : Result (Vec FileRead) Fault) × files.shown edition image × GetsFiles edition image paths read
+    × Keeps streams.old streams.new × (streams.failed ≡ streams.had_failed) × EndsRead files.taken streams.said read status)
 
 -- several files are copied (this project)
 abbrev pub RunsCopy : Streams → HostFiles → Standing → Edition → Copying → ℕ → Type 0

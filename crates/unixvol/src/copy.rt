@@ -2,7 +2,7 @@
 ghost use Rattle.std.specs.Prelude.{◌≡◌, ◌≢◌, ◌⊎◌, ℕ, All, Bool, IfErr, IfOk, IfSome, List, None, Option, map};
 ghost use Rattle.std.specs.Process.{exit_status};
 ghost use Rattle.command_faults.specs.Streams.{ErrorStream, Hears, still, streams};
-ghost use Rattle.unixvol.specs.Copies.{AreGiven, AreSaved, CopiesToEnd, IsFileToo, IsMomentAlone, ReadSaved, RunsCopy, RunsGet, RunsPut, name_of};
+ghost use Rattle.unixvol.specs.Copies.{AreGiven, AreSaved, CopiesToEnd, IsFileToo, IsMomentAlone, RunsCopy, RunsGet, RunsPut, name_of};
 ghost use Rattle.unixvol.specs.Runs.{Ends, GavePut, IsGivenFile, IsStatusOfFileOrMemory, IsUnread, host_files};
 ghost use Rattle.host_files.specs.Save.{IsTaken};
 
@@ -18,7 +18,7 @@ use command_changes::put::{NewFile, put_files};
 use command_faults::Ending;
 use command_faults::status::DONE;
 use command_line::{Copying, VolumeFile};
-use command_reads::get::{FileRead, FilesRead, get_files};
+use command_reads::{FileRead, get_files};
 use command_words::Moment;
 use host_files::{ImageFiles, Marks, Stamp, is_pipe, noted_writer};
 use pdp_words::{IntoWrite, Sink};
@@ -152,8 +152,8 @@ fn moment_file<'a, R: ImageFiles>(rt: &R, now: Moment<'a>) -> Option<&'a str>
     if rt.is_there(word) { Some(word) } else { None }
 }
 
-/// Reads the files at some paths to put into a volume of an edition, in order, with what is kept of them, and names each by the last name of its path.
-/// If one can't be read, prints the fault and returns the status.
+/// Reads the files at some paths to put into a volume of an edition, in order, with what is kept of them, and names each by the last name of its
+/// path. If one can't be read, prints the fault and returns the status.
 fn read_named<'a, R: ImageFiles + Eprint + AllocGlobal>(
     host: &Surroundings<'_, R>,
     edition: Edition,
@@ -205,41 +205,25 @@ fn run_get<R: ImageFiles + Clock + Eprint + AllocGlobal>(
             };
         }
     };
-    let read = get_files(host.rt.alloc(), volume.edition, image, paths);
-    let status = save_read(host, folder, stamp, &read, keeps);
-    Ending {
-        status,
-        fault: read.fault,
+    match get_files(host.rt.alloc(), volume.edition, image, paths) {
+        Ok(files) => Ending {
+            status: save_files(host, folder, stamp, &files, keeps),
+            fault: None,
+        },
+        Err(fault) => Ending::from(fault),
     }
 }
 
-/// If files were read from a volume, saves them in a folder, with their marks if `keeps`. Returns the exit status.
-fn save_read<R: ImageFiles + Clock + Eprint + AllocGlobal>(
-    host: &Surroundings<'_, R>,
-    folder: &str,
-    image: Stamp,
-    read: &FilesRead<'_>,
-    keeps: bool,
-) -> u8
-    ensures { ReadSaved (IsTaken R.File.contents) read.now result }
-{
-    match &read.files {
-        Some(files) => save_files(host, folder, image, files, keeps, read.status),
-        None => read.status,
-    }
-}
-
-/// Saves files of a volume in a folder, each under the last name of its path. Returns the exit status: `status`, or the status of the first file that
-/// can't be saved; the files after that one aren't saved.
+/// Saves files of a volume in a folder, each under the last name of its path, with its marks if `keeps`. Returns the exit status: that of the first
+/// file that can't be saved, if there is one; the files after it aren't saved.
 fn save_files<R: ImageFiles + Clock + Eprint + AllocGlobal>(
     host: &Surroundings<'_, R>,
     folder: &str,
     image: Stamp,
     files: &[FileRead<'_>],
     keeps: bool,
-    status: u8,
 ) -> u8
-    ensures { ((result ≡ status) × AreSaved (IsTaken R.File.contents) files.now) ⊎ IsStatusOfFileOrMemory result }
+    ensures { ((result ≡ 0) × AreSaved (IsTaken R.File.contents) files.now) ⊎ IsStatusOfFileOrMemory result }
 {
     'files: for file in files {
         let saved = save_file_read(host, folder, image, file, keeps);
@@ -247,7 +231,7 @@ fn save_files<R: ImageFiles + Clock + Eprint + AllocGlobal>(
             return saved;
         }
     }
-    status
+    DONE
 }
 
 /// Saves a file of a volume in a folder, under the last name of its path, with its marks if `keeps`, and returns the exit status. A pipe or a socket

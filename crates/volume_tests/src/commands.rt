@@ -6,7 +6,7 @@ use command_changes::{
 use command_faults::Answer;
 use command_reads::cat::cat;
 use command_reads::checkers::check;
-use command_reads::{Look, NodeName, OutputForm, get_all, look};
+use command_reads::{Look, NodeName, OutputForm, get_files, look};
 use pdp_words::FromRead;
 use pdp_words::test_streams::ScriptedReader;
 use std::alloc::Global;
@@ -112,11 +112,9 @@ fn put_hello(rt: &impl Abort, alloc: Global, image: Vec<u8>) -> Vec<u8> {
 
 /// Checks the bytes that `get` and `cat` read of the file.
 fn check_read(rt: &impl Abort, alloc: Global, edition: Edition, image: &[u8]) {
-    let mut errors = stream(alloc);
     let copy = copied(rt, alloc, image);
-    let read = get_all(alloc, edition, copy, &["/d/hello"], &mut errors);
-    check_printed(rt, errors, b"");
-    let files = read.files.expect(rt, "files");
+    let read = get_files(alloc, edition, copy, &["/d/hello"]);
+    let files = read.ok().expect(rt, "files");
     assert_eq!(rt; files.len(), 1);
     for file in &files {
         assert_eq!(rt; file.bytes.as_slice(), HELLO);

@@ -1,5 +1,5 @@
 -- The result of printing a text.
-use Rattle.std.proofs.Common.{◌≡◌, ℕ, ◌==◌, if◌then◌else◌, List, [], length, Option, None, Some, Result, Ok, Err, IfOk, IfErr, inl, inr, refl, subst, sym}
+use Rattle.std.proofs.Common.{◌≡◌, ℕ, List, [], Option, None, Some, Result, Ok, Err, IfOk, IfErr, inl, inr, refl, subst, sym}
 use Rattle.std.specs.Prelude.{OnOk, String}
 use Rattle.std.specs.Global.{Vec}
 use Rattle.std.specs.String.{string_bytes}

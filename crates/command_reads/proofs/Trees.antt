@@ -1,5 +1,5 @@
 -- Trees that were compared.
-use Rattle.std.proofs.Common.{◌≡◌, ◌∙◌, ◌⊎◌, ℕ, ◌==◌, Bool, true, false, if◌then◌else◌, not, List, [], ◌∷◌, length, map, ap, subst, sym, refl, inl, inr, Option, Result, Ok, Err, IfOk, IfErr, Some, arith}
+use Rattle.std.proofs.Common.{◌≡◌, ◌∙◌, ◌⊎◌, ℕ, ◌==◌, Bool, false, if◌then◌else◌, not, List, [], ◌∷◌, length, map, ap, subst, sym, refl, inl, inr, Option, Result, Ok, Err, IfOk, IfErr, Some, arith}
 use Rattle.std.proofs.lemmas.Bool.{ne_eqb}
 use Rattle.vol_archive.specs.Write.{Writes}
 use Rattle.vol_archive.specs.declared.write.WriteFault.{WriteFault}

@@ -29,7 +29,7 @@ same_work (invocations.ExportBad old map p options) found volume work is = absur
 same_work (invocations.Copy old copying) found volume work is = absurd (cc)
 same_work (invocations.Serve old serving) found volume work is = absurd (cc)
 same_work (invocations.Diff old other by) found volume work is = absurd (cc)
-same_work (invocations.Identify images form) found volume work is = absurd (cc)
+same_work (invocations.Identify images form is_deep) found volume work is = absurd (cc)
 
 -- if a command with its edition found is work with several threads, the command that was asked for is that work
 settled_work : {F : Type 0} (remaining : F → Option (List ℕ)) (asked settled : Invocation) (volume : VolumeFile) (work : Work) → IsSettled remaining asked settled

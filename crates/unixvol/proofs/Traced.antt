@@ -17,7 +17,7 @@ use Rattle.unixvol.specs.Traces.{EndsTraced, IsQuiet, PrintsTrace}
 quiet_same : (wanted other : ℕ) (lines others : List ℕ) (streams : Streams) (status : ℕ) → wanted ≡ other → lines ≡ others
     → IsQuiet wanted lines streams status → IsQuiet other others streams status
 quiet_same wanted other lines others streams status same also quiet =
-    record { status = quiet.status ∙ same; kept = quiet.kept; working = quiet.working; said = subst streams.said also quiet.said }
+    record { ended = quiet.ended ∙ same; kept = quiet.kept; working = quiet.working; said = subst streams.said also quiet.said }
 
 -- if nothing is written, the contents of a stream stay the same
 pub kept_same : (known : Option (List ℕ)) → Keeps known known
@@ -37,10 +37,10 @@ traced_end taken (Ok made) answer saved streams status ok err (inl own) quiet pr
     )
 traced_end taken (Ok made) answer saved streams status ok err (inr (some, inl three)) quiet prints =
     let still = quiet (λ e. absurd (omega (arith, three, e))) in
-    inr (inl (still.status ∙ three), quiet_same saved status (line_after answer.fault) made.lines.items streams status (sym still.status) ok.2 still)
+    inr (inl (still.ended ∙ three), quiet_same saved status (line_after answer.fault) made.lines.items streams status (sym still.ended) ok.2 still)
 traced_end taken (Ok made) answer saved streams status ok err (inr (some, inr four)) quiet prints =
     let still = quiet (λ e. absurd (omega (arith, four, e))) in
-    inr (inr (still.status ∙ four), quiet_same saved status (line_after answer.fault) made.lines.items streams status (sym still.status) ok.2 still)
+    inr (inr (still.ended ∙ four), quiet_same saved status (line_after answer.fault) made.lines.items streams status (sym still.ended) ok.2 still)
 traced_end taken (Err fault) answer saved streams status ok err (inl own) quiet prints =
     let few = fault_few fault in
     let is = own.0 ∙ err.1 in
@@ -51,7 +51,7 @@ traced_end taken (Err fault) answer saved streams status ok err (inr file) quiet
 -- a quiet run ends, if its status is 1 to 4
 quiet_ends : (wanted : ℕ) (lines told : List ℕ) (streams : Streams) (status : ℕ) → 1 ≤ wanted → wanted ≤ 4 → IsQuiet wanted lines streams status
     → EndsWith told streams status
-quiet_ends wanted lines told streams status least most quiet = let is = quiet.status in record {
+quiet_ends wanted lines told streams status least most quiet = let is = quiet.ended in record {
   within = omega (arith, is, most);
   silent = λ _ _. quiet.kept;
   whole = λ e. absurd (omega (arith, is, least, e));
@@ -60,7 +60,7 @@ quiet_ends wanted lines told streams status least most quiet = let is = quiet.st
 -- a run that prints a trace, or has none to print, ends with the lines
 printed_ends : (trace : Option (Vec ℕ)) (lines told : List ℕ) (streams : Streams) (status : ℕ) → lines ≡ told → PrintsTrace trace lines streams status
     → EndsWith told streams status
-printed_ends None lines told streams status same quiet = let is = quiet.status in record {
+printed_ends None lines told streams status same quiet = let is = quiet.ended in record {
   within = omega (arith, is);
   silent = λ _ _. quiet.kept;
   whole = λ e. (quiet.working, subst streams.said same quiet.said);

@@ -406,7 +406,7 @@ RunsChange streams files input is_terminal edition change trace lines status =
 -- the invocation is a plain command: it doesn't show part of an image, compare two images, guess what images are, change a volume, copy several files or use several threads (this project)
 abbrev pub IsPlainCommand : Invocation → Type 0
 IsPlainCommand (invocations.Look volume look) = ⊥
-IsPlainCommand (invocations.Identify images form) = ⊥
+IsPlainCommand (invocations.Identify images form is_deep) = ⊥
 IsPlainCommand (invocations.Diff volume other by) = ⊥
 IsPlainCommand (invocations.ExportBad volume map path options) = ⊥
 IsPlainCommand (invocations.Change volume change trace) = ⊥
@@ -436,7 +436,7 @@ volume_at (invocations.Cat volume node) = volume.at
 volume_at (invocations.Get volume path) = volume.at
 volume_at (invocations.Mkfs place volume) = new_place_at place
 volume_at (invocations.Migrate old at new migration) = at
-volume_at (invocations.Identify images form) = 0
+volume_at (invocations.Identify images form is_deep) = 0
 volume_at (invocations.Diff volume other by) = volume.at
 volume_at (invocations.ExportBad volume map path options) = volume.at
 volume_at (invocations.Salvage volume copy) = volume.at
@@ -458,7 +458,7 @@ Runs streams files status (invocations.Cat volume node) = RunsCat streams files 
 Runs streams files status (invocations.Get volume path) = RunsGetOne streams files volume.edition path.now status
 Runs streams files status (invocations.Mkfs place volume) = RunsMkfs streams (made_in files place volume.blocks) volume status
 Runs streams files status (invocations.Migrate old at new migration) = RunsMigrate streams files migration status
-Runs streams files status (invocations.Identify images form) = ⊥
+Runs streams files status (invocations.Identify images form is_deep) = ⊥
 Runs streams files status (invocations.Diff volume other by) = ⊥
 Runs streams files status (invocations.ExportBad volume map path options) = ⊥
 Runs streams files status (invocations.Salvage volume copy) = RunsSalvage streams files volume.edition copy status

@@ -11,7 +11,7 @@ use Rattle.command_faults.specs.declared.fault.Fault.TheVariants as faults
 
 -- nothing is printed, and these lines are reported, with a status (this project)
 pub record IsQuiet (wanted : ℕ) (lines : List ℕ) (streams : Streams) (status : ℕ) : Type 0 where
-  pub status : status ≡ wanted
+  pub ended : status ≡ wanted
   pub kept : Keeps streams.old streams.new
   pub working : streams.failed ≡ streams.had_failed
   pub said : streams.said lines

@@ -7,4 +7,4 @@ returns-in-Some-clause-saved g c zero errors hears = rw c.in-Some.is (rw c.deref
 
 pub returns-in-None-clause-saved : goal.returns-in-None-clause-saved
 returns-in-None-clause-saved g c zero errors hears =
-    rw c.in-None.is (record { status = zero; kept = Keeps-refl (g.O.Sink.contents c.args.output.now); working = refl; said = hears })
+    rw c.in-None.is (record { ended = zero; kept = Keeps-refl (g.O.Sink.contents c.args.output.now); working = refl; said = hears })

@@ -23,8 +23,8 @@ returns-in-Ok-get_files-clause-runs g c known failed errors hears =
       saved_read (IsTaken g.R.File.Write.contents) (says errors) files _ _ c.deref.ensures.value c.save_files.ensures hears,
     )
 
-pub returns-clause-runs : goal.returns-clause-runs
-returns-clause-runs g c known failed errors hears =
+pub returns-in-Err-get_files-clause-runs : goal.returns-in-Err-get_files-clause-runs
+returns-in-Err-get_files-clause-runs g c known failed errors hears =
     let fault = c.in-Err-get_files.fault in
     inr (
       c.in-Ok.read.0.items,
@@ -47,7 +47,7 @@ returns-in-Ok-get_files-clause-ends g c known failed errors hears =
     ends_got (still known failed errors) taken (Ok files) c.save_files.result
     (saved_read taken (says errors) files _ _ c.deref.ensures.value c.save_files.ensures hears) (Keeps-refl known) refl
 
-pub returns-clause-ends : goal.returns-clause-ends
-returns-clause-ends g c known failed errors hears =
+pub returns-in-Err-get_files-clause-ends : goal.returns-in-Err-get_files-clause-ends
+returns-in-Err-get_files-clause-ends g c known failed errors hears =
     ends_got (still known failed errors) (IsTaken g.R.File.Write.contents) (Err c.in-Err-get_files.fault) c.from.result.status
     (c.from.ensures.0, subst (λ (fault : Option Fault). Hears errors fault) c.from.ensures.1 hears) (Keeps-refl known) refl

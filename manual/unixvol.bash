@@ -51,22 +51,22 @@ _unixvol() {
         dcheck) kinds='edition file any' options='--at --json --explain -h --help' valued='--at=any' others='' ;;
         ncheck) kinds='edition file any' options='--at --json --explain -h --help' valued='--at=any' others='' ;;
         mkfs) kinds='new_edition file any any any any any' options='--new --at --explain -h --help' valued='--at=any' others='' ;;
-        put) kinds='edition file path file any any...' options='--at -t --target-directory -p --preserve -x --executable --explain -h --help' valued='--at=any -t=path --target-directory=path' others='edition file file...' ;;
+        put) kinds='edition file path file any any...' options='--at -t --target-directory -p --preserve -x --executable --trace --explain -h --help' valued='--at=any -t=path --target-directory=path' others='edition file file...' ;;
         import) kinds='edition file path any' options='--at --skip-special -o --owner --explain -h --help' valued='--at=any -o=any --owner=any' others='' ;;
-        rm) kinds='edition file path any' options='--at -r --recursive --explain -h --help' valued='--at=any' others='' ;;
-        rmdir) kinds='edition file path any' options='--at --explain -h --help' valued='--at=any' others='' ;;
-        mkdir) kinds='edition file path any' options='--at -p --parents --explain -h --help' valued='--at=any' others='' ;;
-        ln) kinds='edition file path path any' options='--at --explain -h --help' valued='--at=any' others='' ;;
-        mv) kinds='edition file path path any' options='--at --explain -h --help' valued='--at=any' others='' ;;
-        chmod) kinds='edition file path any any' options='--at --explain -h --help' valued='--at=any' others='' ;;
-        chown) kinds='edition file path any any any' options='--at --explain -h --help' valued='--at=any' others='' ;;
-        touch) kinds='edition file path any' options='--at --explain -h --help' valued='--at=any' others='' ;;
+        rm) kinds='edition file path any' options='--at -r --recursive --trace --explain -h --help' valued='--at=any' others='' ;;
+        rmdir) kinds='edition file path any' options='--at --trace --explain -h --help' valued='--at=any' others='' ;;
+        mkdir) kinds='edition file path any' options='--at -p --parents --trace --explain -h --help' valued='--at=any' others='' ;;
+        ln) kinds='edition file path path any' options='--at --trace --explain -h --help' valued='--at=any' others='' ;;
+        mv) kinds='edition file path path any' options='--at --trace --explain -h --help' valued='--at=any' others='' ;;
+        chmod) kinds='edition file path any any' options='--at --trace --explain -h --help' valued='--at=any' others='' ;;
+        chown) kinds='edition file path any any any' options='--at --trace --explain -h --help' valued='--at=any' others='' ;;
+        touch) kinds='edition file path any' options='--at --trace --explain -h --help' valued='--at=any' others='' ;;
         salvage) kinds='edition file' options='--at -o --output -n --dry-run --explain -h --help' valued='--at=any -o=file --output=file' others='' ;;
         resize) kinds='edition file any' options='--at -n --dry-run --explain -h --help' valued='--at=any' others='' ;;
         play) kinds='edition file file...' options='--at --journal --trace --explain -h --help' valued='--at=any' others='' ;;
         migrate) kinds='file file any any any' options='--new --at --explain -h --help' valued='--at=any' others='' ;;
         serve) kinds='edition file' options='--at --read-only --mine -r --rescue --explain -h --help' valued='--at=any -r=file --rescue=file' others='' ;;
-        identify) kinds='file...' options='--json --csv --explain -h --help' ;;
+        identify) kinds='file...' options='--json --csv -r --recursive --explain -h --help' ;;
     esac
     if [[ $current == -* ]]; then
         mapfile -t COMPREPLY < <(compgen -W "$options" -- "$current")

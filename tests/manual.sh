@@ -65,7 +65,7 @@ completes 'disk.img' put 7 disk.img -t /etc one two disk
 completes 'away' get 7 disk.img -o aw
 completes '/etc/motd' get -o away 7 disk.img /etc/m
 completes 'etc/motd' get 7 disk.img -o away /etc/passwd etc/m
-completes '--target-directory' put 7 disk.img --t
+completes '--target-directory --trace' put 7 disk.img --t
 completes 'disk.img' put --target-directory = /etc 7 disk.img dis
 completes '/etc' put 7 disk.img --target-directory = /et
 completes '/etc/motd' get 7 '"disk.img"' /etc/m

@@ -353,8 +353,7 @@ volume='looks like a volume of edition 7, with 20 blocks, sound'
 prints lines identify -r tree
 (ulimit -v 300000 && exec "$program" identify --recursive tree) > output 2> error
 has 'the files below a folder, in little memory' "0$(cat lines)" "$?$(cat output error)"
-sed 's@^tree@tree/@' lines > slashed
-prints slashed identify -r tree/
+prints lines identify -r tree/
 has 'the number of files below a folder' 40 "$(wc -l < lines)"
 
 # Words that are files have their lines, in their places; without the option a folder isn't read.

@@ -161,41 +161,6 @@ to_names_given given depth none is =
 asks_listing : (clock : Option ℕ) (given : Words) (edition : Edition) (image path : List ℕ) (invocation : Invocation) → bytes_eq (codes "ls") (verb_name (verb_of invocation)) ≡ true
     → the_word given (codes "EDITION") ≡ word_of edition → the_word given (codes "IMAGE") ≡ image → the_word given (codes "PATH") ≡ path → HasNoOptions given
     → IsGiven clock given invocation → IsListing edition image path invocation
-asks_listing clock given edition image path (invocations.Cat volume node) test e_is i_is p_is none is = absurd (true≢false (sym test))
-asks_listing clock given edition image path (invocations.Mkfs place volume) test e_is i_is p_is none is = absurd (true≢false (sym test))
-asks_listing clock given edition image path (invocations.Migrate old at new migration) test e_is i_is p_is none is = absurd (true≢false (sym test))
-asks_listing clock given edition image path (invocations.Salvage volume copy) test e_is i_is p_is none is = absurd (true≢false (sym test))
-asks_listing clock given edition image path (invocations.Get volume p) test e_is i_is p_is none is = absurd (true≢false (sym test))
-asks_listing clock given edition image path (invocations.Resize volume blocks is_trial) test e_is i_is p_is none is = absurd (true≢false (sym test))
-asks_listing clock given edition image path (invocations.Serve volume serving) test e_is i_is p_is none is = absurd (true≢false (sym test))
-asks_listing clock given edition image path (invocations.ExportBad volume file p options) test e_is i_is p_is none is = absurd (true≢false (sym test))
-asks_listing clock given edition image path (invocations.Diff volume other by) test e_is i_is p_is none is = absurd (true≢false (sym test))
-asks_listing clock given edition image path (invocations.Identify images form is_deep) test e_is i_is p_is none is = absurd (true≢false (sym test))
-asks_listing clock given edition image path (invocations.Change volume (changes.Put p file keep now) trace) test e_is i_is p_is none is = absurd (true≢false (sym test))
-asks_listing clock given edition image path (invocations.Change volume (changes.Import p options now) trace) test e_is i_is p_is none is = absurd (true≢false (sym test))
-asks_listing clock given edition image path (invocations.Change volume (changes.Rm p now) trace) test e_is i_is p_is none is = absurd (true≢false (sym test))
-asks_listing clock given edition image path (invocations.Change volume (changes.RmAll p now) trace) test e_is i_is p_is none is = absurd (true≢false (sym test))
-asks_listing clock given edition image path (invocations.Change volume (changes.Rmdir p now) trace) test e_is i_is p_is none is = absurd (true≢false (sym test))
-asks_listing clock given edition image path (invocations.Change volume (changes.Mkdir p now) trace) test e_is i_is p_is none is = absurd (true≢false (sym test))
-asks_listing clock given edition image path (invocations.Change volume (changes.MkdirAll p now) trace) test e_is i_is p_is none is = absurd (true≢false (sym test))
-asks_listing clock given edition image path (invocations.Change volume (changes.Ln from to now) trace) test e_is i_is p_is none is = absurd (true≢false (sym test))
-asks_listing clock given edition image path (invocations.Change volume (changes.Mv from to now) trace) test e_is i_is p_is none is = absurd (true≢false (sym test))
-asks_listing clock given edition image path (invocations.Change volume (changes.Chmod p perm now) trace) test e_is i_is p_is none is = absurd (true≢false (sym test))
-asks_listing clock given edition image path (invocations.Change volume (changes.Chown p uid gid now) trace) test e_is i_is p_is none is = absurd (true≢false (sym test))
-asks_listing clock given edition image path (invocations.Change volume (changes.Touch p now) trace) test e_is i_is p_is none is = absurd (true≢false (sym test))
-asks_listing clock given edition image path (invocations.Change volume changes.Salvage trace) test e_is i_is p_is none is = absurd (true≢false (sym test))
-asks_listing clock given edition image path (invocations.Look volume (looks.Export p options)) test e_is i_is p_is none is = absurd (true≢false (sym test))
-asks_listing clock given edition image path (invocations.Look volume (looks.Sums p form lost)) test e_is i_is p_is none is = absurd (true≢false (sym test))
-asks_listing clock given edition image path (invocations.Look volume (looks.Inode number form)) test e_is i_is p_is none is = absurd (true≢false (sym test))
-asks_listing clock given edition image path (invocations.Look volume (looks.Super form)) test e_is i_is p_is none is = absurd (true≢false (sym test))
-asks_listing clock given edition image path (invocations.Look volume (looks.Free form)) test e_is i_is p_is none is = absurd (true≢false (sym test))
-asks_listing clock given edition image path (invocations.Look volume (looks.Block block form)) test e_is i_is p_is none is = absurd (true≢false (sym test))
-asks_listing clock given edition image path (invocations.Look volume (looks.Dump target radix)) test e_is i_is p_is none is = absurd (true≢false (sym test))
-asks_listing clock given edition image path (invocations.Look volume (looks.Df form)) test e_is i_is p_is none is = absurd (true≢false (sym test))
-asks_listing clock given edition image path (invocations.Look volume (looks.Find p name lost form)) test e_is i_is p_is none is = absurd (true≢false (sym test))
-asks_listing clock given edition image path (invocations.Look volume (looks.Map picture)) test e_is i_is p_is none is = absurd (true≢false (sym test))
-asks_listing clock given edition image path (invocations.Look volume looks.Uses) test e_is i_is p_is none is = absurd (true≢false (sym test))
-asks_listing clock given edition image path (invocations.Look volume (looks.Check graded form)) test e_is i_is p_is none is = absurd (true≢false (sym test))
 asks_listing clock given edition image path (invocations.Look volume (looks.Slots p form)) test e_is i_is p_is none is =
     absurd (true≢false (sym is.1.1 ∙ unset (given (codes "slots")) none.slots))
 asks_listing clock given edition image path (invocations.Look volume (looks.List directory listing)) test e_is i_is p_is none is = (
@@ -207,12 +172,10 @@ asks_listing clock given edition image path (invocations.Look volume (looks.List
   subst (λ (words : List (List ℕ)). IsNumberOr 4294967295 0 words volume.at) none.at is.0.2,
   (given_is volume.edition volume.is_any edition (subst (IsEditionGiven volume.edition volume.is_any) e_is is.0.0)).1,
 )
+asks_listing clock given edition image path (invocations.Change volume (changes.Put p file keep now) trace) test e_is i_is p_is none is = absurd (true≢false (sym test))
 asks_listing clock given edition image path (invocations.Copy volume (copies.Put directory files keep now trace)) test e_is i_is p_is none is = absurd (true≢false (sym test))
-asks_listing clock given edition image path (invocations.Copy volume (copies.Get folder paths keeps)) test e_is i_is p_is none is = absurd (true≢false (sym test))
 asks_listing clock given edition image path (invocations.Work volume (works.Check checkers.Blocks workers form)) test e_is i_is p_is none is = absurd (true≢false (sym test))
-asks_listing clock given edition image path (invocations.Work volume (works.Check checkers.Entries workers form)) test e_is i_is p_is none is = absurd (true≢false (sym test))
-asks_listing clock given edition image path (invocations.Work volume (works.Check checkers.Names workers form)) test e_is i_is p_is none is = absurd (true≢false (sym test))
-asks_listing clock given edition image path (invocations.Work volume (works.Play scripts journal trace)) test e_is i_is p_is none is = absurd (true≢false (sym test))
+asks_listing clock given edition image path invocation test e_is i_is p_is none is = absurd (true≢false (sym test))
 
 -- if clap found the words of `ls` without options, no option was given
 no_options_by : (met : List ℕ × List Row) (edition : Edition) (image path : List ℕ) → seen (Some met) ≡ words_of edition image path
@@ -252,29 +215,6 @@ given_by one false edition text is none word =
 listing_asks : (clock : Option ℕ) (met : Option (List ℕ × List Row)) (edition : Edition) (image path : List ℕ) (invocation : Invocation)
     → seen met ≡ words_of edition image path → IsListing edition image path invocation → MetAsks clock met invocation
 listing_asks clock None edition image path invocation is listed = absurd (cc)
-listing_asks clock (Some met) edition image path (invocations.Cat volume node) is listed = absurd listed
-listing_asks clock (Some met) edition image path (invocations.Mkfs place volume) is listed = absurd listed
-listing_asks clock (Some met) edition image path (invocations.Migrate old at new migration) is listed = absurd listed
-listing_asks clock (Some met) edition image path (invocations.Salvage volume copy) is listed = absurd listed
-listing_asks clock (Some met) edition image path (invocations.Get volume p) is listed = absurd listed
-listing_asks clock (Some met) edition image path (invocations.Resize volume blocks is_trial) is listed = absurd listed
-listing_asks clock (Some met) edition image path (invocations.Serve volume serving) is listed = absurd listed
-listing_asks clock (Some met) edition image path (invocations.ExportBad volume file p options) is listed = absurd listed
-listing_asks clock (Some met) edition image path (invocations.Diff volume other by) is listed = absurd listed
-listing_asks clock (Some met) edition image path (invocations.Identify images form is_deep) is listed = absurd listed
-listing_asks clock (Some met) edition image path (invocations.Look v (looks.Export p options)) is listed = absurd listed
-listing_asks clock (Some met) edition image path (invocations.Look v (looks.Sums p form lost)) is listed = absurd listed
-listing_asks clock (Some met) edition image path (invocations.Look v (looks.Inode number form)) is listed = absurd listed
-listing_asks clock (Some met) edition image path (invocations.Look v (looks.Super form)) is listed = absurd listed
-listing_asks clock (Some met) edition image path (invocations.Look v (looks.Free form)) is listed = absurd listed
-listing_asks clock (Some met) edition image path (invocations.Look v (looks.Block block form)) is listed = absurd listed
-listing_asks clock (Some met) edition image path (invocations.Look v (looks.Dump target radix)) is listed = absurd listed
-listing_asks clock (Some met) edition image path (invocations.Look v (looks.Df form)) is listed = absurd listed
-listing_asks clock (Some met) edition image path (invocations.Look v (looks.Find p name lost form)) is listed = absurd listed
-listing_asks clock (Some met) edition image path (invocations.Look v (looks.Map picture)) is listed = absurd listed
-listing_asks clock (Some met) edition image path (invocations.Look v looks.Uses) is listed = absurd listed
-listing_asks clock (Some met) edition image path (invocations.Look v (looks.Check graded form)) is listed = absurd listed
-listing_asks clock (Some met) edition image path (invocations.Look v (looks.Slots p form)) is listed = absurd listed
 listing_asks clock (Some met) edition image path (invocations.Look volume (looks.List directory listing)) is listed =
     let name : met.0 ≡ codes "ls" = ap (λ (l : List (List ℕ)). slice_index_or l 0 []) is in
     let word : the_word (words_by met.1) (codes "EDITION") ≡ word_of edition = ap (λ (l : List (List ℕ)). slice_index_or l 1 []) is in
@@ -296,9 +236,7 @@ listing_asks clock (Some met) edition image path (invocations.Look volume (looks
         ),
       ),
     )
-listing_asks clock (Some met) edition image path (invocations.Change v change trace) is listed = absurd listed
-listing_asks clock (Some met) edition image path (invocations.Copy v copying) is listed = absurd listed
-listing_asks clock (Some met) edition image path (invocations.Work v work) is listed = absurd listed
+listing_asks clock (Some met) edition image path invocation is listed = absurd listed
 
 -- these words of `ls` are read as that listing, and as no other invocation
 abbrev AsksListing : Option ℕ → Bor (List (Bor (List ℕ))) → Edition → List ℕ → List ℕ → List ℕ → List ℕ → Type 0

@@ -34,7 +34,7 @@ impl<'a> Builder<'a> {
         ensures { IfOk result (λ command. app command ≡ unixvol_app self.entry.editions) }
     {
         let mut whole = program(self.alloc)?;
-        for verb in &VERBS {
+        for verb in VERBS {
             whole = whole.subcommand(self.command(*verb)?)?;
         }
         Ok(whole)

@@ -4,7 +4,6 @@ use Rattle.std.specs.Borrow.{Bor}
 use Rattle.std.specs.Global.{Vec}
 use Rattle.command_words.specs.Decimal.{IsNumberUpTo}
 use Rattle.command_words.specs.Invocations.{AreTwoFormsGiven, AsksForNothing, IsGiven, IsGuessFormGiven, IsLeftOut, IsNewPlaceGiven, IsNewPlaceWrong, Words, is_set, verb_of}
-use Rattle.command_words.specs.Verbs.{arguments_of}
 use Rattle.command_words.proofs.Moments.{first_number}
 use Rattle.command_words.proofs.Values.{no_value}
 use Rattle.command_words.specs.declared.invocation.Copying.TheVariants as copies
@@ -41,49 +40,13 @@ IsChosen invocation =
 
 chosen : (invocation : Invocation) → IsChosen invocation
 unfolding is_mkfs is_identify
-chosen (invocations.Look volume (looks.List path listing)) = inr (inr (refl, refl))
-chosen (invocations.Look volume (looks.Slots path form)) = inr (inr (refl, refl))
-chosen (invocations.Get volume path) = inr (inr (refl, refl))
-chosen (invocations.Change volume (changes.Put p file keep now) trace) = inr (inr (refl, refl))
-chosen (invocations.Change volume (changes.Import p options now) trace) = inr (inr (refl, refl))
-chosen (invocations.Change volume (changes.Rm p now) trace) = inr (inr (refl, refl))
-chosen (invocations.Change volume (changes.RmAll p now) trace) = inr (inr (refl, refl))
-chosen (invocations.Change volume (changes.Rmdir p now) trace) = inr (inr (refl, refl))
-chosen (invocations.Change volume (changes.Mkdir p now) trace) = inr (inr (refl, refl))
-chosen (invocations.Change volume (changes.MkdirAll p now) trace) = inr (inr (refl, refl))
-chosen (invocations.Change volume (changes.Ln from to now) trace) = inr (inr (refl, refl))
-chosen (invocations.Change volume (changes.Mv from to now) trace) = inr (inr (refl, refl))
-chosen (invocations.Change volume (changes.Chmod p perm now) trace) = inr (inr (refl, refl))
-chosen (invocations.Change volume (changes.Chown p uid gid now) trace) = inr (inr (refl, refl))
-chosen (invocations.Change volume (changes.Touch p now) trace) = inr (inr (refl, refl))
-chosen (invocations.Change volume changes.Salvage trace) = inr (inr (refl, refl))
-chosen (invocations.Copy volume (copies.Put directory files keep now trace)) = inr (inr (refl, refl))
-chosen (invocations.Copy volume (copies.Get folder paths keeps)) = inr (inr (refl, refl))
-chosen (invocations.Work volume (works.Check checkers.Blocks workers form)) = inr (inr (refl, refl))
-chosen (invocations.Work volume (works.Check checkers.Entries workers form)) = inr (inr (refl, refl))
-chosen (invocations.Work volume (works.Check checkers.Names workers form)) = inr (inr (refl, refl))
-chosen (invocations.Work volume (works.Play scripts journal trace)) = inr (inr (refl, refl))
-chosen (invocations.Look volume (looks.Export path options)) = inr (inr (refl, refl))
-chosen (invocations.Look volume (looks.Sums path form lost)) = inr (inr (refl, refl))
-chosen (invocations.Look volume (looks.Inode node form)) = inr (inr (refl, refl))
-chosen (invocations.Look volume (looks.Super form)) = inr (inr (refl, refl))
-chosen (invocations.Look volume (looks.Free form)) = inr (inr (refl, refl))
-chosen (invocations.Look volume (looks.Block block form)) = inr (inr (refl, refl))
-chosen (invocations.Look volume (looks.Dump target radix)) = inr (inr (refl, refl))
-chosen (invocations.Look volume (looks.Df form)) = inr (inr (refl, refl))
-chosen (invocations.Look volume (looks.Find path name lost form)) = inr (inr (refl, refl))
-chosen (invocations.Look volume (looks.Map picture)) = inr (inr (refl, refl))
-chosen (invocations.Look volume looks.Uses) = inr (inr (refl, refl))
-chosen (invocations.Look volume (looks.Check graded form)) = inr (inr (refl, refl))
-chosen (invocations.Cat volume node) = inr (inr (refl, refl))
 chosen (invocations.Mkfs place volume) = inl (place, volume, refl)
-chosen (invocations.Migrate old at new migration) = inr (inr (refl, refl))
-chosen (invocations.Salvage volume copy) = inr (inr (refl, refl))
-chosen (invocations.Resize volume blocks is_trial) = inr (inr (refl, refl))
-chosen (invocations.Serve volume serving) = inr (inr (refl, refl))
-chosen (invocations.ExportBad volume map p options) = inr (inr (refl, refl))
-chosen (invocations.Diff volume other by) = inr (inr (refl, refl))
 chosen (invocations.Identify images form is_deep) = inr (inl (images, form, is_deep, refl))
+chosen (invocations.Look volume (looks.List path listing)) = inr (inr (refl, refl))
+chosen (invocations.Change volume (changes.Put p file keep now) trace) = inr (inr (refl, refl))
+chosen (invocations.Copy volume (copies.Put directory files keep now trace)) = inr (inr (refl, refl))
+chosen (invocations.Work volume (works.Check checkers.Blocks workers form)) = inr (inr (refl, refl))
+chosen invocation = inr (inr (refl, refl))
 
 -- words for an invocation of `mkfs` in a file that must not exist have no block of a file
 makes : (given : Words) (place : NewPlace) → IsNewPlaceGiven given place → is_set (given (codes "new")) ≡ true → IsLeftOut given (codes "at")

@@ -90,90 +90,75 @@ on_volume more = edition ∷ word (codes "IMAGE") ∷ at ∷ more
 abbrev pub of_checker : List Argument
 of_checker = on_volume ((codes "WORKERS", kinds.Threads, needs.Once) ∷ option (codes "json") ∷ [])
 
+-- the row of a command: its name, and its words in order (this project)
+abbrev pub row_of : Verb → List ℕ × List Argument
+row_of verbs.Cat = (codes "cat", on_volume (node ∷ []))
+row_of verbs.Ls = (
+  codes "ls",
+  on_volume (maybe_path ∷ lettered (codes "long") 108 ∷ lettered (codes "recursive") 82
+      ∷ lettered (codes "directory") 100 ∷ option (codes "json") ∷ option (codes "slots") ∷ []),
+)
+row_of verbs.Get = (codes "get", on_volume (word (codes "PATH") ∷ more_words ∷ valued (codes "output") 111 values.Folder ∷ lettered (codes "preserve") 112 ∷ []))
+row_of verbs.Find = (codes "find", on_volume (maybe_path ∷ valued (codes "name") 103 values.Pattern ∷ option (codes "lost") ∷ option (codes "json") ∷ []))
+row_of verbs.Export = (
+  codes "export",
+  on_volume (maybe_path ∷ option (codes "lost") ∷ option (codes "cut") ∷ (codes "bad", kinds.Text, needs.Value None values.Map)
+      ∷ option (codes "damaged") ∷ option (codes "status") ∷ []),
+)
+row_of verbs.Sums = (codes "sums", on_volume (maybe_path ∷ option (codes "lost") ∷ option (codes "json") ∷ []))
+row_of verbs.Inode = (codes "inode", on_volume (node ∷ option (codes "json") ∷ []))
+row_of verbs.Super = (codes "super", on_volume (option (codes "json") ∷ []))
+row_of verbs.Free = (codes "free", on_volume (option (codes "json") ∷ []))
+row_of verbs.Block = (codes "block", on_volume (long_number (codes "BLOCK") ∷ option (codes "json") ∷ []))
+row_of verbs.Dump = (codes "dump", on_volume ((codes "BLOCK", kinds.Place, needs.Once) ∷ lettered (codes "inode") 105 ∷ option (codes "octal") ∷ []))
+row_of verbs.Diff = (codes "diff", on_volume (word (codes "OTHER") ∷ option (codes "times") ∷ option (codes "fields") ∷ option (codes "all") ∷ []))
+row_of verbs.Df = (codes "df", on_volume (option (codes "json") ∷ []))
+row_of verbs.Map = (codes "map", on_volume (option (codes "svg") ∷ option (codes "json") ∷ []))
+row_of verbs.Check = (codes "check", on_volume (option (codes "status") ∷ option (codes "json") ∷ []))
+row_of verbs.Icheck = (codes "icheck", of_checker)
+row_of verbs.Dcheck = (codes "dcheck", of_checker)
+row_of verbs.Ncheck = (codes "ncheck", of_checker)
+row_of verbs.Mkfs = (
+  codes "mkfs",
+  new_edition ∷ word (codes "IMAGE") ∷ ((codes "FSIZE", kinds.Blocks, needs.Once) ∷ maybe_number (codes "IBLOCKS") ∷ maybe_number (codes "UID") ∷ maybe_number (codes "GID") ∷ moment
+      ∷ option (codes "new") ∷ at ∷ []),
+)
+row_of verbs.Put = (
+  codes "put",
+  on_volume (word (codes "PATH") ∷ maybe_word (codes "FILE") ∷ maybe_word (codes "NOW") ∷ more_words
+      ∷ valued (codes "target-directory") 116 values.Directory ∷ lettered (codes "preserve") 112 ∷ lettered (codes "executable") 120 ∷ option (codes "trace") ∷ []),
+)
+row_of verbs.Import = (
+  codes "import",
+  on_volume (path needs.Maybe ∷ moment ∷ option (codes "skip-special")
+      ∷ (codes "owner", kinds.Owner, needs.Value (Some 111) values.Owner) ∷ []),
+)
+row_of verbs.Rm = (codes "rm", on_volume (word (codes "PATH") ∷ moment ∷ lettered (codes "recursive") 114 ∷ option (codes "trace") ∷ []))
+row_of verbs.Rmdir = (codes "rmdir", on_volume (word (codes "PATH") ∷ moment ∷ option (codes "trace") ∷ []))
+row_of verbs.Mkdir = (codes "mkdir", on_volume (word (codes "PATH") ∷ moment ∷ lettered (codes "parents") 112 ∷ option (codes "trace") ∷ []))
+row_of verbs.Ln = (codes "ln", on_volume (word (codes "FROM") ∷ word (codes "TO") ∷ moment ∷ option (codes "trace") ∷ []))
+row_of verbs.Mv = (codes "mv", on_volume (word (codes "FROM") ∷ word (codes "TO") ∷ moment ∷ option (codes "trace") ∷ []))
+row_of verbs.Chmod = (codes "chmod", on_volume (path needs.Once ∷ (codes "PERM", kinds.Permissions, needs.Once) ∷ moment ∷ option (codes "trace") ∷ []))
+row_of verbs.Chown = (codes "chown", on_volume (path needs.Once ∷ number (codes "UID") ∷ number (codes "GID") ∷ moment ∷ option (codes "trace") ∷ []))
+row_of verbs.Touch = (codes "touch", on_volume (path needs.Once ∷ moment ∷ option (codes "trace") ∷ []))
+row_of verbs.Salvage = (codes "salvage", on_volume (valued (codes "output") 111 values.Copy ∷ lettered (codes "dry-run") 110 ∷ []))
+row_of verbs.Resize = (codes "resize", on_volume (long_number (codes "BLOCKS") ∷ lettered (codes "dry-run") 110 ∷ []))
+row_of verbs.Play = (codes "play", on_volume ((codes "SCRIPT", kinds.Scripts, needs.Several) ∷ option (codes "journal") ∷ option (codes "trace") ∷ []))
+row_of verbs.Migrate = (codes "migrate", word (codes "OLD") ∷ word (codes "NEW") ∷ long_number (codes "FSIZE") ∷ number (codes "IBLOCKS") ∷ moment ∷ option (codes "new") ∷ at ∷ [])
+row_of verbs.Serve = (
+  codes "serve",
+  on_volume (option (codes "read-only") ∷ option (codes "mine")
+      ∷ (codes "rescue", kinds.Path, needs.Value (Some 114) values.Rescue) ∷ []),
+)
+row_of verbs.Identify = (codes "identify", (codes "IMAGE", kinds.Text, needs.Several) ∷ option (codes "json") ∷ option (codes "csv") ∷ lettered (codes "recursive") 114 ∷ [])
+
 -- the name of a command (this project)
 abbrev pub verb_name : Verb → List ℕ
-verb_name verbs.Cat = codes "cat"
-verb_name verbs.Ls = codes "ls"
-verb_name verbs.Get = codes "get"
-verb_name verbs.Find = codes "find"
-verb_name verbs.Export = codes "export"
-verb_name verbs.Sums = codes "sums"
-verb_name verbs.Inode = codes "inode"
-verb_name verbs.Super = codes "super"
-verb_name verbs.Free = codes "free"
-verb_name verbs.Block = codes "block"
-verb_name verbs.Dump = codes "dump"
-verb_name verbs.Diff = codes "diff"
-verb_name verbs.Df = codes "df"
-verb_name verbs.Map = codes "map"
-verb_name verbs.Check = codes "check"
-verb_name verbs.Icheck = codes "icheck"
-verb_name verbs.Dcheck = codes "dcheck"
-verb_name verbs.Ncheck = codes "ncheck"
-verb_name verbs.Mkfs = codes "mkfs"
-verb_name verbs.Put = codes "put"
-verb_name verbs.Import = codes "import"
-verb_name verbs.Rm = codes "rm"
-verb_name verbs.Rmdir = codes "rmdir"
-verb_name verbs.Mkdir = codes "mkdir"
-verb_name verbs.Ln = codes "ln"
-verb_name verbs.Mv = codes "mv"
-verb_name verbs.Chmod = codes "chmod"
-verb_name verbs.Chown = codes "chown"
-verb_name verbs.Touch = codes "touch"
-verb_name verbs.Salvage = codes "salvage"
-verb_name verbs.Resize = codes "resize"
-verb_name verbs.Play = codes "play"
-verb_name verbs.Migrate = codes "migrate"
-verb_name verbs.Serve = codes "serve"
-verb_name verbs.Identify = codes "identify"
+verb_name verb = (row_of verb).0
 
 -- the words of a command, in order (this project)
 abbrev pub arguments_of : Verb → List Argument
-arguments_of verbs.Cat = on_volume (node ∷ [])
-arguments_of verbs.Ls = on_volume (maybe_path ∷ lettered (codes "long") 108 ∷ lettered (codes "recursive") 82
-    ∷ lettered (codes "directory") 100 ∷ option (codes "json") ∷ option (codes "slots") ∷ [])
-arguments_of verbs.Get = on_volume (word (codes "PATH") ∷ more_words ∷ valued (codes "output") 111 values.Folder ∷ lettered (codes "preserve") 112 ∷ [])
-arguments_of verbs.Find = on_volume (maybe_path ∷ valued (codes "name") 103 values.Pattern ∷ option (codes "lost") ∷ option (codes "json") ∷ [])
-arguments_of verbs.Export =
-    on_volume (maybe_path ∷ option (codes "lost") ∷ option (codes "cut") ∷ (codes "bad", kinds.Text, needs.Value None values.Map)
-    ∷ option (codes "damaged") ∷ option (codes "status") ∷ [])
-arguments_of verbs.Sums = on_volume (maybe_path ∷ option (codes "lost") ∷ option (codes "json") ∷ [])
-arguments_of verbs.Inode = on_volume (node ∷ option (codes "json") ∷ [])
-arguments_of verbs.Super = on_volume (option (codes "json") ∷ [])
-arguments_of verbs.Free = on_volume (option (codes "json") ∷ [])
-arguments_of verbs.Block = on_volume (long_number (codes "BLOCK") ∷ option (codes "json") ∷ [])
-arguments_of verbs.Dump = on_volume ((codes "BLOCK", kinds.Place, needs.Once) ∷ lettered (codes "inode") 105 ∷ option (codes "octal") ∷ [])
-arguments_of verbs.Diff = on_volume (word (codes "OTHER") ∷ option (codes "times") ∷ option (codes "fields") ∷ option (codes "all") ∷ [])
-arguments_of verbs.Df = on_volume (option (codes "json") ∷ [])
-arguments_of verbs.Map = on_volume (option (codes "svg") ∷ option (codes "json") ∷ [])
-arguments_of verbs.Check = on_volume (option (codes "status") ∷ option (codes "json") ∷ [])
-arguments_of verbs.Icheck = of_checker
-arguments_of verbs.Dcheck = of_checker
-arguments_of verbs.Ncheck = of_checker
-arguments_of verbs.Mkfs =
-    new_edition ∷ word (codes "IMAGE") ∷ ((codes "FSIZE", kinds.Blocks, needs.Once) ∷ maybe_number (codes "IBLOCKS") ∷ maybe_number (codes "UID") ∷ maybe_number (codes "GID") ∷ moment
-    ∷ option (codes "new") ∷ at ∷ [])
-arguments_of verbs.Put = on_volume (word (codes "PATH") ∷ maybe_word (codes "FILE") ∷ maybe_word (codes "NOW") ∷ more_words
-    ∷ valued (codes "target-directory") 116 values.Directory ∷ lettered (codes "preserve") 112 ∷ lettered (codes "executable") 120 ∷ option (codes "trace") ∷ [])
-arguments_of verbs.Import = on_volume (path needs.Maybe ∷ moment ∷ option (codes "skip-special")
-    ∷ (codes "owner", kinds.Owner, needs.Value (Some 111) values.Owner) ∷ [])
-arguments_of verbs.Rm = on_volume (word (codes "PATH") ∷ moment ∷ lettered (codes "recursive") 114 ∷ option (codes "trace") ∷ [])
-arguments_of verbs.Rmdir = on_volume (word (codes "PATH") ∷ moment ∷ option (codes "trace") ∷ [])
-arguments_of verbs.Mkdir = on_volume (word (codes "PATH") ∷ moment ∷ lettered (codes "parents") 112 ∷ option (codes "trace") ∷ [])
-arguments_of verbs.Ln = on_volume (word (codes "FROM") ∷ word (codes "TO") ∷ moment ∷ option (codes "trace") ∷ [])
-arguments_of verbs.Mv = on_volume (word (codes "FROM") ∷ word (codes "TO") ∷ moment ∷ option (codes "trace") ∷ [])
-arguments_of verbs.Chmod = on_volume (path needs.Once ∷ (codes "PERM", kinds.Permissions, needs.Once) ∷ moment ∷ option (codes "trace") ∷ [])
-arguments_of verbs.Chown = on_volume (path needs.Once ∷ number (codes "UID") ∷ number (codes "GID") ∷ moment ∷ option (codes "trace") ∷ [])
-arguments_of verbs.Touch = on_volume (path needs.Once ∷ moment ∷ option (codes "trace") ∷ [])
-arguments_of verbs.Salvage = on_volume (valued (codes "output") 111 values.Copy ∷ lettered (codes "dry-run") 110 ∷ [])
-arguments_of verbs.Resize = on_volume (long_number (codes "BLOCKS") ∷ lettered (codes "dry-run") 110 ∷ [])
-arguments_of verbs.Play = on_volume ((codes "SCRIPT", kinds.Scripts, needs.Several) ∷ option (codes "journal") ∷ option (codes "trace") ∷ [])
-arguments_of verbs.Migrate =
-    word (codes "OLD") ∷ word (codes "NEW") ∷ long_number (codes "FSIZE") ∷ number (codes "IBLOCKS") ∷ moment ∷ option (codes "new") ∷ at ∷ []
-arguments_of verbs.Serve = on_volume (option (codes "read-only") ∷ option (codes "mine")
-    ∷ (codes "rescue", kinds.Path, needs.Value (Some 114) values.Rescue) ∷ [])
-arguments_of verbs.Identify = (codes "IMAGE", kinds.Text, needs.Several) ∷ option (codes "json") ∷ option (codes "csv") ∷ lettered (codes "recursive") 114 ∷ []
+arguments_of verb = (row_of verb).1
 
 -- all commands, in the order in which the help lists them (this project)
 abbrev pub all_verbs : List Verb

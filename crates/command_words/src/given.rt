@@ -122,7 +122,7 @@ pub(crate) fn rescue_in<'a, G: Given<'a>>(given: &G) -> Result<Option<&'a str>, 
     ensures refused { IfErr result (TellsOf (IsPathWord (G.words given.now (codes "rescue")) → ⊥)) }
 {
     match given.first("rescue") {
-        Some("") => Err(wrong("rescue", "", texts::serve::EMPTY_RESCUE)),
+        Some("") => Err(wrong("rescue", "", texts::EMPTY_RESCUE)),
         rescue => Ok(rescue),
     }
 }
@@ -154,7 +154,7 @@ pub(crate) fn target_in<'a, G: Given<'a>>(given: &G) -> Result<DumpTarget<'a>, W
     match long_of(text) {
         Some(number) if flag_in(given, "inode") => Ok(DumpTarget::Inode(number)),
         Some(number) => Ok(DumpTarget::Block(number)),
-        None => Err(wrong("BLOCK", text, texts::dump::NO_PLACE)),
+        None => Err(wrong("BLOCK", text, texts::NO_PLACE)),
     }
 }
 
@@ -263,7 +263,7 @@ fn owner_of_word(text: &str) -> Result<Option<Cred>, WordFault<'_>>
 {
     match owner_of(text) {
         Some(owner) => Ok(Some(owner)),
-        None => Err(wrong("owner", text, texts::import::OWNER_WORD)),
+        None => Err(wrong("owner", text, texts::OWNER_WORD)),
     }
 }
 

@@ -1,13 +1,13 @@
 //! The commands and their words, and the functions that read them.
 #![tactic(auto)]
 
+mod checkers;
+mod commands;
 mod decimal;
 mod disks;
 pub mod fault;
 pub mod given;
-mod identify_words;
 pub mod invocation;
-mod mkfs_words;
 mod moment;
 mod octal;
 mod owners;

@@ -3,7 +3,7 @@ ghost use Rattle.std.specs.Prelude.{◌≡◌, ◌≢◌, ◌≤◌, ◌-◌, �
 ghost use Rattle.command_words.specs.Invocations.{AreFilesGiven, ArePathsGiven, EndsInMoment, IsFirstWord, IsLeftOut, IsMomentAfter, TellsOf, are_apart, are_distinct, get_words, is_set, last_names, put_words};
 
 use crate::fault::{Said, WordFault, WrongWord};
-use crate::given::{Given, flag_in, missing, wrong};
+use crate::given::{Given, missing, wrong};
 use crate::invocation::Moment;
 use crate::moment::moment_of;
 use crate::texts;
@@ -39,18 +39,6 @@ pub(crate) fn no_more<'a, G: Given<'a>>(given: &G, wanted: &'a str) -> Result<()
     match given.first("MORE") {
         Some(word) => Err(wrong("MORE", word, wanted)),
         None => Ok(()),
-    }
-}
-
-/// Succeeds if the words don't request that permissions and times are kept, which only files in a folder can be given.
-pub(crate) fn nothing_kept<'a, G: Given<'a>>(given: &G) -> Result<(), WordFault<'a>>
-    ensures none { IfOk result (λ _. is_set (G.words given.now (codes "preserve")) ≡ false) }
-    ensures refused { IfErr result (TellsOf (is_set (G.words given.now (codes "preserve")) ≡ true)) }
-{
-    if flag_in(given, "preserve") {
-        Err(missing("FOLDER", texts::get::KEEPS_IN_FOLDER))
-    } else {
-        Ok(())
     }
 }
 

@@ -1,5 +1,4 @@
 -- The user and the group are those in the first word, if any; if it has none, the words aren't valid.
-use Rattle.std.proofs.Common.{codes}
 use Rattle.command_words.proofs.OwnerWords.{no_owner, owner_read, owner_refused}
 use Rattle.command_words.proofs.given.owner_in.Goals as goal
 

@@ -1,0 +1,37 @@
+use Rattle.std.proofs.Common.{drop, sym}
+use Rattle.command_words.proofs.Copies.{empty_target, no_file, no_files, no_moment, too_many_put}
+use Rattle.command_words.proofs.Faults.{hands_on}
+use Rattle.command_words.proofs.Values.{no_value, volume_wrong}
+use Rattle.command_words.specs.Verbs.{arguments_of}
+use Rattle.command_words.specs.declared.verbs.Verb.TheVariants as verbs
+use Rattle.command_words.proofs.commands.put.read.Goals as goal
+
+pub returns-in_err-volume-clause-refused : goal.returns-in_err-volume-clause-refused
+returns-in_err-volume-clause-refused g c =
+    hands_on _ _ _ _ c.from_residual.ensures.1 c.in_err-volume.ensures.refused
+    (λ wrong. no_value c.args.clock verbs.Put (g.G.Given.words c.args.given.now) (volume_wrong c.args.clock (g.G.Given.words c.args.given.now) (drop 3 (arguments_of verbs.Put)) wrong))
+
+pub returns-in_err-files-in-Some-clause-refused : goal.returns-in_err-files-in-Some-clause-refused
+returns-in_err-files-in-Some-clause-refused g c =
+    hands_on _ _ _ _ c.from_residual-in_err-files-in-Some.ensures.1 c.in_err-files-in-Some.ensures.refused
+    (no_files c.args.clock (g.G.Given.words c.args.given.now) c.in-Some.directory.now (sym c.in-Some.ensures))
+
+pub returns-in_err-file-in-None-clause-refused : goal.returns-in_err-file-in-None-clause-refused
+returns-in_err-file-in-None-clause-refused g c =
+    hands_on _ _ _ _ c.from_residual-in_err-file-in-None.ensures.1 c.in_err-file-in-None.ensures.refused
+    (no_file c.args.clock (g.G.Given.words c.args.given.now) (sym c.in-None.ensures))
+
+pub returns-in_err-no_more-in-None-clause-refused : goal.returns-in_err-no_more-in-None-clause-refused
+returns-in_err-no_more-in-None-clause-refused g c =
+    hands_on _ _ _ _ c.from_residual-in_err-no_more-in-None.ensures.1 c.in_err-no_more-in-None.ensures.refused
+    (too_many_put c.args.clock (g.G.Given.words c.args.given.now) (sym c.in-None.ensures))
+
+pub returns-in_err-now-in-None-clause-refused : goal.returns-in_err-now-in-None-clause-refused
+returns-in_err-now-in-None-clause-refused g c =
+    hands_on _ _ _ _ c.from_residual-in_err-now-in-None.ensures.1 c.in_err-now-in-None.ensures.refused
+    (no_moment c.args.clock (g.G.Given.words c.args.given.now) (sym c.in-None.ensures))
+
+pub returns-in_err-not_empty-in-Some-clause-refused : goal.returns-in_err-not_empty-in-Some-clause-refused
+returns-in_err-not_empty-in-Some-clause-refused g c =
+    hands_on _ _ _ _ c.from_residual-in_err-not_empty-in-Some.ensures.1 c.in_err-not_empty-in-Some.ensures.refused
+    (empty_target c.args.clock (g.G.Given.words c.args.given.now) c.in-Some.directory.now (sym c.in-Some.ensures))

@@ -1,0 +1,37 @@
+//! The commands, each in a module of its own: its name, its texts, the words that it takes, and what reads them.
+
+pub(crate) mod block;
+pub(crate) mod cat;
+pub(crate) mod check;
+pub(crate) mod chmod;
+pub(crate) mod chown;
+pub(crate) mod dcheck;
+pub(crate) mod df;
+pub(crate) mod diff;
+pub(crate) mod dump;
+pub(crate) mod export;
+pub(crate) mod find;
+pub(crate) mod free;
+pub(crate) mod get;
+pub(crate) mod icheck;
+pub(crate) mod identify;
+pub(crate) mod import;
+pub(crate) mod inode;
+pub(crate) mod ln;
+pub(crate) mod ls;
+pub(crate) mod map;
+pub(crate) mod migrate;
+pub(crate) mod mkdir;
+pub(crate) mod mkfs;
+pub(crate) mod mv;
+pub(crate) mod ncheck;
+pub(crate) mod play;
+pub(crate) mod put;
+pub(crate) mod resize;
+pub(crate) mod rm;
+pub(crate) mod rmdir;
+pub(crate) mod salvage;
+pub(crate) mod serve;
+pub(crate) mod sums;
+pub(crate) mod super_block;
+pub(crate) mod touch;

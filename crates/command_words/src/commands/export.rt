@@ -1,0 +1,150 @@
+//! The command `export`.
+ghost use Rattle.std.specs.Prelude.{IfErr, IfOk};
+ghost use Rattle.command_words.specs.Invocations.{AsksFor, IsOneWrong, TellsOf};
+ghost use Rattle.command_words.specs.Verbs.{arguments_of};
+ghost use Rattle.command_words.specs.declared.verbs.Verb.TheVariants as verbs;
+
+use crate::fault::WordFault;
+use crate::given::{Given, flag_in, text_in};
+use crate::invocation::Invocation;
+use crate::parameters::{AT, BELOW, EDITION, IMAGE, LOST, Need, Parameter, ValueName, WordKind};
+use crate::read_words::volume_in;
+use command_reads::{ExportOptions, Look, LossOptions};
+use std::alloc::Global;
+
+pub(crate) const NAME: &str = "export";
+
+pub(crate) const ABOUT: &str =
+    "Writes everything below a directory as a tar archive, even from an unsound image.";
+
+pub(crate) const MORE: &str = "\
+Examples:
+  unixvol export 7 disk.img /usr > usr.tar
+  unixvol export --lost --status 7 damaged.img > all.tar
+  unixvol export --cut 7 cut-off.img > whole-files.tar
+  unixvol export --bad rescue.map 7 rescued.img > whole-files.tar
+
+A POSIX ustar archive is written to standard output: files, directories and special files, with their permissions,
+owners and times of modification. The second and further names of a file are links to the first. Members are
+sorted by name, with paths that start at PATH, and no path occurs twice. A header of pax comes before a member whose
+path or link is too long for its own header, and before no other. Paths above 4096 bytes are left out.
+
+The volume need not be sound. Only rules 1 and 2 are checked: the image's size, and the sizes in its super-block.
+Everything that entries lead to, from PATH on, is exported. Anything left out, and anything wrong with the volume,
+has a line on standard error, and the status is then 1. There is a line for
+  - an entry that is left out, with the reason
+  - an i-node that no entry of the volume names, if rules 1 to 7 hold, or with --lost or --status
+  - with --lost, an i-node that is out of reach and is exported under its number
+  - a block that two files use
+  - the first rule that the volume breaks
+If a directory has a name more than once, the first entry counts, and the others have no line.
+
+With --lost, i-nodes that no entry names are exported too, with everything below them, each under its number:
+lost+found/#96 is i-node 96, and the line of i-node 96 says so. Each keeps its owner and its time. If an i-node is
+still out of reach, as in a ring of directories that name only one another, the least such i-node is exported in the
+same way, and so on. So if PATH is the root, every i-node of a known kind is exported. If the root is no directory,
+these are all that is exported: names are known only below them. A root that is a file has its number too.
+
+With --cut, the image may be shorter than its volume, as after a transfer that broke off; its first 1024 bytes must be
+there. A block that isn't wholly there is lost. What is exported is right, whatever the lost blocks held: a file of
+which something is lost is left out, or with --damaged written with zeros in place of the lost bytes. If blocks are
+lost, the lines on standard error say what is lost, and no more:
+  unixvol: 3994 of 4872 blocks are lost
+  unixvol: i-nodes 17 to 24 are lost
+  unixvol: usr: names may be missing: 512 of 1024 bytes are lost: 512-1023
+  unixvol: bin/ls: i-node 17 is lost
+  unixvol: f4: 10400 of 100000 bytes are lost: 89600-99999
+A path through a directory with lost bytes may not be found, and with --lost files whose names are lost are below
+lost+found. A file that is left out may be whole in another copy of the image; nothing says that it isn't.
+
+With --bad, the image was copied from a medium of which some blocks couldn't be read, and MAPFILE is the map that GNU
+ddrescue kept of it. It is of all of IMAGE, also with --at. Each block of 512 bytes that the map doesn't call
+finished (+) as a whole is lost, whatever the image has in its place; so is each that the map doesn't cover, or that
+isn't wholly there, as with --cut. All else is as with --cut. If the super-block is lost, its sizes aren't known:
+rule 2 is broken.
+
+Status:
+  0  everything was exported, and the volume is sound
+  1  everything that entries lead to was exported, except what standard error says; or nothing was exported:
+     `unixvol: unsound, rule 1`: the image is shorter than its super-block says
+     `unixvol: unsound, rule 2`: the sizes in the super-block contradict one another
+     `unixvol: 2 NoEntry`: there is no such file or directory
+     `unixvol: 20 NotDirectory`: PATH isn't a directory, or leads through something that isn't one. Of a root that
+     isn't one, --lost exports what is left
+     with --cut or --bad: blocks are lost, but nothing is damaged or left out
+  2  the command line is wrong
+  3  `unixvol: cannot read IMAGE`, or `unixvol: cannot write -`: standard output failed, or is a terminal
+     `unixvol: rescue.map: line 7: the size is no number`: MAPFILE can't be read, and nothing was exported
+  4  `unixvol: 12 NoMemory`
+  5  with --status: something was left out, as standard error says; 1 then means that the volume isn't sound, but
+     nothing was left out, or that PATH leads to no directory, and nothing was exported
+     with --cut or --bad: something is damaged or left out, as standard error says
+  6  with --status: rule 1 or 2 doesn't hold, so the image has no volume of this edition, and nothing was exported
+     `unixvol: the image has 2 of 2000000 blocks`: more than 1048576 blocks are missing for --cut
+     or --bad";
+
+const GRADED: Parameter = Parameter {
+    name: "status",
+    kind: WordKind::Flag,
+    need: Need::Flag(None),
+    help: "Exit with status 5 if something isn't exported, and 6 if the image has no volume of this edition",
+};
+
+const CUT: Parameter = Parameter {
+    name: "cut",
+    kind: WordKind::Flag,
+    need: Need::Flag(None),
+    help: "Read an image that was cut off, and export the files that are whole",
+};
+
+const BAD: Parameter = Parameter {
+    name: "bad",
+    kind: WordKind::Text,
+    need: Need::Value(None, ValueName::Map),
+    help: "Export the files that are whole in what was read of IMAGE, by the map that ddrescue kept of it",
+};
+
+const DAMAGED: Parameter = Parameter {
+    name: "damaged",
+    kind: WordKind::Flag,
+    need: Need::Flag(None),
+    help: "With --cut or --bad, export damaged files too, with zeros in place of the bytes that are lost",
+};
+
+/// The words that `export` takes.
+pub(crate) const WORDS: &[Parameter] = &[
+    EDITION, IMAGE, AT, BELOW, LOST, CUT, BAD, DAMAGED, GRADED,
+];
+
+/// Reads the words of `export`.
+pub(crate) fn read<'a, G: Given<'a>>(
+    _alloc: Global,
+    given: &G,
+    _clock: Option<u32>,
+) -> Result<Invocation<'a>, WordFault<'a>>
+    ensures read { IfOk result (AsksFor _clock verbs.Export (G.words given.now)) }
+    ensures refused { IfErr result (TellsOf (IsOneWrong _clock (G.words given.now) (arguments_of verbs.Export))) }
+{
+    let volume = volume_in(given)?;
+    let path = text_in(given, "PATH");
+    let options = ExportOptions {
+        lost: flag_in(given, "lost"),
+        graded: flag_in(given, "status"),
+        losses: LossOptions {
+            cut: flag_in(given, "cut"),
+            damaged: flag_in(given, "damaged"),
+        },
+    };
+    match given.first("bad") {
+        Some(map) => Ok(Invocation::ExportBad {
+            volume,
+            map,
+            path,
+            options,
+        }),
+        None => Ok(Invocation::Look {
+            volume,
+            look: Look::Export { path, options },
+        }),
+    }
+}

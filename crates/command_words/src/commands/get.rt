@@ -1,0 +1,123 @@
+//! The command `get`.
+ghost use Rattle.std.specs.Prelude.{◌≡◌, false, true, IfErr, IfOk, codes};
+ghost use Rattle.command_words.specs.Invocations.{AsksFor, AsksForNothing, TellsOf, is_set};
+ghost use Rattle.command_words.specs.declared.verbs.Verb.TheVariants as verbs;
+
+use crate::fault::WordFault;
+use crate::given::{Given, flag_in, missing, text_in};
+use crate::invocation::{Copying, Invocation};
+use crate::parameters::{AT, EDITION, IMAGE, NAMED, Need, Parameter, ValueName, WordKind};
+use crate::read_words::volume_in;
+use crate::several::{no_more, not_empty, paths_in};
+use std::alloc::Global;
+
+pub(crate) const NAME: &str = "get";
+
+pub(crate) const ABOUT: &str = "Prints a file of a volume, or writes several files into a folder.";
+
+pub(crate) const USAGE: &str = "\
+unixvol get [OPTIONS] <EDITION> <IMAGE> <PATH>
+       unixvol get [OPTIONS] <EDITION> <IMAGE> -o <FOLDER> <PATH>...";
+
+pub(crate) const MORE: &str = "\
+Examples:
+  unixvol get 7 disk.img /etc/passwd > passwd
+  unixvol get 7 disk.img -o out /etc/passwd /etc/group
+  unixvol get 7 disk.img -p -o out /bin/pwd
+
+The file's bytes are printed to standard output; missing blocks read as zeros.
+
+With -o, each file is written into FOLDER, which must exist, under the last name of its path. No two files may
+have the same last name. Nothing is written until all files have been read from the volume. An existing file is
+replaced without asking: a new file is written beside it and then takes its place, so each file is written whole
+or not at all.
+
+With -p too, each file gets its permissions and its time of last modification from the volume, before it takes its
+place. It belongs to the caller, so the set-user-ID and set-group-ID bits are left out, and so is the sticky bit.
+
+A path starts at the root, with or without a leading slash. Repeated slashes count as one, trailing slashes are
+ignored, and each name is cut to 14 bytes. The volume must be sound: its twelve rules are checked first.
+
+Status:
+  0  the file was printed, or all files were written
+  1  `unixvol: unsound, rule N`: this is the first rule that the volume breaks; `unixvol check` says what breaks it
+     `unixvol: 2 NoEntry`: there is no such file or directory
+     `unixvol: 20 NotDirectory`: PATH leads through something that isn't a directory
+     `unixvol: 21 IsDirectory`, `unixvol: 102 NotRegular`: PATH is a directory, or a special file
+     With -o, all of these lines but the first end with the path, as in `unixvol: 2 NoEntry: /etc/group`
+  2  the command line is wrong
+  3  `unixvol: cannot read IMAGE`, or `unixvol: cannot write -`: standard output failed; with -o,
+     `unixvol: cannot write FILE`: this file in FOLDER can't be written; the files before it were written
+  4  `unixvol: 12 NoMemory`";
+
+const EMPTY_FOLDER: &str = "it is empty; the current folder is .";
+
+const WANTS_OUTPUT: &str = "one file is printed, as by > FILE; several need -o FOLDER";
+
+const KEEPS_IN_FOLDER: &str = "-p is for files in a folder: it needs -o FOLDER";
+
+const MORE_FILES: Parameter = Parameter {
+    name: "MORE",
+    kind: WordKind::Text,
+    need: Need::Any,
+    help: "With -o, more files",
+};
+
+const OUTPUT: Parameter = Parameter {
+    name: "output",
+    kind: WordKind::Text,
+    need: Need::Value(Some('o'), ValueName::Folder),
+    help: "Write the files into this folder, each under its last name",
+};
+
+const PRESERVE: Parameter = Parameter {
+    name: "preserve",
+    kind: WordKind::Flag,
+    need: Need::Flag(Some('p')),
+    help: "With -o, give the files their permissions and modification times from the volume",
+};
+
+/// The words that `get` takes.
+pub(crate) const WORDS: &[Parameter] = &[EDITION, IMAGE, AT, NAMED, MORE_FILES, OUTPUT, PRESERVE];
+
+/// Reads the words of `get`.
+pub(crate) fn read<'a, G: Given<'a>>(
+    alloc: Global,
+    given: &G,
+    _clock: Option<u32>,
+) -> Result<Invocation<'a>, WordFault<'a>>
+    ensures read { IfOk result (AsksFor _clock verbs.Get (G.words given.now)) }
+    ensures refused { IfErr result (TellsOf (AsksForNothing _clock verbs.Get (G.words given.now))) }
+{
+    let volume = volume_in(given)?;
+    match given.first("output") {
+        Some(folder) => {
+            not_empty("FOLDER", folder, EMPTY_FOLDER)?;
+            let paths = paths_in(alloc, given)?;
+            let copying = Copying::Get {
+                folder,
+                paths,
+                keeps: flag_in(given, "preserve"),
+            };
+            Ok(Invocation::Copy { volume, copying })
+        }
+        None => {
+            let path = text_in(given, "PATH");
+            no_more(given, WANTS_OUTPUT)?;
+            nothing_kept(given)?;
+            Ok(Invocation::Get { volume, path })
+        }
+    }
+}
+
+/// Succeeds if the words don't request that permissions and times are kept, which only files in a folder can be given.
+fn nothing_kept<'a, G: Given<'a>>(given: &G) -> Result<(), WordFault<'a>>
+    ensures none { IfOk result (λ _. is_set (G.words given.now (codes "preserve")) ≡ false) }
+    ensures refused { IfErr result (TellsOf (is_set (G.words given.now (codes "preserve")) ≡ true)) }
+{
+    if flag_in(given, "preserve") {
+        Err(missing("FOLDER", KEEPS_IN_FOLDER))
+    } else {
+        Ok(())
+    }
+}

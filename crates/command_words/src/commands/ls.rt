@@ -1,0 +1,146 @@
+//! The command `ls`.
+ghost use Rattle.std.specs.Prelude.{IfErr, IfOk};
+ghost use Rattle.command_words.specs.Invocations.{AreLinesGiven, AsksFor, IsDepthGiven, IsOneWrong, TellsOf};
+ghost use Rattle.command_words.specs.Verbs.{arguments_of};
+ghost use Rattle.command_words.specs.declared.verbs.Verb.TheVariants as verbs;
+
+use crate::fault::WordFault;
+use crate::given::{Given, flag_in, text_in};
+use crate::invocation::Invocation;
+use crate::parameters::{AT, EDITION, IMAGE, JSON, Need, Parameter, WordKind};
+use crate::read_words::{form_in, volume_in};
+use command_reads::Look;
+use std::alloc::Global;
+use vol_listing::{Depth, Lines, ListOptions};
+
+pub(crate) const NAME: &str = "ls";
+
+pub(crate) const ABOUT: &str = "Lists the names in a directory of a volume, or a file.";
+
+pub(crate) const MORE: &str = "\
+Examples:
+  unixvol ls 7 disk.img /usr
+  unixvol ls -l -R 7 disk.img
+  unixvol ls -l -d 7 disk.img /usr/src
+  unixvol ls --slots 7 disk.img /usr/src
+
+Each name has a line: the i-number, right-aligned in 5 columns, a space, and the name. Names are in ascending
+order of their bytes, and include `.` and `..`. With -l, -R, -d or --json PATH may also be a file, which is then listed
+alone.
+
+With -l the i-number is followed by the kind and the permissions, as in -rw-r--r--, the number of links, the user,
+the group, the size in bytes or the two numbers of a device, and the time of modification in UTC. With -R the
+directories below are listed too, each after a line with its path and a colon. With -d a directory is listed like
+a file, instead of the names in it, and -R has no effect. With --json the output is one object, whose \"entries\" has
+an object for each name. A byte of a name or path that isn't printable ASCII is shown as a backslash and three octal digits: in
+text only on a terminal, in JSON always.
+
+With --slots, each 16-byte slot of the directory has a line, in order: the slot's number from 0 on, the i-number and the
+name. The i-number of an empty slot is 0; its name is the one that was removed. A slot of zeros has no line. With
+--json the output is one object, whose \"slots\" has an object for each line: \"slot\", \"ino\" and \"name\". The other
+options have no effect then. The volume need not be sound: only rules 1 and 2 are checked, the image's size, and the
+sizes in its super-block.
+
+A path starts at the root, with or without a leading slash. Repeated slashes count as one, trailing slashes are
+ignored, and each name is cut to 14 bytes. Without --slots the volume must be sound: its twelve rules are checked
+first.
+
+Status:
+  0  the names were printed
+  1  `unixvol: unsound, rule N`: this is the first rule that the volume breaks; `unixvol check` says what breaks it
+     `unixvol: 2 NoEntry`: there is no such file or directory
+     `unixvol: 20 NotDirectory`: PATH leads through something that isn't a directory; or, with --slots or without -l,
+     -R, -d and --json, PATH isn't a directory itself
+  2  the command line is wrong
+  3  `unixvol: cannot read IMAGE`, or `unixvol: cannot write -`: standard output failed
+  4  `unixvol: 12 NoMemory`";
+
+const PATH: Parameter = Parameter {
+    name: "PATH",
+    kind: WordKind::Text,
+    need: Need::Maybe,
+    help: "The path of a directory in the volume, or, with -l, -R, -d or --json, of a file; by default, the root",
+};
+
+const LONG: Parameter = Parameter {
+    name: "long",
+    kind: WordKind::Flag,
+    need: Need::Flag(Some('l')),
+    help: "Show what each i-node says: kind, permissions, links, owner, size and time",
+};
+
+const RECURSIVE: Parameter = Parameter {
+    name: "recursive",
+    kind: WordKind::Flag,
+    need: Need::Flag(Some('R')),
+    help: "List the directories below too",
+};
+
+const DIRECTORY: Parameter = Parameter {
+    name: "directory",
+    kind: WordKind::Flag,
+    need: Need::Flag(Some('d')),
+    help: "List a directory itself, instead of the names in it",
+};
+
+const SLOTS: Parameter = Parameter {
+    name: "slots",
+    kind: WordKind::Flag,
+    need: Need::Flag(None),
+    help: "List the directory's slots, and the names that were removed",
+};
+
+/// The words that `ls` takes.
+pub(crate) const WORDS: &[Parameter] = &[
+    EDITION, IMAGE, AT, PATH, LONG, RECURSIVE, DIRECTORY, JSON, SLOTS,
+];
+
+/// Reads the words of `ls`.
+pub(crate) fn read<'a, G: Given<'a>>(
+    _alloc: Global,
+    given: &G,
+    _clock: Option<u32>,
+) -> Result<Invocation<'a>, WordFault<'a>>
+    ensures read { IfOk result (AsksFor _clock verbs.Ls (G.words given.now)) }
+    ensures refused { IfErr result (TellsOf (IsOneWrong _clock (G.words given.now) (arguments_of verbs.Ls))) }
+{
+    let volume = volume_in(given)?;
+    let path = text_in(given, "PATH");
+    let look = if flag_in(given, "slots") {
+        let form = form_in(given);
+        Look::Slots { path, form }
+    } else {
+        let listing = ListOptions {
+            lines: lines_in(given),
+            depth: depth_in(given),
+        };
+        Look::List { path, listing }
+    };
+    Ok(Invocation::Look { volume, look })
+}
+
+/// Reads the format of the lines.
+fn lines_in<'a, G: Given<'a>>(given: &G) -> Lines
+    ensures { AreLinesGiven (G.words given.now) result }
+{
+    if flag_in(given, "json") {
+        Lines::Json
+    } else if flag_in(given, "long") {
+        Lines::Long
+    } else {
+        Lines::Plain
+    }
+}
+
+/// Reads the depth of a listing.
+fn depth_in<'a, G: Given<'a>>(given: &G) -> Depth
+    ensures { IsDepthGiven (G.words given.now) result }
+{
+    if flag_in(given, "directory") {
+        Depth::Itself
+    } else if flag_in(given, "recursive") {
+        Depth::Below
+    } else {
+        Depth::Names
+    }
+}

@@ -1,0 +1,80 @@
+//! The command `sums`.
+ghost use Rattle.std.specs.Prelude.{IfErr, IfOk};
+ghost use Rattle.command_words.specs.Invocations.{AsksFor, IsOneWrong, TellsOf};
+ghost use Rattle.command_words.specs.Verbs.{arguments_of};
+ghost use Rattle.command_words.specs.declared.verbs.Verb.TheVariants as verbs;
+
+use crate::fault::WordFault;
+use crate::given::{Given, flag_in, text_in};
+use crate::invocation::Invocation;
+use crate::parameters::{AT, BELOW, EDITION, IMAGE, JSON, LOST, Parameter};
+use crate::read_words::{form_in, volume_in};
+use command_reads::Look;
+use std::alloc::Global;
+
+pub(crate) const NAME: &str = "sums";
+
+pub(crate) const ABOUT: &str =
+    "Prints a manifest of everything below a directory, with the SHA-256 of each file.";
+
+pub(crate) const MORE: &str = "\
+Examples:
+  unixvol sums 7 disk.img > disk.sums
+  unixvol sums 7 disk.img | grep -v '^-' | cut -c 1-65,119- > SHA256SUMS
+  unixvol sums --json 7 disk.img /usr | jq -r '.entries[].path'
+  unixvol sums --lost 7 damaged.img
+  diff <(unixvol sums 7 old.img) <(unixvol sums 7 disk.img)
+
+Each file, directory and special file has a line, in the order of `unixvol export`: the SHA-256 of a regular file's
+bytes, or a dash; the mode, owner, group, size and time of modification, as `unixvol ls -l` shows them; and the path,
+which starts at PATH. Each name of a file has a line. In a path, a byte that isn't printable ASCII is shown as a
+backslash and three octal digits, and a backslash is doubled.
+
+The second example makes a list that `sha256sum -c` reads, in the folder where an archive of `unixvol export` was
+extracted, if no path is escaped. The last one, for bash, compares two volumes by what is in them. A directory's size
+counts its empty slots, so that of a copy may differ.
+
+With --json, one object is printed on one line. Its \"entries\" has an object for each node: that of `unixvol ls --json`,
+and \"sha256\", which is null if the node isn't a regular file. A path then begins with PATH, as in `unixvol find`.
+
+The volume need not be sound. Only rules 1 and 2 are checked: the image's size, and the sizes in its super-block.
+Anything left out, and anything wrong with the volume, has a line on standard error, as with `unixvol export`, and
+the status is then 1. Nothing is printed before everything is known.
+
+With --lost, i-nodes that no entry names, or that are out of reach, are in the manifest too, with everything below
+them, at the paths that they have in an archive of `unixvol export --lost`: lost+found/#96 is i-node 96. If the root
+is no directory, these are all that is printed.
+
+Status:
+  0  everything is in the manifest, and the volume is sound
+  1  everything that entries lead to is in the manifest, except what standard error says; or nothing was printed:
+     `unixvol: unsound, rule 1`: the image is shorter than its super-block says
+     `unixvol: unsound, rule 2`: the sizes in the super-block contradict one another
+     `unixvol: 2 NoEntry`: there is no such file or directory
+     `unixvol: 20 NotDirectory`: PATH isn't a directory, or leads through something that isn't one. Of a root that
+     isn't one, --lost shows what is left
+  2  the command line is wrong
+  3  `unixvol: cannot read IMAGE`, or `unixvol: cannot write -`: standard output failed
+  4  `unixvol: 12 NoMemory`";
+
+/// The words that `sums` takes.
+pub(crate) const WORDS: &[Parameter] = &[EDITION, IMAGE, AT, BELOW, LOST, JSON];
+
+/// Reads the words of `sums`.
+pub(crate) fn read<'a, G: Given<'a>>(
+    _alloc: Global,
+    given: &G,
+    _clock: Option<u32>,
+) -> Result<Invocation<'a>, WordFault<'a>>
+    ensures read { IfOk result (AsksFor _clock verbs.Sums (G.words given.now)) }
+    ensures refused { IfErr result (TellsOf (IsOneWrong _clock (G.words given.now) (arguments_of verbs.Sums))) }
+{
+    let volume = volume_in(given)?;
+    let path = text_in(given, "PATH");
+    let form = form_in(given);
+    let lost = flag_in(given, "lost");
+    Ok(Invocation::Look {
+        volume,
+        look: Look::Sums { path, form, lost },
+    })
+}

@@ -224,6 +224,9 @@ import struct
 words = [1, 5, 6, 0, 0, 1, 0, 0, 0, 60011, 0] + [7] * 245
 words[10] = (84446 - sum(words)) % 65536
 open("dump.img", "wb").write(struct.pack("<256H", *words) + bytes(1536))
+entry = struct.pack("<32sHBBBBHIH16sH", b"usr/motd", 0o100644, 3, 1, 0, 0, 12, 0, 25, b"", 0)
+entry = entry[:62] + struct.pack("<H", -sum(struct.unpack("<32H", entry)) % 65536)
+open("tp.img", "wb").write(b"z" * 512 + entry + bytes(64) + entry + bytes(1344))
 home = [3] * 248 + list(struct.unpack("<6H", b"DECFILE11A  "))
 home += [0] * (255 - len(home))
 home.append(sum(home) % 65536)
@@ -241,6 +244,12 @@ foreign dump "a tape of V7's dump" dump << 'END'
 18 6c
 20 00
 300 08
+END
+foreign tp 'a tape of tp' tp << 'END'
+512 7f
+513 72
+543 01
+640 76
 END
 foreign files11 'a disk of Files-11' files11 << 'END'
 1008 64

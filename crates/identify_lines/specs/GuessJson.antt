@@ -8,7 +8,7 @@ use Rattle.vol_findings.specs.Reports.{edition_number}
 use Rattle.vol_identify.specs.PackTexts.{command_text}
 use Rattle.vol_identify.specs.Texts.{packing_text}
 use Rattle.vol_identify.specs.declared.foreign.Foreign as foreigns
-use Rattle.vol_identify.specs.declared.foreign.Foreign.TheVariants.{Simh, Dump, Fat, Rt11, Files11}
+use Rattle.vol_identify.specs.declared.foreign.Foreign.TheVariants.{Simh, Dump, Tp, Fat, Rt11, Files11}
 use Rattle.vol_identify.specs.declared.front.FoundVolume.{FoundVolume}
 use Rattle.vol_identify.specs.declared.guess.Guess.{Guess}
 use Rattle.vol_identify.specs.declared.guess.Guess.TheVariants.{Empty, Packed, Tar, Volume, Swapped, Ext2, CutOff, Foreign, Inside, Unknown}
@@ -72,6 +72,7 @@ part_data path judged = part_by path judged.part judged.broken
 abbrev pub foreign_word : foreigns.Foreign → List ℕ
 foreign_word Simh = codes "simh"
 foreign_word Dump = codes "dump"
+foreign_word Tp = codes "tp"
 foreign_word Fat = codes "fat"
 foreign_word Rt11 = codes "rt11"
 foreign_word Files11 = codes "files11"

@@ -112,6 +112,7 @@ fn foreign_word(foreign: Foreign) -> &'static str
     match foreign {
         Foreign::Simh => "simh",
         Foreign::Dump => "dump",
+        Foreign::Tp => "tp",
         Foreign::Fat => "fat",
         Foreign::Rt11 => "rt11",
         Foreign::Files11 => "files11",

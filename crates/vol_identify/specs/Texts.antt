@@ -2,7 +2,7 @@
 use Rattle.std.specs.Prelude.{ℕ, List, ◌++◌, codes, decimal, Option, None, Some}
 use Rattle.vol_findings.specs.Reports.{edition_number}
 use Rattle.vol_identify.specs.declared.foreign.Foreign as foreigns
-use Rattle.vol_identify.specs.declared.foreign.Foreign.TheVariants.{Simh, Dump, Fat, Rt11, Files11}
+use Rattle.vol_identify.specs.declared.foreign.Foreign.TheVariants.{Simh, Dump, Tp, Fat, Rt11, Files11}
 use Rattle.vol_identify.specs.declared.front.FoundVolume.{FoundVolume}
 use Rattle.vol_identify.specs.declared.guess.Guess.{Guess}
 use Rattle.vol_identify.specs.declared.guess.Guess.TheVariants.{Empty, Packed, Tar, Volume, Swapped, Ext2, CutOff, Foreign, Inside, Unknown}
@@ -26,6 +26,7 @@ volume_text volume =
 abbrev pub foreign_text : foreigns.Foreign → List ℕ
 foreign_text Simh = codes "a tape in the format of SIMH"
 foreign_text Dump = codes "a tape of V7's dump"
+foreign_text Tp = codes "a tape of tp"
 foreign_text Fat = codes "a volume of FAT"
 foreign_text Rt11 = codes "a disk of RT-11"
 foreign_text Files11 = codes "a disk of Files-11"

@@ -1,11 +1,17 @@
 //! Tapes and disks of other systems, by the few bytes that tell them for sure.
 ghost use Rattle.std.specs.Prelude.{◌≡◌, ◌+◌, ◌*◌, ◌^◌, ◌<◌, ◌≤◌, length};
-ghost use Rattle.vol_identify.specs.Foreign.{foreign_of, has_text, is_dump, is_fat, is_files11, is_length, is_rt11, is_simh, words_sum};
+ghost use Rattle.vol_identify.specs.Foreign.{are_entries, foreign_of, has_text, is_dump, is_entry, is_fat, is_files11, is_length, is_rt11, is_simh, is_tp, words_sum};
 
 use pdp_words::Image;
 
 /// The block that the home block of a disk of DEC's systems is, as a byte.
 const HOME: usize = 512;
+
+/// The first block of the directory of a tape of tp, as a byte.
+const DIRECTORY: usize = 512;
+
+/// The bytes of an entry of tp.
+const ENTRY: usize = 64;
 
 /// The place of the system's name, as a byte: octal 760 of the home block.
 const NAME: usize = 1008;
@@ -17,6 +23,8 @@ pub enum Foreign {
     Simh,
     /// A tape of the seventh edition's dump.
     Dump,
+    /// A tape of tp.
+    Tp,
     /// A volume of FAT.
     Fat,
     /// A disk of RT-11.
@@ -35,6 +43,8 @@ pub(crate) fn foreign_of(image: &Image) -> Option<Foreign>
         Some(Foreign::Simh)
     } else if is_dump(image) {
         Some(Foreign::Dump)
+    } else if is_tp(image) {
+        Some(Foreign::Tp)
     } else if is_fat(image) {
         Some(Foreign::Fat)
     } else if is_rt11(image) {
@@ -76,6 +86,40 @@ fn is_dump(image: &Image) -> bool
     ensures { result ≡ is_dump image.now }
 {
     image.word(0) == 1 && image.word(18) == 60011 && words_sum(image, 0, 256) == 18910
+}
+
+/// True if the first block of the directory of a tape of tp is there.
+fn is_tp(image: &Image) -> bool
+    requires { 1536 ≤ length image.now }
+    ensures { result ≡ is_tp image.now }
+{
+    let first = image.byte(DIRECTORY);
+    0x20 < first
+        && first < 0x7F
+        && image.byte(DIRECTORY + 31) == 0
+        && are_entries(image, DIRECTORY, 8)
+}
+
+/// True if the `count` entries of tp from byte `at` on are empty, or have the sum zero.
+fn are_entries(image: &Image, at: usize, count: usize) -> bool
+    requires there { at + 64 * count ≤ length image.now }
+    requires near { at + 64 * count < 2 ^ 32 }
+    ensures { result ≡ are_entries image.now at count }
+{
+    let mut all = true;
+    for k in 0..count {
+        all &= is_entry(image, at + ENTRY * k);
+    }
+    all
+}
+
+/// True if the entry of tp at byte `at` is empty, or has the sum zero.
+fn is_entry(image: &Image, at: usize) -> bool
+    requires there { at + 64 ≤ length image.now }
+    requires near { at + 64 < 2 ^ 32 }
+    ensures { result ≡ is_entry image.now at }
+{
+    image.word(at) == 0 || words_sum(image, at, ENTRY / 2) == 0
 }
 
 /// True if the first block is the boot sector of a volume of FAT.

@@ -29,6 +29,7 @@ fn foreign_text(foreign: Foreign) -> &'static str
     match foreign {
         Foreign::Simh => "a tape in the format of SIMH",
         Foreign::Dump => "a tape of V7's dump",
+        Foreign::Tp => "a tape of tp",
         Foreign::Fat => "a volume of FAT",
         Foreign::Rt11 => "a disk of RT-11",
         Foreign::Files11 => "a disk of Files-11",

@@ -42,6 +42,7 @@ other files the first of these that fits is printed:
   looks like .., cut off after C                     only the first C blocks are there
   looks like a tape in the format of SIMH            its first record is between its length and its length
   looks like a tape of V7's dump                     its header, with its checksum
+  looks like a tape of tp                            the first 8 entries of its directory, with their checksums
   looks like a volume of FAT                         the fields of its boot sector, and its signature
   looks like a disk of RT-11, or of Files-11         the name in its home block; of Files-11 also the checksum
   looks like a larger pack: at block K begins ..     only of a pipe or a device, which isn't searched further

@@ -74,21 +74,16 @@ fn copy_of(alloc: Global, image: &Image) -> Result<Image, AllocError>
 }
 
 /// Applies a record, which may come next, to the image of a replay.
-pub(crate) fn apply_next(replay: &mut Replay, record: &Record)
+pub(crate) fn apply_next(replay: &mut Replay, next: &Record)
     requires ready { IsReady replay.old }
-    requires follows { MayFollow (state replay.old.geometry replay.old.image) record.now }
+    requires follows { MayFollow (state replay.old.geometry replay.old.image) next.now }
     ensures ready { IsReady replay.new }
-    ensures performed { Performs replay.old.geometry replay.old.image replay.new.image record.now.call record.now.done }
+    ensures performed { Performs replay.old.geometry replay.old.image replay.new.image next.now.call next.now.done }
     ensures geometry { replay.new.geometry ≡ replay.old.geometry }
     ensures before { replay.new.before ≡ replay.old.before }
     ensures roles { replay.new.roles ≡ replay.old.roles }
 {
-    if !apply(
-        &mut replay.image,
-        &replay.geometry,
-        &mut replay.free,
-        record,
-    ) {
+    if !apply(&mut replay.image, &replay.geometry, &mut replay.free, next) {
         unreachable!()
     }
 }

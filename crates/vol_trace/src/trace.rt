@@ -48,19 +48,19 @@ fn push_record(
     alloc: Global,
     text: &mut Vec<u8>,
     replay: &mut Replay,
-    record: &Record,
+    next: &Record,
 ) -> Result<(), AllocError>
     requires replay { IsReplay replay.old }
-    requires follows { MayFollow (state replay.old.geometry replay.old.image) record.now }
+    requires follows { MayFollow (state replay.old.geometry replay.old.image) next.now }
     ensures replay { OnOk result (IsReplay replay.new) }
     ensures geometry { OnOk result (replay.new.geometry ≡ replay.old.geometry) }
-    ensures performed { OnOk result (Performs replay.old.geometry replay.old.image replay.new.image record.now.call record.now.done) }
-    ensures text { OnOk result (AppendsRecord replay.old.geometry replay.old.image replay.new.image record.now text.old.items text.new.items) }
+    ensures performed { OnOk result (Performs replay.old.geometry replay.old.image replay.new.image next.now.call next.now.done) }
+    ensures text { OnOk result (AppendsRecord replay.old.geometry replay.old.image replay.new.image next.now text.old.items text.new.items) }
 {
-    apply_next(replay, record);
+    apply_next(replay, next);
     let roles = block_roles(alloc, &replay.image, &replay.geometry)?;
     let changes = changes_text(alloc, replay, &roles)?;
-    push_call(alloc, text, &record.call)?;
+    push_call(alloc, text, &next.call)?;
     push_indented(text, &changes)?;
     remember(alloc, replay, roles)
 }

@@ -13,8 +13,8 @@ use Rattle.fuse_words.specs.declared.request.RequestFault.{RequestFault}
 use Rattle.pdp_words.specs.Steps.{and_then}
 use Rattle.vol_dir.specs.declared.refusal.Refusal.{Refusal}
 use Rattle.vol_dir.specs.declared.refusal.Refusal.TheVariants as refusals
-use Rattle.vol_nodes.specs.declared.fault.NodeFault.{NodeFault}
-use Rattle.vol_nodes.specs.declared.fault.NodeFault.TheVariants as faults
+use Rattle.vol_serve.specs.declared.nodes.fault.NodeFault.{NodeFault}
+use Rattle.vol_serve.specs.declared.nodes.fault.NodeFault.TheVariants as faults
 use Rattle.vol_serve.specs.Errno.{errno as request_errno}
 use Rattle.vol_serve.specs.declared.errno.RequestRefusal.{RequestRefusal}
 use Rattle.vol_serve.specs.declared.errno.RequestRefusal.TheVariants as requests

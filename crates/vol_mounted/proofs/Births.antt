@@ -13,8 +13,8 @@ use Rattle.vol_layout.specs.Edition.{constants}
 use Rattle.vol_layout.specs.declared.geometry.Geometry.{Geometry}
 use Rattle.vol_dir.specs.Names.{is_dots}
 use Rattle.vol_dir.specs.Tree.{tree}
-use Rattle.vol_nodes.specs.Nodes.{stat_in, look_up}
-use Rattle.vol_nodes.specs.declared.fault.NodeFault.{NodeFault}
+use Rattle.vol_serve.specs.Nodes.{stat_in, look_up}
+use Rattle.vol_serve.specs.declared.nodes.fault.NodeFault.{NodeFault}
 use Rattle.vol_volume.specs.declared.queries.Stat.{Stat}
 use Rattle.vol_mounted.specs.Numbers.{birth_at, i_number, with_known, met, born, opened, closed}
 use Rattle.vol_mounted.specs.Paths.{place_of}

@@ -6,8 +6,8 @@ use Rattle.vol_layout.specs.declared.geometry.Geometry.{Geometry}
 use Rattle.vol_dir.specs.Entries.{entry_at, slot_count}
 use Rattle.vol_dir.specs.Names.{Names}
 use Rattle.vol_dir.specs.Tree.{tree}
-use Rattle.vol_nodes.specs.Nodes.{names_in}
-use Rattle.vol_nodes.specs.declared.fault.NodeFault.{NodeFault}
+use Rattle.vol_serve.specs.Nodes.{names_in}
+use Rattle.vol_serve.specs.declared.nodes.fault.NodeFault.{NodeFault}
 use Rattle.vol_mounted.specs.Records.{first_value, if_directory, name_for, name_in}
 
 -- if the numbers from n up to `found` have no value, the first value from n on is the first one from `found` on

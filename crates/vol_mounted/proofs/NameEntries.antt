@@ -32,8 +32,8 @@ use Rattle.vol_volume.specs.declared.calls.Done.{Done}
 use Rattle.vol_volume.proofs.Accepted.{link_passed, unlink_passed}
 use Rattle.vol_import.proofs.MadeNames.{entered, entered_found, found, found_in, get_insert, linked, path_kept}
 use Rattle.vol_import.proofs.TreeWalks.{named, names_lead, searched}
-use Rattle.vol_nodes.specs.Nodes.{after_ok, look_up, number_in, number_of}
-use Rattle.vol_nodes.specs.declared.fault.NodeFault.TheVariants as faults
+use Rattle.vol_serve.specs.Nodes.{after_ok, look_up, number_in, number_of}
+use Rattle.vol_serve.specs.declared.nodes.fault.NodeFault.TheVariants as faults
 use Rattle.vol_mounted.proofs.FreeNodes.{reads_next, state_of}
 
 -- the i-number for a name in a node, if it is a directory that has the name

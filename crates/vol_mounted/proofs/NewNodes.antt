@@ -15,8 +15,8 @@ use Rattle.vol_judge.specs.Sound.{IsSound}
 use Rattle.vol_dir.specs.declared.refusal.Refusal.{Refusal}
 use Rattle.vol_change.specs.Edits.{at_time, with_owner}
 use Rattle.vol_change.specs.Effects.{after_chown}
-use Rattle.vol_nodes.specs.Nodes.{look_up}
-use Rattle.vol_nodes.proofs.RepliedNodes.{names_lead_as_walks}
+use Rattle.vol_serve.specs.Nodes.{look_up}
+use Rattle.vol_serve.proofs.RepliedNodes.{names_lead_as_walks}
 use Rattle.vol_volume.specs.Journal.{MayAnswer}
 use Rattle.vol_volume.specs.Step.{changed_by, made_number, on_node, step}
 use Rattle.vol_volume.specs.Verdict.{verdict, is_free_number}

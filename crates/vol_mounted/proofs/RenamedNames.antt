@@ -25,9 +25,9 @@ use Rattle.vol_volume.specs.declared.queries.Stat.{Stat}
 use Rattle.vol_import.specs.Make.{AreMade}
 use Rattle.vol_import.proofs.MadeNames.{linked}
 use Rattle.vol_import.proofs.TreeWalks.{searched}
-use Rattle.vol_nodes.specs.Nodes.{look_up}
-use Rattle.vol_nodes.specs.declared.fault.NodeFault.{NodeFault}
-use Rattle.vol_nodes.specs.declared.fault.NodeFault.TheVariants as faults
+use Rattle.vol_serve.specs.Nodes.{look_up}
+use Rattle.vol_serve.specs.declared.nodes.fault.NodeFault.{NodeFault}
+use Rattle.vol_serve.specs.declared.nodes.fault.NodeFault.TheVariants as faults
 use Rattle.vol_mounted.specs.Laws.{MovesName, Renames, RenamesLead, Renaming, renaming_of, tree_in}
 use Rattle.vol_mounted.specs.Plans.{Sight, is_directory, name_at, named_calls, replace_calls, stat_at}
 use Rattle.vol_mounted.specs.Refusals.{of_nodes}

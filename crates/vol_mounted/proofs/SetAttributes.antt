@@ -22,9 +22,9 @@ use Rattle.vol_volume.specs.declared.calls.Call.TheVariants as calls
 use Rattle.vol_volume.specs.declared.queries.Stat.{Stat}
 use Rattle.vol_import.specs.Make.{AreMade}
 use Rattle.vol_import.proofs.TreeWalks.{named}
-use Rattle.vol_nodes.specs.Nodes.{special_of}
-use Rattle.vol_nodes.specs.declared.fault.NodeFault.TheVariants as faults
-use Rattle.vol_nodes.specs.declared.nodes.SpecialFile.{SpecialFile}
+use Rattle.vol_serve.specs.Nodes.{special_of}
+use Rattle.vol_serve.specs.declared.nodes.fault.NodeFault.TheVariants as faults
+use Rattle.vol_serve.specs.declared.nodes.stats.SpecialFile.{SpecialFile}
 use Rattle.vol_serve.specs.Attributes.{attributes_of}
 use Rattle.vol_mounted.specs.Laws.{AttributesAreSet, SetsAttributes, SetsFile, Shows, content_with, sets_nothing, tree_in, with_changes}
 use Rattle.vol_mounted.specs.Losses.{kept_after, lost_file, lost_node}

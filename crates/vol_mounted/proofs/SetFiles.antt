@@ -11,7 +11,7 @@ use Rattle.fuse_words.specs.declared.operation.Operation.TheVariants as operatio
 use Rattle.fuse_words.specs.declared.request.Header.{Header}
 use Rattle.pdp_words.specs.Steps.{and_then}
 use Rattle.vol_dir.specs.declared.refusal.Refusal.TheVariants as refusals
-use Rattle.vol_nodes.specs.declared.fault.NodeFault.TheVariants as faults
+use Rattle.vol_serve.specs.declared.nodes.fault.NodeFault.TheVariants as faults
 use Rattle.vol_mounted.specs.Laws.{ShowsFile, file_with_changes}
 use Rattle.vol_mounted.specs.Orphans.{FilesReplied, KeptFile, file_after, file_reply, files_after, given_attributes, is_release, place_of, present_attributes, replied_at, resized, sized}
 use Rattle.vol_mounted.specs.Refusals.{no_node, no_space}

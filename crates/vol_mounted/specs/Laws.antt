@@ -11,9 +11,9 @@ use Rattle.fuse_words.specs.declared.request.Header.{Header}
 use Rattle.vol_file.specs.Changes.{spliced}
 use Rattle.vol_dir.specs.Tree.{Body, Content, Node, Tree}
 use Rattle.vol_change.specs.Edits.{body_of, stamped}
-use Rattle.vol_nodes.specs.Nodes.{look_up}
-use Rattle.vol_nodes.specs.declared.fault.NodeFault.TheVariants as faults
-use Rattle.vol_nodes.specs.declared.nodes.SpecialFile.{SpecialFile}
+use Rattle.vol_serve.specs.Nodes.{look_up}
+use Rattle.vol_serve.specs.declared.nodes.fault.NodeFault.TheVariants as faults
+use Rattle.vol_serve.specs.declared.nodes.stats.SpecialFile.{SpecialFile}
 use Rattle.vol_serve.specs.Attributes.{attributes_of}
 use Rattle.vol_volume.specs.Volume.{IsConsistent, reads_as}
 use Rattle.vol_volume.specs.declared.queries.Stat.{Stat}

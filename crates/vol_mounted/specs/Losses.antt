@@ -7,8 +7,8 @@ use Rattle.fuse_words.specs.declared.reply.Attributes.{Attributes}
 use Rattle.fuse_words.specs.declared.request.Header.{Header}
 use Rattle.vol_layout.specs.declared.geometry.Geometry.{Geometry}
 use Rattle.vol_dir.specs.Tree.{tree}
-use Rattle.vol_nodes.specs.Nodes.{stat_in, look_up, read_in, filled}
-use Rattle.vol_nodes.specs.declared.fault.NodeFault.{NodeFault}
+use Rattle.vol_serve.specs.Nodes.{stat_in, look_up, read_in, filled}
+use Rattle.vol_serve.specs.declared.nodes.fault.NodeFault.{NodeFault}
 use Rattle.vol_serve.specs.Attributes.{attributes_in}
 use Rattle.vol_mounted.specs.Numbers.{i_number, node_number}
 use Rattle.vol_mounted.specs.Orphans.{KeptFile, size_if}

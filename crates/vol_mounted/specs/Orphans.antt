@@ -11,7 +11,7 @@ use Rattle.fuse_words.specs.declared.request.Header.{Header}
 use Rattle.pdp_words.specs.Steps.{and_then}
 use Rattle.vol_dir.specs.declared.refusal.Refusal.TheVariants as refusals
 use Rattle.vol_file.specs.Changes.{spliced}
-use Rattle.vol_nodes.specs.declared.fault.NodeFault.TheVariants as faults
+use Rattle.vol_serve.specs.declared.nodes.fault.NodeFault.TheVariants as faults
 use Rattle.vol_serve.specs.declared.errno.RequestRefusal.TheVariants as requests
 use Rattle.vol_mounted.specs.Plans.{set_time}
 use Rattle.vol_mounted.specs.Refusals.{no_node, no_space}

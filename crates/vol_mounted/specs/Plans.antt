@@ -20,9 +20,9 @@ use Rattle.vol_volume.specs.Verdict.{verdict}
 use Rattle.vol_volume.specs.declared.calls.Call.{Call}
 use Rattle.vol_volume.specs.declared.calls.Call.TheVariants as calls
 use Rattle.vol_volume.specs.declared.queries.Stat.{Stat}
-use Rattle.vol_nodes.specs.Nodes.{stat_in, look_up}
-use Rattle.vol_nodes.specs.declared.fault.NodeFault.{NodeFault}
-use Rattle.vol_nodes.specs.declared.fault.NodeFault.TheVariants as faults
+use Rattle.vol_serve.specs.Nodes.{stat_in, look_up}
+use Rattle.vol_serve.specs.declared.nodes.fault.NodeFault.{NodeFault}
+use Rattle.vol_serve.specs.declared.nodes.fault.NodeFault.TheVariants as faults
 use Rattle.vol_mounted.specs.Paths.{path_to, path_of_name}
 use Rattle.pdp_words.specs.Steps.{and_then}
 use Rattle.vol_mounted.specs.Refusals.{no_node, of_nodes}

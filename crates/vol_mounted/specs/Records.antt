@@ -13,8 +13,8 @@ use Rattle.vol_dir.specs.Entries.{entry_at, slot_count}
 use Rattle.vol_dir.specs.Names.{Names, is_dots}
 use Rattle.vol_dir.specs.Tree.{Tree, tree}
 use Rattle.vol_volume.specs.declared.queries.Stat.{Stat}
-use Rattle.vol_nodes.specs.Nodes.{stat_in, names_in, look_up}
-use Rattle.vol_nodes.specs.declared.fault.NodeFault.{NodeFault}
+use Rattle.vol_serve.specs.Nodes.{stat_in, names_in, look_up}
+use Rattle.vol_serve.specs.declared.nodes.fault.NodeFault.{NodeFault}
 use Rattle.vol_mounted.specs.Numbers.{i_number, with_known, met, born, opened, closed}
 use Rattle.vol_mounted.specs.Paths.{place_of}
 use Rattle.vol_mounted.specs.declared.known.KnownNode.{KnownNode}

@@ -11,8 +11,8 @@ use Rattle.fuse_words.specs.declared.request.Header.{Header}
 use Rattle.vol_layout.specs.declared.mode.Kind.{Kind}
 use Rattle.vol_layout.specs.declared.mode.Kind.TheVariants as kinds
 use Rattle.vol_dir.specs.Tree.{tree}
-use Rattle.vol_nodes.specs.Nodes.{look_up}
-use Rattle.vol_nodes.specs.declared.fault.NodeFault.TheVariants as faults
+use Rattle.vol_serve.specs.Nodes.{look_up}
+use Rattle.vol_serve.specs.declared.nodes.fault.NodeFault.TheVariants as faults
 use Rattle.vol_serve.specs.Answers.{read_reply, listing_reply}
 use Rattle.vol_serve.specs.Attributes.{attributes_in}
 use Rattle.vol_serve.specs.Statistics.{statistics_of}

@@ -8,7 +8,7 @@ use crate::scene::Scene;
 use crate::table::NodeTable;
 use fuse_words::{Attributes, Header, Operation};
 use vol_dir::Refusal;
-use vol_nodes::{look_up, read};
+use vol_serve::nodes::{look_up, read};
 use vol_serve::attributes::node_attributes;
 
 /// A file that will lose a name.

@@ -7,7 +7,7 @@ use crate::refusal::MountedRefusal;
 use crate::reply::count_of;
 use crate::server::MountedServer;
 use fuse_words::{Header, KEEP_CACHE, MOST_DATA, Operation};
-use vol_nodes::NodeFault;
+use vol_serve::nodes::NodeFault;
 use vol_serve::errno::RequestRefusal;
 use vol_serve::memory::Room;
 
@@ -47,7 +47,7 @@ impl MountedServer {
 
 impl Orphans {
     ghost use Rattle.std.specs.Prelude.{◌≡◌, ◌≢◌, ◌≤◌, ◌+◌, Ok, Err, OnOk, IfErr, OnErr};
-    ghost use Rattle.vol_nodes.specs.declared.fault.NodeFault.TheVariants as faults;
+    ghost use Rattle.vol_serve.specs.declared.nodes.fault.NodeFault.TheVariants as faults;
     ghost use Rattle.vol_mounted.specs.Orphans.{held_by, with_file, replied_at};
     ghost use Rattle.vol_mounted.specs.Refusals.{no_node, no_memory};
 

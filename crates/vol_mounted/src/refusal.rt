@@ -4,7 +4,7 @@ ghost use Rattle.vol_mounted.specs.Errno.{call_errno, errno};
 
 use std::alloc::AllocError;
 use vol_dir::Refusal;
-use vol_nodes::NodeFault;
+use vol_serve::nodes::NodeFault;
 use vol_serve::errno::RequestRefusal;
 
 /// The reason why a request is refused.

@@ -6,7 +6,7 @@ use pdp_words::Bytes;
 use std::alloc::AllocError;
 use vol_dir::Refusal;
 use vol_layout::Kind;
-use vol_nodes::{NodeFault, look_up};
+use vol_serve::nodes::{NodeFault, look_up};
 use vol_volume::Stat;
 
 /// The arguments of a rename.

@@ -12,7 +12,7 @@ use fuse_words::{
     Operation, SYMLINK, Settings,
 };
 use vol_layout::Kind;
-use vol_nodes::{NodeFault, look_up};
+use vol_serve::nodes::{NodeFault, look_up};
 use vol_serve::attributes::node_attributes;
 use vol_serve::errno::RequestRefusal;
 use vol_serve::memory::Room;

@@ -11,7 +11,7 @@ use vol_archive::is_plain;
 use vol_dir::{Cred, walk};
 use vol_layout::Geometry;
 use vol_layout::slot::NAME;
-use vol_nodes::{NodeFault, look_up, stat};
+use vol_serve::nodes::{NodeFault, look_up, stat};
 use vol_serve::errno::RequestRefusal;
 use vol_volume::{Stat, Volume};
 
@@ -36,7 +36,7 @@ pub(crate) struct Scene<'a> {
 
 impl Scene<'_> {
     ghost use Rattle.vol_dir.specs.Tree.{tree};
-    ghost use Rattle.vol_nodes.specs.Nodes.{look_up};
+    ghost use Rattle.vol_serve.specs.Nodes.{look_up};
     ghost use Rattle.vol_mounted.specs.Plans.{path_at, name_at, stat_at};
     ghost use Rattle.vol_mounted.specs.Refusals.{Gives, of_nodes};
     ghost use Rattle.vol_mounted.specs.Replies.{number_at};

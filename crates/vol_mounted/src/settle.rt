@@ -18,7 +18,7 @@ use fuse_words::{Header, Operation};
 use pdp_words::Image;
 use vol_dir::is_dots;
 use vol_layout::{Edition, Geometry, Kind, Slot};
-use vol_nodes::{look_up, next_name, stat};
+use vol_serve::nodes::{look_up, next_name, stat};
 use vol_volume::Volume;
 
 impl NodeTable {

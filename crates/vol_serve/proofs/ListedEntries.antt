@@ -1,5 +1,5 @@
 -- The entries of a directory's slots in the reply to READDIR.
-use Rattle.std.proofs.Common.{◌≡◌, ◌∙◌, sym, ap, ℕ, zero, suc, ◌+◌, ◌-◌, ◌<◌, ◌≤◌, ◌/◌, min, arith, List, [], ◌++◌, Option, None, Ok, inl, inr}
+use Rattle.std.proofs.Common.{◌≡◌, ◌∙◌, sym, ap, ℕ, zero, suc, ◌+◌, ◌-◌, ◌<◌, ◌≤◌, min, arith, List, [], ◌++◌, Option, None, Ok, inl, inr}
 use Rattle.std.proofs.lemmas.Bool.{cases_lt}
 use Rattle.fuse_words.specs.declared.directory.EntryKind.{EntryKind}
 use Rattle.vol_layout.specs.declared.geometry.Geometry.{Geometry}
@@ -9,7 +9,7 @@ use Rattle.vol_dir.specs.Names.{Names}
 use Rattle.vol_dir.specs.Scan.{IsNextEntry}
 use Rattle.vol_dir.specs.Tree.{tree}
 use Rattle.vol_dir.proofs.Searches.{slots_low}
-use Rattle.vol_nodes.specs.Nodes.{after_ok, names_in}
+use Rattle.vol_serve.specs.Nodes.{after_ok, names_in}
 use Rattle.vol_serve.specs.Attributes.{entry_kind_in}
 use Rattle.vol_serve.specs.Listings.{listed, entries_from, listing_in}
 

@@ -18,9 +18,9 @@ use Rattle.vol_dir.specs.Entries.{entry_in, entry_at, slot_count}
 use Rattle.vol_dir.specs.Names.{Names}
 use Rattle.vol_dir.specs.Tree.{tree}
 use Rattle.vol_dir.specs.Walk.{is_nil}
-use Rattle.vol_nodes.specs.Nodes.{after_ok, names_in}
-use Rattle.vol_nodes.specs.declared.fault.NodeFault.{NodeFault}
-use Rattle.vol_nodes.specs.declared.fault.NodeFault.TheVariants as faults
+use Rattle.vol_serve.specs.Nodes.{after_ok, names_in}
+use Rattle.vol_serve.specs.declared.nodes.fault.NodeFault.{NodeFault}
+use Rattle.vol_serve.specs.declared.nodes.fault.NodeFault.TheVariants as faults
 use Rattle.vol_serve.specs.Answers.{answered, is_change, node_reply, operation_reply, served_reply}
 use Rattle.vol_serve.specs.Attributes.{entry_kind_in}
 use Rattle.vol_serve.specs.Laws.{AreReplied, ListedEntry, ListingsAreWhole, ReadDir, bytes_of, listed_at, listed_in, offset_after}

@@ -17,9 +17,9 @@ use Rattle.vol_layout.specs.declared.geometry.Geometry.{Geometry}
 use Rattle.vol_layout.specs.declared.mode.Kind.{Kind}
 use Rattle.vol_layout.specs.declared.mode.Kind.TheVariants as kinds
 use Rattle.vol_dir.specs.Tree.{Tree, tree}
-use Rattle.vol_nodes.specs.Nodes.{stat_in, look_up, read_in}
-use Rattle.vol_nodes.specs.declared.fault.NodeFault.{NodeFault}
-use Rattle.vol_nodes.specs.declared.fault.NodeFault.TheVariants as nodes
+use Rattle.vol_serve.specs.Nodes.{stat_in, look_up, read_in}
+use Rattle.vol_serve.specs.declared.nodes.fault.NodeFault.{NodeFault}
+use Rattle.vol_serve.specs.declared.nodes.fault.NodeFault.TheVariants as nodes
 use Rattle.vol_serve.specs.Attributes.{attributes_in}
 use Rattle.vol_serve.specs.Errno.{errno}
 use Rattle.vol_serve.specs.Listings.{listing_in}

@@ -8,10 +8,10 @@ use Rattle.vol_layout.specs.declared.mode.Kind.{Kind}
 use Rattle.vol_layout.specs.declared.mode.Kind.TheVariants as kinds
 use Rattle.vol_dir.specs.Tree.{Tree}
 use Rattle.vol_volume.specs.declared.queries.Stat.{Stat}
-use Rattle.vol_nodes.specs.Nodes.{stat_in, special_in}
-use Rattle.vol_nodes.specs.declared.fault.NodeFault.{NodeFault}
-use Rattle.vol_nodes.specs.declared.fault.NodeFault.TheVariants as faults
-use Rattle.vol_nodes.specs.declared.nodes.SpecialFile.{SpecialFile}
+use Rattle.vol_serve.specs.Nodes.{stat_in, special_in}
+use Rattle.vol_serve.specs.declared.nodes.fault.NodeFault.{NodeFault}
+use Rattle.vol_serve.specs.declared.nodes.fault.NodeFault.TheVariants as faults
+use Rattle.vol_serve.specs.declared.nodes.stats.SpecialFile.{SpecialFile}
 
 -- the type bits of a special file: a block special file's or a character special file's (Linux, stat.h: S_IFBLK, S_IFCHR)
 abbrev pub special_type : Option SpecialFile → ℕ

@@ -1,6 +1,6 @@
 -- Error numbers.
 use Rattle.std.specs.Prelude.{ℕ}
-use Rattle.vol_nodes.specs.declared.fault.NodeFault.TheVariants as faults
+use Rattle.vol_serve.specs.declared.nodes.fault.NodeFault.TheVariants as faults
 use Rattle.vol_serve.specs.declared.errno.RequestRefusal.{RequestRefusal}
 use Rattle.vol_serve.specs.declared.errno.RequestRefusal.TheVariants.{Node, ReadOnly, Malformed, Version, Unserved}
 

@@ -11,7 +11,7 @@ use Rattle.vol_dir.specs.Entries.{entry_at, slot_count}
 use Rattle.vol_dir.specs.Names.{Names}
 use Rattle.vol_dir.specs.Tree.{tree}
 use Rattle.vol_dir.specs.Walk.{is_nil}
-use Rattle.vol_nodes.specs.Nodes.{names_in}
+use Rattle.vol_serve.specs.Nodes.{names_in}
 use Rattle.vol_serve.specs.Answers.{operation_reply}
 use Rattle.vol_serve.specs.Attributes.{entry_kind_in}
 use Rattle.vol_serve.specs.NodeNumbers.{i_number}

@@ -6,8 +6,8 @@ use Rattle.vol_archive.specs.Walk.{is_plain}
 use Rattle.vol_layout.specs.declared.geometry.Geometry.{Geometry}
 use Rattle.vol_dir.specs.Entries.{entry_at, slot_count}
 use Rattle.vol_dir.specs.Tree.{tree}
-use Rattle.vol_nodes.specs.Nodes.{after_ok, names_in}
-use Rattle.vol_nodes.specs.declared.fault.NodeFault.{NodeFault}
+use Rattle.vol_serve.specs.Nodes.{after_ok, names_in}
+use Rattle.vol_serve.specs.declared.nodes.fault.NodeFault.{NodeFault}
 use Rattle.vol_serve.specs.Attributes.{entry_kind_in}
 
 -- the entry of slot `slot`, unless its name is empty or has a slash, followed by further entries, in at most `room` bytes: the first entry without

@@ -8,11 +8,11 @@ use crate::errno::{RequestRefusal, errno};
 use crate::memory::Room;
 use crate::node_numbers::i_number;
 use crate::node_replies::reply_of_node;
+use crate::nodes::NodeFault;
 use crate::served::Served;
 use fuse_words::{
     ASYNC_READ, Header, MOST_DATA, Operation, Request, RequestFault, Settings, read_request,
 };
-use vol_nodes::NodeFault;
 
 /// Puts the reply to a request into `room`; returns false if none is sent.
 pub(crate) fn answer(served: &Served<'_>, request: &[u8], room: &mut Room) -> bool

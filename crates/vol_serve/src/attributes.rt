@@ -4,10 +4,10 @@ ghost use Rattle.vol_layout.specs.Geometry.{Fits};
 ghost use Rattle.vol_dir.specs.Tree.{tree};
 ghost use Rattle.vol_serve.specs.Attributes.{type_of, device_of, attributes_of, attributes_in, entry_kind_in};
 
+use crate::nodes::{NodeFault, SpecialFile, special_file, stat};
 use fuse_words::{Attributes, EntryKind};
 use pdp_words::Image;
 use vol_layout::{Geometry, Kind};
-use vol_nodes::{NodeFault, SpecialFile, special_file, stat};
 use vol_volume::Stat;
 
 /// Returns the type bits of a node's mode on Linux (stat.h).

@@ -2,7 +2,7 @@
 ghost use Rattle.std.specs.Prelude.{◌≡◌, ◌<◌};
 ghost use Rattle.vol_serve.specs.Errno.{errno};
 
-use vol_nodes::NodeFault;
+use crate::nodes::NodeFault;
 
 /// The reason why a request was refused.
 #[derive(Clone, Copy)]

@@ -10,6 +10,7 @@ pub mod memory;
 pub mod messages;
 pub mod node_numbers;
 pub mod node_replies;
+pub mod nodes;
 pub mod request_loop;
 mod served;
 pub mod statistics;

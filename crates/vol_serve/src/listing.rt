@@ -7,11 +7,11 @@ ghost use Rattle.vol_serve.specs.Attributes.{entry_kind_in};
 ghost use Rattle.vol_serve.specs.Listings.{listed, listing_in};
 
 use crate::attributes::entry_kind;
+use crate::nodes::{NodeFault, next_name};
 use fuse_words::push_entry;
 use pdp_words::Image;
 use vol_archive::is_plain;
 use vol_layout::{Geometry, Slot};
-use vol_nodes::{NodeFault, next_name};
 
 /// Puts the entries of directory `dir` into `out`, starting at slot `from`, as many as fit in `size` bytes. The offset of each entry is the number of
 /// the next slot.

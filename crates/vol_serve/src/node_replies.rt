@@ -9,11 +9,11 @@ use crate::errno::RequestRefusal;
 use crate::listing::put_entries;
 use crate::memory::Room;
 use crate::node_numbers::node_number;
+use crate::nodes::{NodeFault, look_up, read, stat};
 use crate::served::Served;
 use fuse_words::{CACHE_DIRECTORY, EntryReply, KEEP_CACHE, MOST_DATA, Operation};
 use pdp_words::Image;
 use vol_layout::{Geometry, Kind};
-use vol_nodes::{NodeFault, look_up, read, stat};
 
 /// The number of seconds for which the kernel may keep names and attributes: an hour, as the image never changes.
 const SECONDS: u64 = 3600;

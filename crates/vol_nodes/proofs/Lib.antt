@@ -1,4 +1,0 @@
-pub mod HeldNodes
-pub mod ListedSlots
-pub mod ReadPieces
-pub mod RepliedNodes

@@ -1,5 +1,0 @@
-use Rattle.vol_nodes.proofs.RepliedNodes.{names_lead_as_walks}
-use Rattle.vol_nodes.proofs.laws.names_lead_as_walks.Goals as goal
-
-pub returns : goal.returns
-returns c = names_lead_as_walks

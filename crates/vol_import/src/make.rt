@@ -163,16 +163,18 @@ pub fn unplanned(fault: PlanFault) -> ImportFault
 
 /// The calls of an import.
 #[derive(Drop)]
-struct Planned {
-    /// The calls.
-    calls: Vec<Call>,
-    /// The paths of the members that are left out.
-    left_out: Vec<Bytes>,
+pub struct Planned {
+    /// The calls, in their order.
+    pub calls: Vec<Call>,
+    /// The paths of the members that are left out, in the order of the archive.
+    pub left_out: Vec<Bytes>,
 }
 
-/// Returns the calls that make the members of an archive that the options choose below a path of a volume. Drops the archive after reading its
-/// members.
-fn calls_with(
+/// Returns the calls that make the members of an archive that the options choose below the path `base` of a volume, those of [`plan`], and the paths of
+/// the other members. The fault is the first reason why there are no calls: of the archive, then of the members.
+///
+/// Takes memory twice for the paths of the members, once for their bytes, and for the calls. Drops the archive after reading its members.
+pub fn calls_with(
     alloc: Global,
     volume: &Volume,
     archive: Vec<u8>,

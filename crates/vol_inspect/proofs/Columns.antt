@@ -6,6 +6,7 @@ use Rattle.std.proofs.lemmas.List.{append-nil, append_assoc}
 use Rattle.std.proofs.lemmas.Str.{encode_ascii}
 use Rattle.std.specs.Fmt.{char_count, decimal, format_spec, padded_integral, styled_decimal}
 use Rattle.std.specs.List.{repeat}
+use Rattle.vol_inspect.specs.Pictures.{number_column}
 use Rattle.vol_inspect.specs.Space.{column}
 
 -- a text that is padded on the left has the fill before it, and nothing after it
@@ -19,6 +20,12 @@ pub in_column : (n : ℕ) → styled_decimal (format_spec 32 3 0 10 (2 ^ 64 - 1)
 unfolding padded_integral char_count
 in_column n =
     filled (encode 32) (32 ∷ []) (decimal n) (10 - length (decimal n) - 0 - 0) (10 - length (decimal n)) (encode_ascii 32 (omega arith)) (omega arith)
+
+-- a number formatted in a width of 7 is right-aligned in the column
+pub in_number_column : (n : ℕ) → styled_decimal (format_spec 32 3 0 7 (2 ^ 64 - 1)) n ≡ number_column n
+unfolding padded_integral char_count
+in_number_column n =
+    filled (encode 32) (32 ∷ []) (decimal n) (7 - length (decimal n) - 0 - 0) (7 - length (decimal n)) (encode_ascii 32 (omega arith)) (omega arith)
 
 -- five texts appended one after another are their concatenation
 pub in_turn : (t t1 t2 t3 t4 h a b c f : List ℕ) → t1 ≡ t ++ h → t2 ≡ t1 ++ a → t3 ≡ t2 ++ b → t4 ≡ t3 ++ c

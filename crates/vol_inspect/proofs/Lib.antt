@@ -12,4 +12,6 @@ pub mod Shared
 pub mod LaidOut
 pub mod Named
 pub mod Columns
+pub mod CellLaws
+pub mod NodeUses
 mod LostBlocks

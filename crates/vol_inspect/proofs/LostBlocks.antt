@@ -1,5 +1,5 @@
 -- A data block has no owners if and only if the block report has it as lost.
-use Rattle.std.proofs.Common.{◌≡◌, ◌≢◌, ℕ, zero, suc, ◌+◌, ◌*◌, ◌^◌, ◌<◌, ◌≤◌, ◌-◌, ◌∙◌, ◌==◌, ◌&&◌, ◌||◌, sym, ap, cond, not, Bool, true, false, if◌then◌else◌, nat_le, nat_lt, List, [], ◌∷◌, ◌++◌, map, Option, None, Some, refl, arith}
+use Rattle.std.proofs.Common.{◌≡◌, ℕ, zero, suc, ◌+◌, ◌*◌, ◌^◌, ◌≤◌, ◌-◌, ◌∙◌, ◌==◌, ◌&&◌, ◌||◌, sym, ap, cond, not, Bool, true, false, if◌then◌else◌, nat_le, nat_lt, List, [], ◌∷◌, ◌++◌, map, Option, None, Some, refl, arith}
 use Rattle.std.specs.Prelude.{◌↔◌}
 use Rattle.std.specs.List.{count_by, sum_by, find, flat_map, range_with_len, list_any}
 use Rattle.std.specs.Option.{option_to_list}
@@ -19,7 +19,7 @@ use Rattle.vol_free.specs.FreeWalk.{free_walk}
 use Rattle.vol_free.specs.Walk.{left_after}
 use Rattle.vol_judge.specs.Marks.{blocks_from}
 use Rattle.vol_judge.proofs.FileBlocks.{address_blocks, addresses_from, blocks_by_address}
-use Rattle.vol_reports.specs.Icheck.{one_if, use_count, met_count, is_met, is_lost, is_lost_of}
+use Rattle.vol_reports.specs.Icheck.{one_if, use_count, met_count, is_lost_of}
 use Rattle.vol_inspect.specs.Extents.{single, address_holdings, holdings, holdings_from}
 use Rattle.vol_inspect.specs.Laws.{ShowsLost}
 use Rattle.vol_inspect.specs.Owners.{is_block, naming, owner_by, node_owners, listed_in, holder, or_lost, list_owner, owners_of}

@@ -1,5 +1,5 @@
 -- Laws of the reports on an i-node and on a block, as statements.
-use Rattle.std.specs.Prelude.{◌≡◌, ◌↔◌, ℕ, ◌+◌, ◌==◌, true, if◌then◌else◌, List, [], ◌∷◌, map}
+use Rattle.std.specs.Prelude.{◌≡◌, ◌↔◌, ◌⊎◌, ℕ, ◌+◌, ◌==◌, ◌≤◌, true, if◌then◌else◌, List, [], ◌∷◌, Option, map}
 use Rattle.std.specs.List.{flat_map, range_with_len}
 use Rattle.vol_layout.specs.Geometry.{Fits, in_zone}
 use Rattle.vol_layout.specs.BlockMaps.{levels_below, places}
@@ -7,10 +7,14 @@ use Rattle.vol_layout.specs.BlockPointers.{form_at, named}
 use Rattle.vol_layout.specs.declared.geometry.Geometry.{Geometry}
 use Rattle.vol_file.specs.Clears.{first_block}
 use Rattle.vol_reports.specs.Icheck.{is_lost}
+use Rattle.vol_inspect.specs.Cells.{cell_of, use_count}
 use Rattle.vol_inspect.specs.Extents.{single, extents_of}
 use Rattle.vol_inspect.specs.Owners.{owners_of}
+use Rattle.vol_inspect.specs.declared.cell_groups.Cell.TheVariants as cells
 use Rattle.vol_inspect.specs.declared.extent.Extent.{Extent}
 use Rattle.vol_inspect.specs.declared.owners.Owner.TheVariants as owners
+use Rattle.vol_inspect.specs.declared.uses.Use.{Use}
+use Rattle.vol_inspect.specs.declared.uses.Use.TheVariants as uses
 
 -- the blocks of an extent, one by one (this project)
 abbrev pub laid_out : Extent → List Extent
@@ -34,3 +38,13 @@ ShowsPlaces = (g : Geometry) (image : List ℕ) (i : ℕ) → Fits g image
 abbrev pub ShowsLost : Type 0
 ShowsLost = (g : Geometry) (image : List ℕ) (b : ℕ) → Fits g image → in_zone g b ≡ true
     → (owners_of g image b ≡ owners.Lost ∷ []) ↔ (is_lost g image b ≡ true)
+
+-- a cell that shows a use has no more blocks of any other use (this project)
+abbrev pub NoUseHasMore : Type 0
+NoUseHasMore = (blocks : List (Option Use)) (shown u : Use) → cell_of blocks ≡ cells.Of shown → use_count u blocks ≤ use_count shown blocks
+
+-- a cell that shows a use has no block that is lost, nor one that is named twice, unless that is the use (this project)
+abbrev pub HidesNoFault : Type 0
+HidesNoFault =
+    (blocks : List (Option Use)) (shown : Use) → cell_of blocks ≡ cells.Of shown
+    → ((use_count uses.Lost blocks ≡ 0) ⊎ (shown ≡ uses.Lost)) × ((use_count uses.Twice blocks ≡ 0) ⊎ (shown ≡ uses.Twice))

@@ -18,5 +18,8 @@ pub mod Holders
 pub mod Owners
 pub mod OwnerTexts
 pub mod Uses
+pub mod NodeUses
+pub mod Cells
+pub mod Legend
 pub mod Pictures
 pub mod Svg

@@ -1,73 +1,27 @@
-//! Pictures of the uses of blocks: as text for a terminal, and as SVG.
-ghost use Rattle.std.specs.Prelude.{◌≡◌, ◌≤◌, ◌++◌, IfOk, OnOk};
+//! Pictures of the uses of blocks as text for a terminal.
+ghost use Rattle.std.specs.Prelude.{◌≡◌, ◌≤◌, ◌<◌, ◌*◌, ◌^◌, ◌++◌, ℕ, IfOk, OnOk, length};
 ghost use Rattle.std.specs.String.{string_bytes};
 ghost use Rattle.vol_inspect.specs.Pictures.{
-  letter,
-  name,
-  colour,
+  cell_colour,
+  cell_letter,
   cell_text,
-  row_cell,
-  rows_text,
+  cells_drawing,
+  colour,
+  drawing,
   legend_line,
   legend_lines,
-  legend_text,
-  drawing,
+  number_column,
+  row_cell,
+  row_head,
+  rows_text,
 };
 
+use crate::cell_groups::{Cell, cells};
+use crate::legend::{legend, legend_count};
 use crate::uses::Use;
 use std::alloc::{AllocError, Global};
 
-/// All uses, in the order of the legend.
-pub const ALL: [Use; 10] = [
-    Use::Boot,
-    Use::SuperBlock,
-    Use::IList,
-    Use::Directory,
-    Use::File,
-    Use::Pointer,
-    Use::Free,
-    Use::Chain,
-    Use::Lost,
-    Use::Twice,
-];
-
 impl Use {
-    /// Returns the letter of a cell.
-    pub fn letter(self) -> &'static str
-        ensures { result.now ≡ letter self }
-    {
-        match self {
-            Use::Boot => "B",
-            Use::SuperBlock => "S",
-            Use::IList => "i",
-            Use::Directory => "d",
-            Use::File => "f",
-            Use::Pointer => "p",
-            Use::Free => "o",
-            Use::Chain => "c",
-            Use::Lost => "L",
-            Use::Twice => "T",
-        }
-    }
-
-    /// Returns the name of the use.
-    pub fn name(self) -> &'static str
-        ensures { result.now ≡ name self }
-    {
-        match self {
-            Use::Boot => "boot",
-            Use::SuperBlock => "super-block",
-            Use::IList => "i-list",
-            Use::Directory => "directory",
-            Use::File => "file",
-            Use::Pointer => "pointer",
-            Use::Free => "free",
-            Use::Chain => "chain",
-            Use::Lost => "lost",
-            Use::Twice => "named twice",
-        }
-    }
-
     /// Returns the number of the background colour on a terminal.
     fn colour(self) -> u8
         ensures { result ≡ colour self }
@@ -87,92 +41,166 @@ impl Use {
     }
 }
 
-/// Draws cells in rows of `width` letters, and a legend. With colours, each letter is between the colour codes of a terminal.
+impl Cell {
+    /// Returns the number of the background colour on a terminal.
+    fn colour(self) -> u8
+        ensures { result ≡ cell_colour self }
+    {
+        match self {
+            Cell::Blank => 49,
+            Cell::Of(usage) => usage.colour(),
+            Cell::Faulty => 41,
+        }
+    }
+
+    /// Returns the letter of a cell.
+    fn letter(self) -> &'static str
+        ensures { result.now ≡ cell_letter self }
+    {
+        match self {
+            Cell::Blank => ".",
+            Cell::Of(usage) => usage.letter(),
+            Cell::Faulty => "!",
+        }
+    }
+}
+
+/// Draws blocks, `each` in a cell, and a legend with the number of blocks of each use. A block without a use isn't shown. A row has `width` cells, after
+/// the number of its first block. With colours, each letter is between the colour codes of a terminal.
 ///
-/// Takes time and memory in proportion to the length of the text.
+/// Takes memory for the cells and the text, and time in proportion to the number of blocks.
 pub fn draw(
     alloc: Global,
-    cells: &[Use],
+    blocks: &[Option<Use>],
+    each: usize,
     width: usize,
     coloured: bool,
 ) -> Result<String, AllocError>
-    requires { 1 ≤ width }
-    ensures { IfOk result (λ text. string_bytes text ≡ drawing coloured width cells.now) }
+    requires some { 1 ≤ each }
+    requires narrow { each < 2 ^ 32 }
+    requires wide { 1 ≤ width }
+    ensures { IfOk result (λ text. string_bytes text ≡ drawing coloured width each blocks.now) }
 {
+    let cells = cells(alloc, blocks, each)?;
+    draw_cells(alloc, blocks, &cells, each, width, coloured)
+}
+
+/// Draws these cells of some blocks, and the legend.
+fn draw_cells(
+    alloc: Global,
+    blocks: &[Option<Use>],
+    cells: &[Cell],
+    each: usize,
+    width: usize,
+    coloured: bool,
+) -> Result<String, AllocError>
+    requires wide { 1 ≤ width }
+    requires places { (k : ℕ) → k < length cells.now → k * each < length blocks.now }
+    ensures { IfOk result (λ text. string_bytes text ≡ cells_drawing coloured width each blocks.now cells.now) }
+{
+    let kinds = legend(alloc, blocks, cells)?;
     let mut text = String::new(alloc);
-    push_rows(&mut text, cells, width, coloured)?;
+    push_rows(&mut text, cells, each, width, coloured)?;
     text.push_str("\n\n")?;
-    push_legend(&mut text, coloured)?;
+    push_legend_lines(&mut text, blocks, cells, &kinds, coloured)?;
     Ok(text)
 }
 
 /// Appends the rows.
 fn push_rows(
     text: &mut String,
-    cells: &[Use],
+    cells: &[Cell],
+    each: usize,
     width: usize,
     coloured: bool,
 ) -> Result<(), AllocError>
-    requires { 1 ≤ width }
-    ensures { OnOk result (string_bytes text.new ≡ string_bytes text.old ++ rows_text coloured width cells.now) }
+    requires wide { 1 ≤ width }
+    requires places { (k : ℕ) → k < length cells.now → k * each < 2 ^ 64 }
+    ensures { OnOk result (string_bytes text.new ≡ string_bytes text.old ++ rows_text coloured width each cells.now) }
 {
     for k in 0..cells.len() {
-        push_row_cell(text, cells[k], k, width, coloured)?;
+        push_row_cell(text, cells[k], k, each, width, coloured)?;
     }
     Ok(())
 }
 
-/// Appends cell `k`, on a new line if it begins a row other than the first.
+/// Appends cell `k`, after the beginning of a row if it is a row's first one.
 fn push_row_cell(
     text: &mut String,
-    one: Use,
+    cell: Cell,
     k: usize,
+    each: usize,
     width: usize,
     coloured: bool,
 ) -> Result<(), AllocError>
-    requires { 1 ≤ width }
-    ensures { OnOk result (string_bytes text.new ≡ string_bytes text.old ++ row_cell coloured width one k) }
+    requires wide { 1 ≤ width }
+    requires place { k * each < 2 ^ 64 }
+    ensures { OnOk result (string_bytes text.new ≡ string_bytes text.old ++ row_cell coloured width each cell k) }
 {
-    if k > 0 && k % width == 0 {
-        text.push_str("\n")?;
+    if k % width == 0 {
+        push_row_head(text, k * each)?;
     }
-    push_cell(text, one, coloured)
+    push_cell(text, cell, coloured)
+}
+
+/// Appends the beginning of a row: a newline, and the number of its first block.
+fn push_row_head(text: &mut String, first: usize) -> Result<(), AllocError>
+    ensures { OnOk result (string_bytes text.new ≡ string_bytes text.old ++ row_head first) }
+{
+    text.push_str("\n")?;
+    push_number(text, first)?;
+    text.push_str(" ")?;
+    Ok(())
+}
+
+/// Appends a number, right-aligned in 7 columns.
+fn push_number(text: &mut String, n: usize) -> Result<(), AllocError>
+    ensures { OnOk result (string_bytes text.new ≡ string_bytes text.old ++ number_column n) }
+{
+    write!(text, "{n:>7}")
 }
 
 /// Appends a cell.
-fn push_cell(text: &mut String, one: Use, coloured: bool) -> Result<(), AllocError>
-    ensures { OnOk result (string_bytes text.new ≡ string_bytes text.old ++ cell_text coloured one) }
+fn push_cell(text: &mut String, cell: Cell, coloured: bool) -> Result<(), AllocError>
+    ensures { OnOk result (string_bytes text.new ≡ string_bytes text.old ++ cell_text coloured cell) }
 {
-    let letter = one.letter();
+    let letter = cell.letter();
     if !coloured {
         return write!(text, "{letter}");
     }
-    let colour = one.colour();
+    let colour = cell.colour();
     write!(text, "\x1b[{colour}m{letter}\x1b[0m")
 }
 
-/// Appends the legend: a line for each use.
-fn push_legend(text: &mut String, coloured: bool) -> Result<(), AllocError>
-    ensures { OnOk result (string_bytes text.new ≡ string_bytes text.old ++ legend_text coloured) }
+/// Appends the lines of these kinds of cells in the legend.
+fn push_legend_lines(
+    text: &mut String,
+    blocks: &[Option<Use>],
+    cells: &[Cell],
+    kinds: &[Cell],
+    coloured: bool,
+) -> Result<(), AllocError>
+    ensures { OnOk result (string_bytes text.new ≡ string_bytes text.old ++ legend_lines coloured blocks.now cells.now kinds.now) }
 {
-    push_legend_lines(text, &ALL, coloured)
-}
-
-/// Appends the lines of these uses in the legend.
-fn push_legend_lines(text: &mut String, all: &[Use], coloured: bool) -> Result<(), AllocError>
-    ensures { OnOk result (string_bytes text.new ≡ string_bytes text.old ++ legend_lines coloured all.now) }
-{
-    for one in all {
-        push_legend_line(text, *one, coloured)?;
+    for one in kinds {
+        push_legend_line(text, blocks, cells, *one, coloured)?;
     }
     Ok(())
 }
 
-/// Appends the line of a use in the legend.
-fn push_legend_line(text: &mut String, one: Use, coloured: bool) -> Result<(), AllocError>
-    ensures { OnOk result (string_bytes text.new ≡ string_bytes text.old ++ legend_line coloured one) }
+/// Appends the line of a kind of cell in the legend.
+fn push_legend_line(
+    text: &mut String,
+    blocks: &[Option<Use>],
+    cells: &[Cell],
+    kind: Cell,
+    coloured: bool,
+) -> Result<(), AllocError>
+    ensures { OnOk result (string_bytes text.new ≡ string_bytes text.old ++ legend_line coloured blocks.now cells.now kind) }
 {
-    push_cell(text, one, coloured)?;
-    let name = one.name();
-    write!(text, " {name}\n")
+    push_number(text, legend_count(blocks, cells, kind))?;
+    text.push_str(" ")?;
+    push_cell(text, kind, coloured)?;
+    let label = kind.label();
+    write!(text, " {label}\n")
 }

@@ -35,7 +35,7 @@ fn count_from(counts: &mut [u8], image: &Image, geometry: &Geometry, level: u8, 
 }
 
 /// Counts the positions in the block map of i-node `i`.
-fn count_node(counts: &mut [u8], image: &Image, geometry: &Geometry, i: u16)
+pub(crate) fn count_node(counts: &mut [u8], image: &Image, geometry: &Geometry, i: u16)
     requires fits { Fits geometry.now image.now }
     requires first { 1 ≤ i }
     requires last { i ≤ geometry.now.last_inode }

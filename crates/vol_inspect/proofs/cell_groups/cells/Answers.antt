@@ -1,49 +1,42 @@
-use Rattle.std.proofs.Common.{◌≡◌, ◌≢◌, ℕ, suc, ◌+◌, ◌-◌, ◌<◌, ◌++◌, ◌∷◌, [], List, length, sym, ap, arith, ◌∙◌, drop, get_or, append_assoc, add-one, drop-cons}
-use Rattle.std.proofs.lemmas.List.{drop_all}
-use Rattle.vol_inspect.specs.Pictures.{cells, cells_from, more_telling}
+use Rattle.std.proofs.Common.{ℕ, ◌≡◌, ◌++◌, ◌∷◌, [], List, Option, ap, sym, arith, ◌∙◌, length, map}
+use Rattle.std.specs.List.{range_with_len}
+use Rattle.std.proofs.lemmas.List.FromFn.{length-map-range_with_len, map-range_with_len_more}
+use Rattle.vol_inspect.specs.Cells.{cell_count, cell_of, piece}
+use Rattle.vol_inspect.specs.declared.cell_groups.Cell.{Cell}
 use Rattle.vol_inspect.specs.declared.uses.Use.{Use}
-use Rattle.vol_inspect.specs.declared.uses.Use.TheVariants as uses
-use Rattle.vol_inspect.proofs.cell_groups.cells.Goals.{then-left-eq0+in_ok-push, else-left-eq0}
+use Rattle.vol_inspect.proofs.CellLaws.{cell_within, cells_few}
 use Rattle.vol_inspect.proofs.cell_groups.cells.Goals as goal
 
--- the uses that are left begin with the one at index `i`
-split : (us : List Use) (i : ℕ) → i < length us → drop i us ≡ get_or us i uses.Boot ∷ drop (i + 1) us
-split us i low = drop-cons us i uses.Boot low ∙ ap (λ n. get_or us i uses.Boot ∷ drop n us) (sym (add-one i))
+pub piece-requires : goal.piece-requires
+piece-requires c =
+    cell_within c.args.each (length c.args.blocks.now) c.loop-k.k c.requires.some (omega (arith, c.loop-k-test.true, c.loop-k.auto.k-end, c.cell_count-k-end.ensures))
 
--- a full cell is finished, and the next use starts a new cell
-full : (blocks left : ℕ) (best u : Use) (us : List Use) → left ≡ 0 → cells_from blocks left best (u ∷ us) ≡ best ∷ cells_from blocks (blocks - 1) u us
-unfolding cells_from
-full blocks left best u us none = ap (λ n. cells_from blocks n best (u ∷ us)) none
+pub loop-k-preserved : goal.loop-k-preserved
+loop-k-preserved c =
+    let k = c.loop-k.k in
+    let f : ℕ → Cell = λ k. cell_of (piece c.args.each c.args.blocks.now k) in
+    let is : c.cell_of.result ≡ f k = c.cell_of.ensures ∙ ap (λ (bs : List (Option Use)). cell_of bs) c.piece.ensures in
+    c.in_ok-push.ensures.items
+    ∙ (ap (λ xs. xs ++ c.cell_of.result ∷ []) c.loop-k.invariant
+    ∙ (ap (λ (x : Cell). map f (range_with_len 0 k) ++ x ∷ []) is ∙ sym (map-range_with_len_more f 0 k k (omega arith))))
 
--- a cell that isn't full takes one more use
-takes : (blocks left : ℕ) (best u : Use) (us : List Use) → left ≢ 0 → cells_from blocks left best (u ∷ us) ≡ cells_from blocks (left - 1) (more_telling best u) us
-unfolding cells_from
-takes blocks left best u us some =
-    let size : left ≡ suc (left - 1) = omega (arith, some) in ap (λ n. cells_from blocks n best (u ∷ us)) size
+pub returns-clause-all : goal.returns-clause-all
+returns-clause-all c =
+    let end : c.loop-k.k ≡ cell_count c.args.each (length c.args.blocks.now) =
+    omega (arith, c.loop-k-test.false, c.loop-k.auto.k-end, c.cell_count-k-end.ensures) in
+    c.loop-k.invariant ∙ ap (λ n. map (λ k. cell_of (piece c.args.each c.args.blocks.now k)) (range_with_len 0 n)) end
 
-pub loop-one-preserved : goal.loop-one-preserved
-loop-one-preserved c =
-    let i = c.loop-one.one-index in
-    let us = c.args.uses.now in
-    let later = drop (i + 1) us in
-    let u = get_or us i uses.Boot in
-    let was : c.loop-one.found.items ++ cells_from c.args.blocks c.loop-one.left c.loop-one.best (u ∷ later) ≡ cells c.args.blocks us =
-    ap (λ xs. c.loop-one.found.items ++ cells_from c.args.blocks c.loop-one.left c.loop-one.best xs) (sym (split us i c.loop-one-test.true)) ∙ c.loop-one.invariant in
-    elim c.if-left-eq0.branch [
-      | then-left-eq0+in_ok-push w ↦
-          (λ k. (w.found-is k).items ++ cells_from c.args.blocks (w.left-is k) (w.best-is k) later)
-          ∙ (ap (λ xs. xs ++ cells_from c.args.blocks (c.args.blocks - 1) u later) w.in_ok-push.ensures.items
-          ∙ (append_assoc c.loop-one.found.items (c.loop-one.best ∷ []) (cells_from c.args.blocks (c.args.blocks - 1) u later)
-          ∙ (ap (λ xs. c.loop-one.found.items ++ xs) (sym (full c.args.blocks c.loop-one.left c.loop-one.best u later w.if-left-eq0.true)) ∙ was)))
-      | else-left-eq0 w ↦
-          (λ k. (w.found-is k).items ++ cells_from c.args.blocks (w.left-is k) (w.best-is k) later)
-          ∙ (ap (λ x. c.loop-one.found.items ++ cells_from c.args.blocks (c.loop-one.left - 1) x later) w.or_more_telling-best.ensures
-          ∙ (ap (λ xs. c.loop-one.found.items ++ xs) (sym (takes c.args.blocks c.loop-one.left c.loop-one.best u later w.if-left-eq0.false)) ∙ was))
-    ]
+-- the number of the cells
+count_is : (f : ℕ → Cell) (each n : ℕ) (found : List Cell) → found ≡ map f (range_with_len 0 (cell_count each n)) → length found ≡ cell_count each n
+count_is f each n found is = ap (λ (xs : List Cell). length xs) is ∙ length-map-range_with_len f 0 (cell_count each n)
 
-pub returns : goal.returns
-unfolding cells_from
-returns c =
-    let none : drop c.loop-one.one-index c.args.uses.now ≡ [] = drop_all c.loop-one.one-index c.args.uses.now (omega arith) in
-    c.in_ok-push-2.ensures.items
-    ∙ (ap (λ xs. c.loop-one.found.items ++ cells_from c.args.blocks c.loop-one.left c.loop-one.best xs) (sym none) ∙ c.loop-one.invariant)
+pub returns-clause-places : goal.returns-clause-places
+returns-clause-places c = λ k low.
+    let count = count_is _ c.args.each (length c.args.blocks.now) c.loop-k.found.items (returns-clause-all c) in
+    cell_within c.args.each (length c.args.blocks.now) k c.requires.some (omega (arith, low, count))
+
+pub returns-clause-few : goal.returns-clause-few
+returns-clause-few c =
+    let count = count_is _ c.args.each (length c.args.blocks.now) c.loop-k.found.items (returns-clause-all c) in
+    let few = cells_few c.args.each (length c.args.blocks.now) c.requires.some in
+    omega (arith, count, few)

@@ -1,7 +1,8 @@
-use Rattle.std.proofs.Common.{◌≡◌, ◌++◌, drop}
-use Rattle.vol_inspect.specs.Pictures.{cells, cells_from}
+use Rattle.std.proofs.Common.{◌≡◌, map}
+use Rattle.std.specs.List.{range_with_len}
+use Rattle.vol_inspect.specs.Cells.{cell_of, piece}
 use Rattle.vol_inspect.proofs.cell_groups.cells.Given as goal
 
--- Invariant: the cells so far, followed by the cells of the blocks that are left, are all cells.
-abbrev pub invariant-loop-one : goal.invariant-loop-one
-invariant-loop-one l = l.found.items ++ cells_from l.blocks l.left l.best (drop l.one-index l.uses) ≡ cells l.blocks l.uses
+-- Invariant: the cells before `k` have been added.
+abbrev pub invariant-loop-k : goal.invariant-loop-k
+invariant-loop-k l = l.found.items ≡ map (λ k. cell_of (piece l.each l.blocks k)) (range_with_len 0 l.k)

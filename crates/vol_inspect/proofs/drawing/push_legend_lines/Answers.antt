@@ -9,4 +9,5 @@ pub returns : goal.returns
 unfolding legend_lines
 returns c =
     c.loop-one.invariant
-    ∙ ap (λ us. string_bytes c.args.text.now ++ flat_map (legend_line c.args.coloured) us) (take_all c.loop-one.one-index c.args.all.now (omega arith))
+    ∙ ap (λ us. string_bytes c.args.text.now ++ flat_map (legend_line c.args.coloured c.args.blocks.now c.args.cells.now) us)
+    (take_all c.loop-one.one-index c.args.kinds.now (omega arith))

@@ -6,4 +6,5 @@ use Rattle.vol_inspect.proofs.drawing.push_legend_lines.Given as goal
 
 -- Invariant: the lines so far have been added.
 abbrev pub invariant-loop-one : goal.invariant-loop-one
-invariant-loop-one l = string_bytes l.text ≡ string_bytes l.initial.text ++ flat_map (legend_line l.coloured) (take l.one-index l.all)
+invariant-loop-one l =
+    string_bytes l.text ≡ string_bytes l.initial.text ++ flat_map (legend_line l.coloured l.blocks l.cells) (take l.one-index l.kinds)

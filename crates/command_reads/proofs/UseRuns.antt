@@ -1,7 +1,7 @@
 -- Runs of blocks with one use.
 use Rattle.std.proofs.Common.{◌≡◌, ◌∙◌, ap, sym, Bool, true, false, if◌then◌else◌, List, [], ◌∷◌, ◌++◌, append_assoc, refl}
 use Rattle.std.specs.Str.{bytes_eq}
-use Rattle.vol_inspect.specs.Pictures.{name}
+use Rattle.vol_inspect.specs.Legend.{name}
 use Rattle.vol_inspect.specs.declared.uses.Use.{Use}
 use Rattle.command_reads.specs.MapJson.{longer, next, runs_from}
 use Rattle.command_reads.specs.declared.map_json.UseRun.{UseRun}

@@ -9,7 +9,7 @@ use Rattle.command_reads.specs.Export.{Exports}
 use Rattle.command_reads.specs.Free.{IsChainFault, IsChainText}
 use Rattle.command_reads.specs.Find.{AreFound}
 use Rattle.command_reads.specs.Ls.{IsListing, question_of}
-use Rattle.command_reads.specs.Map.{IsMap, IsMapFault}
+use Rattle.command_reads.specs.Map.{IsMap, IsMapFault, IsPictureFault}
 use Rattle.command_reads.specs.MapJson.{AreUses}
 use Rattle.command_reads.specs.Inode.{found}
 use Rattle.command_reads.specs.Node.{number_of}
@@ -35,7 +35,8 @@ seen edition image screen (looks.Find path name lost form) =
 seen edition image screen (looks.Inode node form) = found edition image form (number_of edition image node)
 seen edition image screen (looks.Super form) = plainly (IsSuperText edition image parts.Fields form) (IsSuperFault edition image)
 seen edition image screen (looks.Df form) = plainly (IsSuperText edition image parts.Space form) (IsSuperFault edition image)
-seen edition image screen (looks.Map picture) = plainly (IsMap edition image screen picture) (IsMapFault edition image)
+seen edition image screen (looks.Map picture file) =
+    plainly (IsMap edition image screen picture (option_map (λ word. word.now) file)) (IsPictureFault edition image (option_map (λ word. word.now) file))
 seen edition image screen looks.Uses = plainly (AreUses edition image) (IsMapFault edition image)
 seen edition image screen (looks.Check graded form) = checked edition image graded form
 seen edition image screen (looks.List path listing) =

@@ -4,7 +4,7 @@ use Rattle.std.specs.Str.{bytes_eq}
 use Rattle.serde_json.specs.Data.{Data, array, member, no_members, object, string}
 use Rattle.serde_json.specs.View.{items_of}
 use Rattle.serde_json.specs.Written.{compact_text}
-use Rattle.vol_inspect.specs.Pictures.{name}
+use Rattle.vol_inspect.specs.Legend.{name}
 use Rattle.vol_inspect.specs.declared.uses.Use.{Use}
 use Rattle.vol_inspect.specs.declared.uses.Use.TheVariants as uses
 use Rattle.vol_layout.specs.Geometry.{geometry_read}

@@ -101,7 +101,9 @@ fn show<O: Sink>(
         Look::Df { form } => {
             plain_string(super_text(alloc, edition, &image, SuperPart::Space, form))
         }
-        Look::Map { picture } => plain_string(map_text(alloc, edition, &image, picture, screen)),
+        Look::Map { picture, file } => plain_string(map_text(
+            alloc, edition, &image, picture, file, screen,
+        )),
         Look::Check { graded, form } => check(alloc, edition, &image, graded, form),
         Look::List { path, listing } => {
             plain(list_image(alloc, edition, &image, path, listing, screen))

@@ -1,6 +1,6 @@
 use Rattle.std.proofs.Common.{◌≡◌, ◌∙◌, ◌++◌, ◌∷◌, [], List, ap, sym, true, false}
 use Rattle.std.specs.Str.{bytes_eq}
-use Rattle.vol_inspect.specs.Pictures.{name}
+use Rattle.vol_inspect.specs.Legend.{name}
 use Rattle.command_reads.specs.MapJson.{runs_from}
 use Rattle.command_reads.specs.declared.map_json.UseRun.{UseRun}
 use Rattle.command_reads.proofs.UseRuns.{taken_other, taken_same}

@@ -1,5 +1,5 @@
--- Words that ask for the uses of blocks both as a picture for a browser and as JSON.
-use Rattle.std.proofs.Common.{◌≡◌, ◌∙◌, ℕ, Option, Bool, true, false, true≢false, codes, sym, ap}
+-- Words that ask for the uses of blocks as JSON, and as a picture for a browser or of one file.
+use Rattle.std.proofs.Common.{◌≡◌, ◌≢◌, ◌∙◌, ℕ, Option, None, Bool, true, false, true≢false, codes, slice_get, sym, ap}
 use Rattle.command_words.specs.Invocations.{AsksForNothing, IsGiven, Words, is_set, verb_of}
 use Rattle.command_words.specs.declared.invocation.Copying.TheVariants as copies
 use Rattle.command_words.specs.declared.invocation.Invocation.{Invocation}
@@ -20,15 +20,32 @@ is_map _ = false
 draws : (clock : Option ℕ) (given : Words) (invocation : Invocation) → is_map (verb_of invocation) ≡ true → IsGiven clock given invocation
     → is_set (given (codes "json")) ≡ true → is_set (given (codes "svg")) ≡ true → ⊥
 unfolding is_map
-draws clock given (invocations.Look volume (looks.Map picture)) drawn is json svg = true≢false (sym json ∙ is.1.1)
+draws clock given (invocations.Look volume (looks.Map picture file)) drawn is json svg = true≢false (sym json ∙ is.1.1)
 draws clock given (invocations.Look volume looks.Uses) drawn is json svg = true≢false (sym svg ∙ is.1.1)
 draws clock given (invocations.Change volume (changes.Put p file keep now) trace) drawn is json svg = absurd (true≢false (sym drawn))
 draws clock given (invocations.Copy volume (copies.Put directory files keep now trace)) drawn is json svg = absurd (true≢false (sym drawn))
 draws clock given (invocations.Work volume (works.Check checkers.Blocks workers form)) drawn is json svg = absurd (true≢false (sym drawn))
 draws clock given invocation drawn is json svg = absurd (true≢false (sym drawn))
 
+-- no invocation of `map` has JSON of one file's blocks
+shows_file : (clock : Option ℕ) (given : Words) (invocation : Invocation) → is_map (verb_of invocation) ≡ true → IsGiven clock given invocation
+    → is_set (given (codes "json")) ≡ true → slice_get (given (codes "file")) 0 ≢ None → ⊥
+unfolding is_map
+shows_file clock given (invocations.Look volume (looks.Map picture word)) drawn is json file = true≢false (sym json ∙ is.1.1)
+shows_file clock given (invocations.Look volume looks.Uses) drawn is json file = file is.1.2
+shows_file clock given (invocations.Change volume (changes.Put p word keep now) trace) drawn is json file = absurd (true≢false (sym drawn))
+shows_file clock given (invocations.Copy volume (copies.Put directory files keep now trace)) drawn is json file = absurd (true≢false (sym drawn))
+shows_file clock given (invocations.Work volume (works.Check checkers.Blocks workers form)) drawn is json file = absurd (true≢false (sym drawn))
+shows_file clock given invocation drawn is json file = absurd (true≢false (sym drawn))
+
 -- if `--json` and `--svg` are given, `map` has no invocation
 pub picture_as_json : (clock : Option ℕ) (given : Words) → is_set (given (codes "json")) ≡ true → is_set (given (codes "svg")) ≡ true
     → AsksForNothing clock verbs.Map given
 unfolding AsksForNothing is_map
 picture_as_json clock given json svg = λ invocation asks. draws clock given invocation (sym (ap is_map asks.0)) asks.1 json svg
+
+-- if `--json` and `--file` are given, `map` has no invocation
+pub file_as_json : (clock : Option ℕ) (given : Words) → is_set (given (codes "json")) ≡ true → slice_get (given (codes "file")) 0 ≢ None
+    → AsksForNothing clock verbs.Map given
+unfolding AsksForNothing is_map
+file_as_json clock given json file = λ invocation asks. shows_file clock given invocation (sym (ap is_map asks.0)) asks.1 json file

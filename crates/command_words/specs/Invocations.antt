@@ -219,7 +219,7 @@ look_verb (looks.Block block form) = verbs.Block
 look_verb (looks.Dump target radix) = verbs.Dump
 look_verb (looks.Df form) = verbs.Df
 look_verb (looks.Find path name lost form) = verbs.Find
-look_verb (looks.Map picture) = verbs.Map
+look_verb (looks.Map picture file) = verbs.Map
 look_verb looks.Uses = verbs.Map
 look_verb (looks.Check graded form) = verbs.Check
 look_verb (looks.List path listing) = verbs.Ls
@@ -433,8 +433,10 @@ IsLookGiven given (looks.Dump target radix) =
 IsLookGiven given (looks.Df form) = IsFormGiven given form
 IsLookGiven given (looks.Find path name lost form) = (path.now ≡ the_word given (codes "PATH"))
     × (option_map (λ word. word.now) name ≡ slice_get (given (codes "name")) 0) × (lost ≡ is_set (given (codes "lost"))) × IsFormGiven given form
-IsLookGiven given (looks.Map picture) = IsPictureGiven given picture × (is_set (given (codes "json")) ≡ false)
-IsLookGiven given looks.Uses = (is_set (given (codes "json")) ≡ true) × (is_set (given (codes "svg")) ≡ false)
+IsLookGiven given (looks.Map picture file) = IsPictureGiven given picture × (is_set (given (codes "json")) ≡ false)
+    × (option_map (λ word. word.now) file ≡ slice_get (given (codes "file")) 0)
+IsLookGiven given looks.Uses =
+    (is_set (given (codes "json")) ≡ true) × (is_set (given (codes "svg")) ≡ false) × (slice_get (given (codes "file")) 0 ≡ None)
 IsLookGiven given (looks.Check graded form) = (graded ≡ is_set (given (codes "status"))) × IsFormGiven given form
 IsLookGiven given (looks.List path listing) = (path.now ≡ the_word given (codes "PATH")) × AreLinesGiven given listing.lines
     × IsDepthGiven given listing.depth × (is_set (given (codes "slots")) ≡ false)

@@ -76,6 +76,8 @@ pub enum ValueName {
     Map,
     /// A block of a pack.
     Block,
+    /// A file or a directory of a volume.
+    Path,
 }
 
 impl ValueName {
@@ -90,6 +92,7 @@ impl ValueName {
             ValueName::Rescue => "FILE",
             ValueName::Map => "MAPFILE",
             ValueName::Block => "BLOCK",
+            ValueName::Path => "PATH",
         }
     }
 }

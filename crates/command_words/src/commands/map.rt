@@ -1,12 +1,12 @@
 //! The command `map`.
-ghost use Rattle.std.specs.Prelude.{◌≡◌, false, true, IfErr, IfOk, codes};
+ghost use Rattle.std.specs.Prelude.{◌≡◌, ◌≢◌, false, true, None, IfErr, IfOk, codes, slice_get};
 ghost use Rattle.command_words.specs.Invocations.{AsksFor, AsksForNothing, IsPictureGiven, TellsOf, is_set};
 ghost use Rattle.command_words.specs.declared.verbs.Verb.TheVariants as verbs;
 
 use crate::fault::{Said, WordFault, WrongWord};
 use crate::given::{Given, flag_in};
 use crate::invocation::Invocation;
-use crate::parameters::{AT, EDITION, IMAGE, JSON, Need, Parameter, WordKind};
+use crate::parameters::{AT, EDITION, IMAGE, JSON, Need, Parameter, ValueName, WordKind};
 use crate::read_words::volume_in;
 use command_reads::{Look, Picture};
 use std::alloc::Global;
@@ -19,14 +19,22 @@ pub(crate) const MORE: &str = "\
 Examples:
   unixvol map 7 disk.img
   unixvol map --svg 7 disk.img > disk.svg
+  unixvol map --file /etc/passwd 7 disk.img
   unixvol map --json 7 disk.img | jq '.map[] | select(.use == \"lost\")'
 
-Each block is drawn as a letter, with a legend below. In a large volume one letter stands for several blocks, and
-shows the first of these uses that one of them has: named twice, lost, super-block, boot, i-list, directory,
-pointer (an indirect block), file, chain (a block that continues the free list), free.
+Each block is drawn as a letter. A row begins with the number of its first block, and the legend below has the
+number of blocks of each use. In a large volume one letter stands for several blocks, and shows the use of most of
+them; if several uses have as many, it is the first of these: named twice, lost, super-block, boot, i-list,
+directory, pointer (an indirect block), file, chain (a block that continues the free list), free. It is `!` if some
+of the blocks are lost or named twice, but most aren't.
 
-On a terminal the letters have colours, unless the variable NO_COLOR is not empty or TERM is `dumb`, and a row has
-as many letters as COLUMNS says.
+With --file, only the blocks of the file or directory at PATH have letters, its indirect blocks too; all others are
+shown as dots.
+
+On a terminal the letters have colours, unless the variable NO_COLOR is not empty or TERM is `dumb`, and a row is as
+wide as COLUMNS says.
+
+With --svg, each square says which blocks it is for when the pointer is over it, and what they are used for.
 
 With --json, one object is printed on one line. Its \"map\" has an object for each run of blocks with one use: \"block\",
 the first of them, \"count\" and \"use\".
@@ -37,6 +45,7 @@ Status:
   0  the blocks were drawn
   1  `unixvol: unsound, rule 1`: the image is shorter than its super-block says
      `unixvol: unsound, rule 2`: the sizes in the super-block contradict one another
+     `unixvol: 2 NoEntry`, `unixvol: 20 NotDirectory`: PATH of --file leads to nothing
   2  the command line is wrong
   3  `unixvol: cannot read IMAGE`, or `unixvol: cannot write -`: standard output failed
   4  `unixvol: 12 NoMemory`";
@@ -48,8 +57,15 @@ const SVG: Parameter = Parameter {
     help: "Draw an SVG picture, for a browser; not with --json",
 };
 
+const FILE: Parameter = Parameter {
+    name: "file",
+    kind: WordKind::Text,
+    need: Need::Value(None, ValueName::Path),
+    help: "Show only the blocks of this file or directory; not with --json",
+};
+
 /// The words that `map` takes.
-pub(crate) const WORDS: &[Parameter] = &[EDITION, IMAGE, AT, SVG, JSON];
+pub(crate) const WORDS: &[Parameter] = &[EDITION, IMAGE, AT, SVG, JSON, FILE];
 
 /// Reads the words of `map`.
 pub(crate) fn read<'a, G: Given<'a>>(
@@ -63,10 +79,13 @@ pub(crate) fn read<'a, G: Given<'a>>(
     let volume = volume_in(given)?;
     let look = if flag_in(given, "json") {
         no_svg(given)?;
+        no_file(given)?;
         Look::Uses
     } else {
-        let picture = picture_in(given);
-        Look::Map { picture }
+        Look::Map {
+            picture: picture_in(given),
+            file: given.first("file"),
+        }
     };
     Ok(Invocation::Look { volume, look })
 }
@@ -84,6 +103,21 @@ fn no_svg<'a, G: Given<'a>>(given: &G) -> Result<(), WordFault<'a>>
         }))
     } else {
         Ok(())
+    }
+}
+
+/// Succeeds if the words don't name a file, whose blocks aren't shown as JSON.
+fn no_file<'a, G: Given<'a>>(given: &G) -> Result<(), WordFault<'a>>
+    ensures none { IfOk result (λ _. slice_get (G.words given.now (codes "file")) 0 ≡ None) }
+    ensures refused { IfErr result (TellsOf (slice_get (G.words given.now (codes "file")) 0 ≢ None)) }
+{
+    match given.first("file") {
+        None => Ok(()),
+        Some(_) => Err(WordFault::Wrong(WrongWord {
+            name: "file",
+            said: Said::Option("json"),
+            wanted: FILE.help,
+        })),
     }
 }
 

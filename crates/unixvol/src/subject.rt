@@ -124,6 +124,9 @@ impl<'a> Subject<'a> {
             Look::Dump { target, .. } => (Verb::Dump, about_target(target)),
             Look::Df { .. } => (Verb::Df, About::Image),
             Look::Find { path, .. } => (Verb::Find, About::Path(path)),
+            Look::Map {
+                file: Some(path), ..
+            } => (Verb::Map, About::Path(path)),
             Look::Map { .. } | Look::Uses => (Verb::Map, About::Image),
             Look::Check { .. } => (Verb::Check, About::Image),
             Look::List { path, .. } | Look::Slots { path, .. } => (Verb::Ls, About::Path(path)),

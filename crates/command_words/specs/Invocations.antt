@@ -369,9 +369,8 @@ IsChangeGiven clock given (changes.Touch path now) =
     IsPathGiven (given (codes "PATH")) path.now × IsMomentGiven clock (given (codes "NOW")) now
 IsChangeGiven clock given changes.Salvage = (is_set (given (codes "dry-run")) ≡ false) × IsLeftOut given (codes "output")
 
--- the words ask for the trace of a change if that option is given; `import` and `salvage` have none (this project)
+-- the words ask for the trace of a change if that option is given; `salvage` has none (this project)
 abbrev pub IsTraceGiven : Words → Change → Bool → Type 0
-IsTraceGiven given (changes.Import path options now) trace = trace ≡ false
 IsTraceGiven given changes.Salvage trace = trace ≡ false
 IsTraceGiven given _ trace = trace ≡ is_set (given (codes "trace"))
 

@@ -131,7 +131,7 @@ row_of verbs.Put = (
 row_of verbs.Import = (
   codes "import",
   on_volume (path needs.Maybe ∷ moment ∷ option (codes "skip-special")
-      ∷ (codes "owner", kinds.Owner, needs.Value (Some 111) values.Owner) ∷ []),
+      ∷ (codes "owner", kinds.Owner, needs.Value (Some 111) values.Owner) ∷ option (codes "trace") ∷ []),
 )
 row_of verbs.Rm = (codes "rm", on_volume (word (codes "PATH") ∷ moment ∷ lettered (codes "recursive") 114 ∷ option (codes "trace") ∷ []))
 row_of verbs.Rmdir = (codes "rmdir", on_volume (word (codes "PATH") ∷ moment ∷ option (codes "trace") ∷ []))

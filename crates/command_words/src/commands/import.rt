@@ -7,7 +7,7 @@ ghost use Rattle.command_words.specs.declared.verbs.Verb.TheVariants as verbs;
 use crate::fault::WordFault;
 use crate::given::{Given, flag_in, moment_in, owner_in, path_in};
 use crate::invocation::Invocation;
-use crate::parameters::{AT, CALL_NOW, EDITION, IMAGE, Need, Parameter, ValueName, WordKind};
+use crate::parameters::{AT, CALL_NOW, EDITION, IMAGE, Need, Parameter, TRACE, ValueName, WordKind};
 use crate::read_words::volume_in;
 use command_changes::Change;
 use std::alloc::Global;
@@ -22,6 +22,7 @@ Examples:
   unixvol import 7 disk.img /usr/src < src.tar
   unixvol export 6 old.img | unixvol import --skip-special 7 new.img
   unixvol import --owner 3:3 7 disk.img /usr/src < src.tar
+  unixvol import --trace 7 disk.img /usr/src < src.tar         what each call changed, field by field
 
 The archive is read from standard input, which can't be a terminal. Its format is ustar, GNU tar, pax or V7's tar.
 Its members are made below PATH: directories and files with their permissions and owners, files with their bytes
@@ -57,6 +58,7 @@ Status:
   2  the command line is wrong
   3  `unixvol: cannot read IMAGE`, `unixvol: cannot write IMAGE`, or `unixvol: cannot read -`: standard input
      failed, is a terminal, or has an archive larger than 64 MiB plus 64 times the size of IMAGE
+     `unixvol: cannot write -`: with --trace, standard output failed, after the volume was saved
   4  `unixvol: 12 NoMemory`";
 
 const BELOW: Parameter = Parameter {
@@ -81,7 +83,7 @@ const OWNER: Parameter = Parameter {
 };
 
 /// The words that `import` takes.
-pub(crate) const WORDS: &[Parameter] = &[EDITION, IMAGE, AT, BELOW, CALL_NOW, SKIP_SPECIAL, OWNER];
+pub(crate) const WORDS: &[Parameter] = &[EDITION, IMAGE, AT, BELOW, CALL_NOW, SKIP_SPECIAL, OWNER, TRACE];
 
 /// Reads the words of `import`.
 pub(crate) fn read<'a, G: Given<'a>>(
@@ -102,6 +104,6 @@ pub(crate) fn read<'a, G: Given<'a>>(
     Ok(Invocation::Change {
         volume,
         change: Change::Import { path, options, now },
-        trace: false,
+        trace: flag_in(given, "trace"),
     })
 }

@@ -203,6 +203,45 @@ traces chmod /f 600 3000 <<< '3000 0 0 chmod /f 600'
 traces chown /d 3 4 3000 <<< '3000 0 0 chown /d 3 4'
 traces touch /f 3000 <<< '3000 0 0 times /f 3000 3000'
 traces touch /n 3000 <<< '3000 0 0 create /n 644'
+
+# An archive, from standard input: a file below a directory that is missing, and a special file that is left out, which has a line.
+mkdir -p packed/e
+cp hello packed/e/x
+touch -d @2500 packed/e/x
+mkfifo packed/pipe
+tar --format=ustar --owner=0 --group=0 --mode=644 -cf packed.tar -C packed e/x pipe
+cat > script << LINES
+3000 0 0 mkdir //e 755
+2500 0 0 create //e/x 644
+2500 0 0 write //e/x 0 $hex
+3000 0 0 chmod / 755
+LINES
+# imports WORD..: imports the archive, with these words after the image, `again`
+imports() {
+    "$program" import "$edition" again "$@" 3000 --skip-special --trace < packed.tar 2> error
+    echo $? > status
+}
+for edition in 6 7; do
+    cp "start.$edition" played
+    "$program" play --trace "$edition" played script | sed '1,/^confirmed /d' > traced
+    cp "start.$edition" again
+    imports / > output
+    echo 'unixvol: pipe: a special file, left out' > line
+    wants "import --trace, of edition $edition" 0 traced line
+    saves "import --trace as a script, of edition $edition" again played
+    cp "start.$edition" again
+    imports / > /dev/full
+    : > output
+    echo 'unixvol: cannot write -' > line
+    wants "import --trace, of edition $edition, on a full device" 3 none line
+    saves "import --trace, of edition $edition, whose trace was not printed" again played
+    cp "start.$edition" again
+    imports /none > output
+    echo 'unixvol: 2 NoEntry: /none/e' > line
+    wants "a refused import --trace, of edition $edition" 1 none line
+    saves "a volume without what was refused, of edition $edition" again "start.$edition"
+done
+
 cp start.7 again
 prints none mkdir 7 again -p /d 3000 --trace
 saves 'a volume on which no call was made' again start.7
@@ -214,7 +253,7 @@ refuses 1 'unixvol: 17 Exists' mv 7 again /f /d/x 3000 --trace
 refuses 1 'unixvol: 20 NotDirectory: /f/hello' put 7 again -t /f hello 3000 --trace
 saves 'a volume of which a change was refused' again start.7
 refuses 1 'unixvol: unsound, rule 1' rm 7 none /f 3000 --trace
-for verb in import salvage resize; do misread "error: unexpected argument '--trace'" "$verb" 7 again --trace; done
+for verb in salvage resize; do misread "error: unexpected argument '--trace'" "$verb" 7 again --trace; done
 
 # fails_on_full WORD..: a command, without its edition and image, saves what it does without a trace, and can't print that
 fails_on_full() {

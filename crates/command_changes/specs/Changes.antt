@@ -25,7 +25,7 @@ use Rattle.command_changes.specs.Put.{HasPut, put_calls}
 use Rattle.command_changes.specs.Rm.{IsCause}
 use Rattle.command_changes.specs.Salvage.{IsUnsalvaged}
 use Rattle.command_changes.specs.Touch.{HasTimes, touch_call}
-use Rattle.command_changes.specs.Traced.{TracesCalls}
+use Rattle.command_changes.specs.Traced.{TracesCalls, TracesImport}
 use Rattle.command_changes.specs.declared.kept.GivenFile.{GivenFile}
 use Rattle.command_changes.specs.declared.changes.Change.{Change}
 use Rattle.command_changes.specs.declared.changes.Change.TheVariants as changes
@@ -56,11 +56,12 @@ of_removal edition image path now trace = record {
 }
 
 -- the outcomes of `import`: the tree to save has the members of the archive that the options choose, below a path, and keeps everything that the
--- image's tree had; each other member has a line (this project)
-abbrev pub of_archive : Edition → List ℕ → List ℕ → List ℕ → ImportOptions → ℕ → Outcomes
-of_archive edition image archive path options now = record {
-  saves = untraced (λ bytes. Imports edition image (calls_with options (reads_as edition image).tree archive path now) bytes
-      × HasArchive (reads_as edition image).tree (reads_as edition bytes).tree path now (chosen_members options (members archive)));
+-- image's tree had; each other member has a line. Its calls have a trace if it is wanted (this project)
+abbrev pub of_archive : Edition → List ℕ → List ℕ → List ℕ → ImportOptions → ℕ → Bool → Outcomes
+of_archive edition image archive path options now trace = record {
+  saves = λ bytes text. Imports edition image (calls_with options (reads_as edition image).tree archive path now) bytes
+      × HasArchive (reads_as edition image).tree (reads_as edition bytes).tree path now (chosen_members options (members archive))
+      × TracesImport trace edition image (calls_with options (reads_as edition image).tree archive path now) bytes text;
   lines = left_lines (left_out options (members archive));
   fails = IsUnimported edition image (calls_with options (reads_as edition image).tree archive path now);
 }
@@ -68,13 +69,13 @@ of_archive edition image archive path options now = record {
 -- the outcomes of a change, with these bytes of its file or archive, and with the trace of its calls if it is wanted: its calls are made, all or none,
 -- or the free list is rebuilt. Afterwards PATH of `import` has the members of the archive that aren't left out below it; PATH of `put` leads to a file
 -- of these bytes, with what is kept; PATH of `mkdir` leads to a directory, and so does PATH of `mkdir -p` unless its last name is `.` or `..`; FROM of
--- `mv` leads nowhere, and the new path leads to the file that FROM led to; both times of the node at PATH of `touch` are NOW. `import` and `salvage`
--- have no trace (this project)
+-- `mv` leads nowhere, and the new path leads to the file that FROM led to; both times of the node at PATH of `touch` are NOW. `salvage` has no
+-- trace (this project)
 abbrev pub changed : Edition → List ℕ → GivenFile → Change → Bool → Outcomes
 changed edition image given (changes.Put path file keep now) trace =
     of_calls_leaving edition image (put_calls (reads_as edition image).tree now path.now given.bytes.items given.kept)
     (λ tree. HasPut tree path.now given.bytes.items given.kept) trace
-changed edition image given (changes.Import path options now) trace = of_archive edition image given.bytes.items path.now options now
+changed edition image given (changes.Import path options now) trace = of_archive edition image given.bytes.items path.now options now trace
 changed edition image given (changes.Rm path now) trace = of_calls edition image (calls.Unlink user now path.now ∷ []) trace
 changed edition image given (changes.RmAll path now) trace = of_removal edition image path.now now trace
 changed edition image given (changes.Rmdir path now) trace = of_calls edition image (calls.Rmdir user now path.now ∷ []) trace

@@ -44,7 +44,7 @@ pub fn do_change<O: Sink, E: Sink>(
 }
 
 /// Makes a change of the volume in an image, with calls as user 0, all or none. `given` holds the bytes of the file to put and what it gets besides
-/// them, or the bytes of the archive to import. If `trace` is true, the outcome has the trace of the calls; `import` and `salvage` have none.
+/// them, or the bytes of the archive to import. If `trace` is true, the outcome has the trace of the calls; `salvage` has none.
 ///
 /// Takes memory to mount the image and for the calls, costs as much as the calls, and needs no right to wait. For a trace, takes the memory and the time of
 /// [`vol_trace::trace_of`] too.
@@ -61,7 +61,7 @@ pub fn perform(
     let GivenFile { bytes, kept } = given;
     let made = match change {
         Change::Import { path, options, now } => {
-            return import_archive(alloc, edition, image, bytes, path, options, now);
+            return import_archive(alloc, edition, image, bytes, path, options, now, trace);
         }
         Change::Salvage => return unremarked(alloc, salvage(alloc, edition, image)),
         Change::Put { path, now, .. } => {

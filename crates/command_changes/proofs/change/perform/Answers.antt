@@ -11,7 +11,7 @@ use Rattle.std.proofs.Common.{refl}
 
 pub returns-in-Import : goal.returns-in-Import
 returns-in-Import c = rw c.in-Import.is
-    (archive_among _ _ _ _ _ _ _ c.import_archive.ensures.made c.import_archive.ensures.untraced c.import_archive.ensures.lines c.import_archive.ensures.fault)
+    (archive_among _ _ _ _ _ _ _ _ c.import_archive.ensures.made c.import_archive.ensures.traced c.import_archive.ensures.lines c.import_archive.ensures.fault)
 
 pub returns-in-Salvage : goal.returns-in-Salvage
 returns-in-Salvage c = rw c.in-Salvage.is

@@ -200,24 +200,43 @@ c chain
 L lost
 T named twice'
 
-# drawing WIDTH LETTERS: the letters in rows, followed by the legend
-drawing() { fold -w "$1" <<< "$2" && printf '\n%s\n' "$legend"; }
-
-# square LETTER X Y: a square of a picture
-square() { echo "<path class='$1' d='M$2 $3h9v9h-9z'/>"; }
-
-# picture LETTERS: the letters as squares, 128 in a row, followed by the legend, without the colours
-picture() {
-    local letters=$1 k top one name
-    top=$(((${#letters} + 127) / 128 * 10 + 10))
-    echo "<svg xmlns='http://www.w3.org/2000/svg' width='1400' height='$((top + 140))'>"
-    echo '<style>'
-    for ((k = 0; k < ${#letters}; k++)); do square "${letters:k:1}" $((k % 128 * 10)) $((k / 128 * 10)); done
+# legend_of LETTERS: the legend of a map of these letters: how many there are of each, the letter, and its name
+legend_of() {
+    local one name count
     while read -r one name; do
-        square "$one" 0 "$top"
-        echo "<text x='14' y='$((top + 9))'>$name</text>"
-        top=$((top + 14))
+        count=$(tr -cd "$one" <<< "$1" | wc -c)
+        [ "$count" = 0 ] || printf '%7d %s %s\n' "$count" "$one" "$name"
     done <<< "$legend"
+}
+
+# rows WIDTH EACH LETTERS: the letters in rows, each after the number of its first block, if a letter is for EACH blocks
+rows() {
+    local k
+    for ((k = 0; k < ${#3}; k += $1)); do printf '%7d %s\n' $((k * $2)) "${3:k:$1}"; done
+}
+
+# drawing WIDTH LETTERS: the letters in rows, one for each block, followed by the legend
+drawing() { rows "$1" 1 "$2" && echo && legend_of "$2"; }
+
+# picture LETTERS: the letters as squares, one for each block, with their tool-tips, followed by the legend, without the colours
+picture() {
+    local letters=$1 k top one name count columns=4
+    local -A names
+    while read -r one name; do names[$one]=$name; done <<< "$legend"
+    while ((columns < 128 && columns * columns < ${#letters})); do columns=$((columns * 2)); done
+    top=$(((${#letters} + columns - 1) / columns * 10 + 10))
+    echo "<svg xmlns='http://www.w3.org/2000/svg' viewBox='0 0 $((columns < 32 ? 320 : columns * 10)) $((top + 14 * $(legend_of "$letters" | wc -l)))' role='img'>"
+    echo "<title>${#letters} blocks, 1 in each square</title>"
+    echo '<style>'
+    for ((k = 0; k < ${#letters}; k++)); do
+        one=${letters:k:1}
+        echo "<path class='$one' d='M$((k % columns * 10)) $((k / columns * 10))h9v9h-9z'><title>block $k: ${names[$one]}</title></path>"
+    done
+    while read -r count one name; do
+        echo "<path class='$one' d='M0 ${top}h9v9h-9z'/>"
+        echo "<text x='14' y='$((top + 9))'>$name $count</text>"
+        top=$((top + 14))
+    done < <(legend_of "$letters")
     echo '</svg>'
 }
 
@@ -234,7 +253,7 @@ maps() {
 check_map() { maps "$1" "$2" "$(cat lines)"; }
 each maps check_map
 
-# More blocks than a row of squares has: the last is named by the root, and free; the free list continues in block 29.
+# More blocks than a row has letters: the last is named by the root, and free; the free list continues in block 29.
 "$program" mkfs 6 new.129.6 129 2 0 0 168496141
 make image new.129.6 1034=8000
 maps 6 '129 blocks' "BSiid$(repeated 24 o)c$(repeated 98 o)T"

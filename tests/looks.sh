@@ -275,7 +275,7 @@ has 'a block below two indirect blocks' "block $data: data of i-node $number, lo
 # A map.
 runs map 7 "$linux"
 has 'the scale of a map' '240 blocks, 1 in each cell' "$(head -n 1 output)"
-sed -n '3,/^$/p' output | tr -d '\n' > cells
+sed -n '3,/^$/s/^.\{8\}//p' output | tr -d '\n' > cells
 has 'the cells of a map' 240 "$(wc -c < cells)"
 has 'the cells of free blocks' "$(sed -n 's/^free //p' report)" "$(tr -cd oc < cells | wc -c)"
 has 'the cells of used blocks' "$(sed -n 's/^used //p' report)" "$(tr -cd dfp < cells | wc -c)"
@@ -439,10 +439,10 @@ wants 'ls of an odd name on a terminal' 0 wanted none
 on_terminal 80 find 6 tree.v6 d/e
 printf '%s\n' 'd/e/tab\011here' > wanted
 wants 'find of an odd name on a terminal' 0 wanted none
-on_terminal 8 map 6 letter.v6
-printf '20 blocks, 1 in each cell\n\n\033[100mB\033[0m' > wanted
+on_terminal 16 map 6 letter.v6
+printf '20 blocks, 1 in each cell\n\n      0 \033[100mB\033[0m' > wanted
 has 'the beginning of a map on a terminal' same "$(head -c "$(wc -c < wanted)" output | cmp -s - wanted && echo same)"
-has 'the status, the lines and the errors of a map on a terminal' '0 16 0' "$(cat status) $(wc -l < output) $(wc -c < error)"
+has 'the status, the lines and the errors of a map on a terminal' '0 12 0' "$(cat status) $(wc -l < output) $(wc -c < error)"
 on_terminal 80 export 6 archived.v6 /
 echo 'unixvol: cannot write -' > line
 wants 'export to a terminal' 3 none line

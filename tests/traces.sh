@@ -214,7 +214,7 @@ cat > script << LINES
 3000 0 0 mkdir //e 755
 2500 0 0 create //e/x 644
 2500 0 0 write //e/x 0 $hex
-3000 0 0 chmod / 755
+3000 0 0 chmod / 777
 LINES
 # imports WORD..: imports the archive, with these words after the image, `again`
 imports() {

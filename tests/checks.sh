@@ -258,17 +258,23 @@ each maps check_map
 make image new.129.6 1034=8000
 maps 6 '129 blocks' "BSiid$(repeated 24 o)c$(repeated 98 o)T"
 
-# More blocks than a map has cells: four in each cell. The free list continues in block 92, and in every hundredth after it. A cell shows the most
-# telling of its blocks: the super-block, and a block that two files name.
+# More blocks than a map has cells: four in each cell. The free list continues in block 92, and in every hundredth after it. A cell shows the use of most
+# of its blocks: the i-list, or free; but not of that with the root's block, a block that two files name, the one that was a file's, and a free one.
 "$program" mkfs 6 new.8192.6 8192 2 0 0 168496141
 volume new.8192.6 'create /a 644' 'create /b 644' 'write /a 0 78' 'write /b 0 79'
 make image new.8192.6 1992=0500
-{ printf '8192 blocks, 4 in each cell\n\n' && drawing 64 "ST$(repeated 21 o)c$(repeated 80 "$(repeated 24 o)c")$(repeated 24 o)"; } > wanted
+{
+    printf '8192 blocks, 4 in each cell; a cell shows the use of most of its blocks\n\n'
+    rows 64 4 "i!$(repeated 2046 o)"
+    echo
+    printf '%7d %s %s\n' 1 B boot 1 S super-block 2 i i-list 1 d directory 8104 o free 81 c chain 1 L lost 1 T 'named twice' \
+        1 ! 'cells with some blocks that are lost or named twice'
+} > wanted
 prints wanted map 6 image
 
 # On a terminal the rows are as wide as COLUMNS, and each letter has a colour.
-# terminal FILE: the map of FILE on a terminal of eight columns
-terminal() { COLUMNS=8 script -qec "'$program' map 6 $1" /dev/null < /dev/null | tr -d '\r'; }
+# terminal FILE: the map of FILE on a terminal of 16 columns, eight of them for the number of the first block
+terminal() { COLUMNS=16 script -qec "'$program' map 6 $1" /dev/null < /dev/null | tr -d '\r'; }
 terminal new.6 | sed $'s/\e\\[[0-9;]*m//g' > output
 { printf '20 blocks, 1 in each cell\n\n' && drawing 8 BSiidooooooooooooooo; } > wanted
 cmp -s output wanted
@@ -281,9 +287,13 @@ coloured() {
 }
 {
     printf '20 blocks, 1 in each cell\n\n'
-    for letters in BSiidTLo oooooooo oooT; do coloured $letters && echo; done
+    first=0
+    for letters in BSiidTLo oooooooo oooT; do
+        printf '%7d %s\n' "$first" "$(coloured $letters)"
+        first=$((first + 8))
+    done
     echo
-    while read -r one name; do echo "$(coloured "$one") $name"; done <<< "$legend"
+    while read -r count one name; do printf '%7d %s %s\n' "$count" "$(coloured "$one")" "$name"; done < <(legend_of BSiidTLooooooooooooT)
 } > wanted
 make image two_files.6 1992=0500 1034=1300
 terminal image > output

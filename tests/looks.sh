@@ -293,13 +293,59 @@ if [ -n "$(command -v script)" ]; then
     done
     # codes: the number of colour codes of this kind on a terminal
     codes() { TERM=$1 script -qec "'$program' map 7 '$linux'" /dev/null < /dev/null | grep -o $'\e' | wc -l; }
-    has 'the codes for colours of a map' 500 "$(unset NO_COLOR && codes xterm)"
+    has 'the codes for colours of a map' 496 "$(unset NO_COLOR && codes xterm)"
     has 'the codes for colours where NO_COLOR says something' 0 "$(NO_COLOR=1 codes xterm)"
-    has 'the codes for colours where NO_COLOR is empty' 500 "$(NO_COLOR='' codes xterm)"
+    has 'the codes for colours where NO_COLOR is empty' 496 "$(NO_COLOR='' codes xterm)"
     has 'the codes for colours of a dumb terminal' 0 "$(codes dumb)"
 fi
+# The blocks of one file are those of its extents, its indirect blocks too; all others are dots, and in the legend they are one number.
+runs map --file /long 7 deep.v7
+sed -n '3,/^$/s/^.\{8\}//p' output | tr -d '\n' > cells
+sed '1,2d' output | sed '1,/^$/d; s/^ *//' > counted
+"$program" inode --json 7 deep.v7 "$number" > extents
+has 'the blocks of one file' "$(python3 -c '
+import json, sys
+letters = ["."] * 400
+for it in json.load(sys.stdin)["extents"]:
+    for block in range(it["block"], it["block"] + it["count"]): letters[block] = "p" if it["level"] else "f"
+print("".join(letters))' < extents)" "$(cat cells)"
+has 'the numbers of the blocks of one file' "$(tr -cd f < cells | wc -c) f file
+$(tr -cd p < cells | wc -c) p pointer
+$(tr -cd . < cells | wc -c) . other blocks" "$(cat counted)"
+runs map --svg --file / 7 deep.v7
+has 'the squares of the blocks of a directory' 1 "$(grep -c ': directory</title></path>$' output)"
+has 'the other squares' 399 "$(grep -c ": other blocks</title></path>$" output)"
+refuses 1 'unixvol: 2 NoEntry' map --file /none 7 deep.v7
+refuses 1 'unixvol: 20 NotDirectory' map --file /long/x 7 deep.v7
+
+# A cell of several blocks shows the use of most of them, and the legend has the numbers of blocks.
+"$program" mkfs 7 many.v7 8192 1000 0 0 1000
+runs map 7 many.v7
+has 'the scale of a map of many blocks' '8192 blocks, 4 in each cell; a cell shows the use of most of its blocks' "$(head -n 1 output)"
+has 'the first blocks of the rows' "$(seq 0 256 7936)" "$(sed -n '3,/^$/s/^ *\([0-9]*\) .*/\1/p' output)"
+"$program" map --json 7 many.v7 > runs
+has 'the cells of a map of many blocks, and the numbers of blocks' same "$(python3 -c '
+import json, sys
+letters = {"boot": "B", "super-block": "S", "i-list": "i", "directory": "d", "file": "f", "pointer": "p", "free": "o", "chain": "c", "lost": "L", "named twice": "T"}
+priority = "ocfpdiBSLT"
+blocks = "".join(letters[it["use"]] * it["count"] for it in json.load(open("runs"))["map"])
+lines = open("output").read().split("\n")
+cells = "".join(line[8:] for line in lines[2:lines.index("", 2)])
+for k, cell in enumerate(cells):
+    part = blocks[4 * k:4 * k + 4]
+    assert cell == max(part, key=lambda one: (part.count(one), priority.index(one))), k
+counts = {line.split()[1]: int(line.split()[0]) for line in lines[lines.index("", 2):] if line}
+assert counts == {one: blocks.count(one) for one in set(blocks)}
+print("same")')"
+"$program" mkfs 7 many.v7 40000 1000 0 0 1000
+runs map --svg 7 many.v7
+has 'the first of many squares' "<path class='S' d='M0 0h9v9h-9z'><title>blocks 0 to 2
+1 boot
+1 super-block
+1 i-list</title></path>" "$(sed -n '4,7p' output)"
+
 runs map --svg 7 "$linux"
-has 'a map as SVG' 'http://www.w3.org/2000/svg 250' "$(python3 -c '
+has 'a map as SVG' 'http://www.w3.org/2000/svg 248' "$(python3 -c '
 import sys, xml.etree.ElementTree as tree
 root = tree.parse(sys.stdin).getroot()
 print(root.tag[1:].split("}")[0], sum(it.tag.endswith("path") for it in root))' < output)"

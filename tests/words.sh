@@ -218,6 +218,8 @@ get 7 disk -o out -o out /d/f | '--output <FOLDER>' cannot be used multiple time
 get 7 disk -o out /d/f /e/f/ | invalid value 'f' for '<PATH>': two files have this last name
 map --svg --json 7 disk | the argument '--svg' cannot be used with '--json'
 map 7 disk --json --svg | the argument '--svg' cannot be used with '--json'
+map 7 disk --json --file / | the argument '--file' cannot be used with '--json'
+map 7 disk --file | a value is required for '--file <PATH>'
 inode 7 disk | <INO>
 map --svg --svg 7 disk | --svg
 --explain | subcommand

@@ -7,12 +7,12 @@ const SVG = 'http://www.w3.org/2000/svg';
 const SIDE = 12;
 const SQUARES = 128 * 128; // the most that `map --svg` draws, beyond which a square is for several blocks
 const USES = { B: 'boot block', S: 'super-block', i: 'i-list', d: 'directory', f: 'file', p: 'indirect block', o: 'free', c: 'free, continues the free list',
-  L: 'lost', T: 'named twice' };
+  L: 'lost', T: 'named twice', x: 'some lost or named twice' };
 const SQUARE = `h${SIDE - 1}v${SIDE - 1}h${1 - SIDE}z`;
 const LETTERED = 4096; // squares with letters in them, at most; more have marks, one path for all of a use
 const FEW = 1024; // squares that are larger
 const MARKS = { B: 'M3 3h5v5h-5z', S: 'M3 3h5v5h-5z', i: 'M0 5h11v1h-11z', d: 'M4 1h3v9h-3z', p: 'M1 4h9v3h-9z', c: 'M0 0h6l-6 6z', L: 'M0 9l9 -9h2v2l-9 9h-2z',
-  T: 'M0 9l9 -9h2v2l-9 9h-2zM0 0h2l9 9v2h-2l-9 -9z' };
+  T: 'M0 9l9 -9h2v2l-9 9h-2zM0 0h2l9 9v2h-2l-9 -9z', x: 'M4 1h3v6h-3zM4 8h3v2h-3z' };
 
 const shape = (name, props) => {
   const made = document.createElementNS(SVG, name);

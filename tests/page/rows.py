@@ -189,7 +189,7 @@ def check_views(page, native):
         for (const it of document.querySelectorAll('.map path[class^=u-]'))
             for (const [, x, y] of it.getAttribute('d').matchAll(/M([0-9]+) ([0-9]+)/g)) squares[y / 12 * columns + x / 12] = it.getAttribute('class').slice(2);
         return squares.join('')""")
-    has("the squares of the map", "".join(native.out("map", 7, LINUX_MADE).split("\n\n")[1].split()), letters)
+    has("the squares of the map", "".join(row[8:] for row in native.out("map", 7, LINUX_MADE).split("\n\n")[1].split("\n")), letters)
     for block in 0, 1, 2, 32, 239:
         page.js(f"const block = {block}; {CLICK_SQUARE}")
         page.wait("document.querySelector('#block-use pre')")

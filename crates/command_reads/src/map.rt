@@ -1,7 +1,7 @@
 //! The command that draws the use of each block.
 ghost use Rattle.std.specs.Prelude.{◌≡◌, ◌≤◌, ◌<◌, ◌^◌, Ok, IfErr, IfOk, IfSome, length, option_map, string_bytes};
 ghost use Rattle.vol_layout.specs.Geometry.{Fits, geometry_read};
-ghost use Rattle.command_reads.specs.Map.{blocks_for, blocks_shown, cells_text, file_node, is_coloured, map_text, node_within, scale_end, scale_text, width_on, IsMap, IsMapFault, IsPictureFault};
+ghost use Rattle.command_reads.specs.Map.{blocks_for, blocks_shown, file_node, is_coloured, map_text, node_within, scale_end, scale_text, width_on, IsMap, IsPictureFault};
 
 use crate::faults::unmeasured;
 use crate::looks::Picture;

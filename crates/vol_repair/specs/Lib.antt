@@ -1,3 +1,4 @@
+pub use Rattle.escaped_text.specs.Escape
 pub use Rattle.vol_judge.specs.Sound
 pub use Rattle.vol_losses.specs.Losses
 pub use Rattle.vol_reports.specs.Icheck
@@ -6,4 +7,5 @@ pub mod Kept
 pub mod Lines
 pub mod Pairs
 pub mod Repaired
+pub mod Text
 pub mod Told

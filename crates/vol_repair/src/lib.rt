@@ -7,8 +7,10 @@ mod edits;
 mod entry_pairs;
 pub mod repair_line;
 pub mod repaired_volume;
+pub mod text;
 mod told_lines;
 
 pub use compared::{changed_blocks, is_kept};
 pub use repair_line::RepairLine;
 pub use repaired_volume::{RepairFault, Repaired, repair};
+pub use text::text_of;

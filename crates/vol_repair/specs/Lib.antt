@@ -5,6 +5,7 @@ pub use Rattle.vol_reports.specs.Icheck
 pub mod Claims
 pub mod Kept
 pub mod Lines
+pub mod Longer
 pub mod Pairs
 pub mod Repaired
 pub mod Text

@@ -1,0 +1,94 @@
+//! `repair` makes a sound copy of a damaged image, and returns the bytes to save, and the lines of all that differs.
+ghost use Rattle.std.specs.Prelude.{◌⊎◌, IfErr, IfOk};
+ghost use Rattle.vol_repair.specs.Repaired.{IsRepairFault};
+ghost use Rattle.vol_repair.specs.declared.repaired_volume.RepairFault.TheVariants as repairs;
+ghost use Rattle.command_changes.specs.Repair.{IsLongerReported, IsRepairReported, IsUnrepaired, TellsRepair};
+
+use crate::salvage::ReportedVolume;
+use command_faults::Fault;
+use pdp_words::Image;
+use std::alloc::{AllocError, Global};
+use vol_dir::Refusal;
+use vol_layout::Edition;
+use vol_repair::{LengthFault, RepairFault, lengthened, repair, text_of};
+
+/// The line for an image that is kept as it is, since its copy isn't sound, or a file that fits would have changed.
+pub const NOT_REPAIRED: &[u8] = b"unixvol: 112 NotRepaired\n";
+
+/// The least size and the time of a repaired copy.
+#[derive(Clone, Copy)]
+pub struct Repairing {
+    /// The fewest blocks that the copy has, of 512 bytes; it has all of the volume's.
+    pub blocks: u32,
+    /// The time of new i-nodes, in seconds since the beginning of 1970.
+    pub now: u32,
+}
+
+/// Repairs an image, and reports all that differs in the copy, in lines. If the volume has fewer than `blocks` blocks, the image is made longer before, and
+/// the lines tell what differs from that. The fault is `Bounds` if the edition has no volume of so many blocks; rule 1 or 2 if the image breaks that;
+/// `NoSpace` if there is no room for a directory or an entry; the line [`NOT_REPAIRED`]; or out of memory.
+///
+/// Takes the memory of [`lengthened`] and [`vol_repair::repair`], and that of the lines twice.
+pub fn repair_with_report(
+    alloc: Global,
+    edition: Edition,
+    image: Vec<u8>,
+    repairing: Repairing,
+) -> Result<ReportedVolume, Fault>
+    ensures repaired { IfOk result (λ made. IsRepairReported edition repairing.blocks image.items made.bytes.items made.report.items) }
+    ensures fault { IfErr result (IsUnrepaired edition repairing.blocks image.items) }
+{
+    match lengthened(edition, image, repairing.blocks) {
+        Ok(longer) => repair_longer(alloc, edition, longer, repairing.now),
+        Err(LengthFault::TooMany) => Err(Fault::Bounds),
+        Err(LengthFault::NoMemory) => Err(Fault::Refused(Refusal::NoMemory)),
+    }
+}
+
+/// Repairs an image as [`repair_with_report`] does, whose length stays.
+fn repair_longer(
+    alloc: Global,
+    edition: Edition,
+    image: Vec<u8>,
+    now: u32,
+) -> Result<ReportedVolume, Fault>
+    ensures repaired { IfOk result (λ made. IsLongerReported edition image.items made.bytes.items made.report.items) }
+    ensures fault { IfErr result (λ fault. (why : RepairFault) × IsRepairFault edition image.items why × TellsRepair why fault) }
+{
+    let old = Image::from_bytes(image);
+    match repair(alloc, edition, &old, now) {
+        Ok(repaired) => {
+            let report = text_of(alloc, &repaired.lines)?;
+            Ok(ReportedVolume {
+                bytes: repaired.image.into_bytes(),
+                report,
+            })
+        }
+        Err(why) => Err(unrepaired(alloc, why)),
+    }
+}
+
+/// Returns the fault of an image that isn't repaired for this reason, or out of memory if there is too little memory for its line.
+fn unrepaired(alloc: Global, why: RepairFault) -> Fault
+    ensures { TellsRepair why result ⊎ TellsRepair repairs.NoMemory result }
+{
+    match worded(alloc, why) {
+        Ok(fault) => fault,
+        Err(refused) => Fault::from(refused),
+    }
+}
+
+/// Returns the fault of an image that isn't repaired for this reason.
+fn worded(alloc: Global, why: RepairFault) -> Result<Fault, AllocError>
+    ensures { IfOk result (TellsRepair why) }
+{
+    match why {
+        RepairFault::Unsized(rule) => Ok(Fault::Unsound(rule)),
+        RepairFault::NotRepaired => Ok(Fault::Worded {
+            rule: None,
+            lines: Vec::from_slice(alloc, NOT_REPAIRED)?,
+        }),
+        RepairFault::NoSpace => Ok(Fault::Refused(Refusal::NoSpace)),
+        RepairFault::NoMemory => Ok(Fault::Refused(Refusal::NoMemory)),
+    }
+}

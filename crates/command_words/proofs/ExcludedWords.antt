@@ -1,9 +1,10 @@
--- Words that ask for what excludes each other: `mkfs` for a place in a file that must not exist, `identify` for JSON and a catalogue.
+-- Words that ask for what excludes each other: `mkfs` for a place in a file that must not exist, `identify` for JSON and a catalogue. And words for `repair`
+-- without a file for its copy.
 use Rattle.std.proofs.Common.{◌≡◌, ◌⊎◌, ◌∙◌, ℕ, Option, None, Bool, true, false, true≢false, Some, List, codes, slice_get, sym, ap, subst, refl, inl, inr}
 use Rattle.std.specs.Borrow.{Bor}
 use Rattle.std.specs.Global.{Vec}
 use Rattle.command_words.specs.Decimal.{IsNumberUpTo}
-use Rattle.command_words.specs.Invocations.{AreTwoFormsGiven, AsksForNothing, IsGiven, IsGuessFormGiven, IsLeftOut, IsNewPlaceGiven, IsNewPlaceWrong, Words, is_set, verb_of}
+use Rattle.command_words.specs.Invocations.{AreTwoFormsGiven, AsksForNothing, IsGiven, IsGuessFormGiven, IsLeftOut, IsNewCopyGiven, IsNewCopyMissing, IsNewPlaceGiven, IsNewPlaceWrong, Words, is_set, verb_of}
 use Rattle.command_words.proofs.Moments.{first_number}
 use Rattle.command_words.proofs.Values.{no_value}
 use Rattle.command_words.specs.declared.invocation.Copying.TheVariants as copies
@@ -11,6 +12,7 @@ use Rattle.command_words.specs.declared.invocation.Invocation.{Invocation}
 use Rattle.command_words.specs.declared.invocation.Invocation.TheVariants as invocations
 use Rattle.command_words.specs.declared.invocation.GuessForm.{GuessForm}
 use Rattle.command_words.specs.declared.invocation.GuessForm.TheVariants as forms
+use Rattle.command_words.specs.declared.invocation.MadeFile.{MadeFile}
 use Rattle.command_words.specs.declared.invocation.NewPlace.{NewPlace}
 use Rattle.command_words.specs.declared.invocation.NewPlace.TheVariants as places
 use Rattle.vol_mkfs.specs.declared.blank.NewVolume.{NewVolume}
@@ -89,3 +91,29 @@ two_forms clock given both = λ invocation asks. elim (chosen invocation) [
     | inr neither ↦ absurd (true≢false (ap is_identify asks.0 ∙ neither.1))
   ]
 ]
+
+-- true if the command is `repair`
+is_repair : Verb → Bool
+is_repair verbs.Repair = true
+is_repair _ = false
+
+-- words for an invocation of `repair` name a file for its copy, or ask to write nothing
+names_copy : (given : Words) (copy : Option MadeFile) → IsNewCopyGiven given copy → IsNewCopyMissing given → ⊥
+names_copy given None is missing = true≢false (sym is ∙ missing.0)
+names_copy given (Some file) is missing = let none : Some file.path.now ≡ None = sym is.1 ∙ missing.1 in absurd (cc)
+
+-- no invocation of `repair` has neither
+repairs : (clock : Option ℕ) (given : Words) (invocation : Invocation) → is_repair (verb_of invocation) ≡ true → IsGiven clock given invocation
+    → IsNewCopyMissing given → ⊥
+unfolding is_repair
+repairs clock given (invocations.Repair volume copy repairing) repaired is missing = names_copy given copy is.1 missing
+repairs clock given (invocations.Look volume (looks.List path listing)) repaired is missing = absurd (true≢false (sym repaired))
+repairs clock given (invocations.Change volume (changes.Put p file keep now) trace) repaired is missing = absurd (true≢false (sym repaired))
+repairs clock given (invocations.Copy volume (copies.Put directory files keep now trace)) repaired is missing = absurd (true≢false (sym repaired))
+repairs clock given (invocations.Work volume (works.Check checkers.Blocks workers form)) repaired is missing = absurd (true≢false (sym repaired))
+repairs clock given invocation repaired is missing = absurd (true≢false (sym repaired))
+
+-- if the words name no file for a repaired copy, and don't ask to write nothing, `repair` has no invocation
+pub copy_missing : (clock : Option ℕ) (given : Words) → IsNewCopyMissing given → AsksForNothing clock verbs.Repair given
+unfolding AsksForNothing is_repair
+copy_missing clock given missing = λ invocation asks. repairs clock given invocation (sym (ap is_repair asks.0)) asks.1 missing

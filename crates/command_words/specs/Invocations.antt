@@ -55,6 +55,7 @@ use Rattle.command_changes.specs.declared.kept.Keep.TheVariants as keeps
 use Rattle.command_changes.specs.declared.changes.Change.{Change}
 use Rattle.command_changes.specs.declared.changes.Change.TheVariants as changes
 use Rattle.command_changes.specs.declared.migrate.Migration.{Migration}
+use Rattle.command_changes.specs.declared.repair.Repairing.{Repairing}
 use Rattle.vol_fields.specs.declared.lines.Radix.{Radix}
 use Rattle.vol_fields.specs.declared.lines.Radix.TheVariants as radixes
 use Rattle.vol_import.specs.declared.import_options.ImportOptions.{ImportOptions}
@@ -237,6 +238,7 @@ verb_of (invocations.Mkfs place volume) = verbs.Mkfs
 verb_of (invocations.Migrate old at new migration) = verbs.Migrate
 verb_of (invocations.Get volume path) = verbs.Get
 verb_of (invocations.Salvage volume copy) = verbs.Salvage
+verb_of (invocations.Repair volume copy repairing) = verbs.Repair
 verb_of (invocations.Resize volume blocks is_trial) = verbs.Resize
 verb_of (invocations.Change volume change trace) = change_verb change
 verb_of (invocations.Look volume look) = look_verb look
@@ -254,6 +256,7 @@ volume_of (invocations.Mkfs place volume) = None
 volume_of (invocations.Migrate old at new migration) = None
 volume_of (invocations.Get volume path) = Some volume
 volume_of (invocations.Salvage volume copy) = Some volume
+volume_of (invocations.Repair volume copy repairing) = Some volume
 volume_of (invocations.Resize volume blocks is_trial) = Some volume
 volume_of (invocations.Change volume change trace) = Some volume
 volume_of (invocations.Look volume look) = Some volume
@@ -271,6 +274,7 @@ with_volume (invocations.Mkfs place made) volume = invocations.Mkfs place made
 with_volume (invocations.Migrate old at new migration) volume = invocations.Migrate old at new migration
 with_volume (invocations.Get old path) volume = invocations.Get volume path
 with_volume (invocations.Salvage old copy) volume = invocations.Salvage volume copy
+with_volume (invocations.Repair old copy repairing) volume = invocations.Repair volume copy repairing
 with_volume (invocations.Resize old blocks is_trial) volume = invocations.Resize volume blocks is_trial
 with_volume (invocations.Change old change trace) volume = invocations.Change volume change trace
 with_volume (invocations.Look old look) volume = invocations.Look volume look
@@ -294,6 +298,21 @@ IsVolumeGiven given volume =
 -- the words name this file to make, by the argument for its path, and say whether it must not exist (this project)
 abbrev pub IsMadeGiven : Words → List ℕ → MadeFile → Type 0
 IsMadeGiven given name file = (file.path.now ≡ the_word given name) × (file.is_new ≡ is_set (given (codes "new")))
+
+-- the words give the least size and the time of a repaired copy: if they give no size, 0 (this project)
+abbrev pub IsRepairingGiven : Option ℕ → Words → Repairing → Type 0
+IsRepairingGiven clock given repairing =
+    IsNumberOr 4294967295 0 (given (codes "blocks")) repairing.blocks × IsMomentGiven clock (given (codes "NOW")) repairing.now
+
+-- the words name this file for a repaired copy, and don't ask to write nothing; or they do, and no file is written (this project)
+abbrev pub IsNewCopyGiven : Words → Option MadeFile → Type 0
+IsNewCopyGiven given None = is_set (given (codes "dry-run")) ≡ true
+IsNewCopyGiven given (Some file) = (is_set (given (codes "dry-run")) ≡ false) × IsFirstWord given (codes "NEW") file.path.now
+    × (file.is_new ≡ is_set (given (codes "new")))
+
+-- the words name no file for a repaired copy, and don't ask to write nothing (this project)
+abbrev pub IsNewCopyMissing : Words → Type 0
+IsNewCopyMissing given = (is_set (given (codes "dry-run")) ≡ false) × IsLeftOut given (codes "NEW")
 
 -- the words name this place of a new volume: a file to make if no block was given; otherwise the blocks of a file from that one on, and the file needn't be
 -- new (this project)
@@ -528,6 +547,8 @@ IsGiven clock given (invocations.Get volume path) = IsVolumeGiven given volume �
 IsGiven clock given (invocations.Salvage volume None) = IsVolumeGiven given volume × (is_set (given (codes "dry-run")) ≡ true)
 IsGiven clock given (invocations.Salvage volume (Some copy)) = IsVolumeGiven given volume × (is_set (given (codes "dry-run")) ≡ false)
     × IsFirstWord given (codes "output") copy.now
+IsGiven clock given (invocations.Repair volume copy repairing) =
+    IsVolumeGiven given volume × IsNewCopyGiven given copy × IsRepairingGiven clock given repairing
 IsGiven clock given (invocations.Resize volume blocks is_trial) = IsVolumeGiven given volume
     × IsNumberGiven 4294967295 (the_word given (codes "BLOCKS")) blocks × (is_trial ≡ is_set (given (codes "dry-run")))
 IsGiven clock given (invocations.Change volume change trace) =

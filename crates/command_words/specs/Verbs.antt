@@ -142,6 +142,11 @@ row_of verbs.Chmod = (codes "chmod", on_volume (path needs.Once ∷ (codes "PERM
 row_of verbs.Chown = (codes "chown", on_volume (path needs.Once ∷ number (codes "UID") ∷ number (codes "GID") ∷ moment ∷ option (codes "trace") ∷ []))
 row_of verbs.Touch = (codes "touch", on_volume (path needs.Once ∷ moment ∷ option (codes "trace") ∷ []))
 row_of verbs.Salvage = (codes "salvage", on_volume (valued (codes "output") 111 values.Copy ∷ lettered (codes "dry-run") 110 ∷ []))
+row_of verbs.Repair = (
+  codes "repair",
+  on_volume (maybe_word (codes "NEW") ∷ moment ∷ option (codes "new") ∷ lettered (codes "dry-run") 110
+      ∷ (codes "blocks", kinds.LongOr, needs.Value None values.Blocks) ∷ []),
+)
 row_of verbs.Resize = (codes "resize", on_volume (long_number (codes "BLOCKS") ∷ lettered (codes "dry-run") 110 ∷ []))
 row_of verbs.Play = (codes "play", on_volume ((codes "SCRIPT", kinds.Scripts, needs.Several) ∷ option (codes "journal") ∷ option (codes "trace") ∷ []))
 row_of verbs.Migrate = (codes "migrate", word (codes "OLD") ∷ word (codes "NEW") ∷ long_number (codes "FSIZE") ∷ number (codes "IBLOCKS") ∷ moment ∷ option (codes "new") ∷ at ∷ [])
@@ -165,7 +170,7 @@ abbrev pub all_verbs : List Verb
 all_verbs =
     verbs.Cat ∷ verbs.Ls ∷ verbs.Get ∷ verbs.Find ∷ verbs.Export ∷ verbs.Sums ∷ verbs.Inode ∷ verbs.Super ∷ verbs.Free ∷ verbs.Block
     ∷ verbs.Dump ∷ verbs.Diff ∷ verbs.Df ∷ verbs.Map ∷ verbs.Check ∷ verbs.Icheck ∷ verbs.Dcheck ∷ verbs.Ncheck ∷ verbs.Mkfs ∷ verbs.Put ∷ verbs.Import ∷ verbs.Rm
-    ∷ verbs.Rmdir ∷ verbs.Mkdir ∷ verbs.Ln ∷ verbs.Mv ∷ verbs.Chmod ∷ verbs.Chown ∷ verbs.Touch ∷ verbs.Salvage ∷ verbs.Resize ∷ verbs.Play ∷ verbs.Migrate
+    ∷ verbs.Rmdir ∷ verbs.Mkdir ∷ verbs.Ln ∷ verbs.Mv ∷ verbs.Chmod ∷ verbs.Chown ∷ verbs.Touch ∷ verbs.Salvage ∷ verbs.Repair ∷ verbs.Resize ∷ verbs.Play ∷ verbs.Migrate
     ∷ verbs.Serve ∷ verbs.Identify ∷ []
 
 -- no command has this name (this project)

@@ -27,6 +27,7 @@ pub(crate) mod mv;
 pub(crate) mod ncheck;
 pub(crate) mod play;
 pub(crate) mod put;
+pub(crate) mod repair;
 pub(crate) mod resize;
 pub(crate) mod rm;
 pub(crate) mod rmdir;

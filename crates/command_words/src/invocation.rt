@@ -2,7 +2,7 @@
 ghost use Rattle.std.specs.Prelude.{◌≡◌};
 ghost use Rattle.command_words.specs.Invocations.{volume_of, with_volume};
 
-use command_changes::{Change, Keep, Migration};
+use command_changes::{Change, Keep, Migration, Repairing};
 use command_reads::{Comparison, ExportOptions, Look, NodeName, OutputForm};
 use vol_check::Checker;
 use vol_layout::Edition;
@@ -140,6 +140,12 @@ pub enum Invocation<'a> {
         volume: VolumeFile<'a>,
         copy: Option<&'a str>,
     },
+    /// Repair the image of a volume in a file, to a copy in memory; save it in the file `copy`, if one is named; and print all that differs.
+    Repair {
+        volume: VolumeFile<'a>,
+        copy: Option<MadeFile<'a>>,
+        repairing: Repairing,
+    },
     /// Give the volume in a file another number of blocks; if `is_trial`, in memory only.
     Resize {
         volume: VolumeFile<'a>,
@@ -204,6 +210,7 @@ impl<'a> Invocation<'a> {
             Invocation::Cat { volume, .. }
             | Invocation::Get { volume, .. }
             | Invocation::Salvage { volume, .. }
+            | Invocation::Repair { volume, .. }
             | Invocation::Resize { volume, .. }
             | Invocation::Change { volume, .. }
             | Invocation::Look { volume, .. }
@@ -223,6 +230,15 @@ impl<'a> Invocation<'a> {
             Invocation::Cat { node, .. } => Invocation::Cat { volume, node },
             Invocation::Get { path, .. } => Invocation::Get { volume, path },
             Invocation::Salvage { copy, .. } => Invocation::Salvage { volume, copy },
+            Invocation::Repair {
+                copy,
+                repairing,
+                ..
+            } => Invocation::Repair {
+                volume,
+                copy,
+                repairing,
+            },
             Invocation::Resize {
                 blocks,
                 is_trial,

@@ -78,6 +78,8 @@ pub enum ValueName {
     Block,
     /// A file or a directory of a volume.
     Path,
+    /// A number of blocks.
+    Blocks,
 }
 
 impl ValueName {
@@ -93,6 +95,7 @@ impl ValueName {
             ValueName::Map => "MAPFILE",
             ValueName::Block => "BLOCK",
             ValueName::Path => "PATH",
+            ValueName::Blocks => "FSIZE",
         }
     }
 }

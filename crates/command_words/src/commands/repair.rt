@@ -1,0 +1,128 @@
+//! The command `repair`.
+ghost use Rattle.std.specs.Prelude.{IfErr, IfOk};
+ghost use Rattle.command_words.specs.Invocations.{AsksFor, AsksForNothing, IsNewCopyGiven, IsNewCopyMissing, TellsOf};
+ghost use Rattle.command_words.specs.declared.verbs.Verb.TheVariants as verbs;
+
+use crate::fault::WordFault;
+use crate::given::{Given, flag_in, long_or, missing, moment_in};
+use crate::invocation::{Invocation, MadeFile};
+use crate::parameters::{
+    AT, EDITION, IMAGE, Need, Parameter, UNREPLACED, ValueName, WordKind,
+};
+use crate::read_words::volume_in;
+use command_changes::Repairing;
+use std::alloc::Global;
+
+pub(crate) const NAME: &str = "repair";
+
+pub(crate) const ABOUT: &str = "Makes a sound copy of a damaged volume, and prints what it changes.";
+
+pub(crate) const MORE: &str = "\
+Examples:
+  unixvol repair 7 disk.img -n
+  unixvol repair 7 disk.img repaired.img
+  unixvol repair 7 disk.img repaired.img 173750400 --blocks 5000
+
+IMAGE is only read. NEW is made or replaced as `unixvol migrate` does with its new volume, if the copy is sound: it
+must be a different file, and if standard error is a terminal, a line says what a replaced file held. With --new
+nothing is written if something already has the path NEW. With -n nothing is written, and NEW may be left out.
+
+The copy is as long as the volume, with its boot block and sizes. A file fits if it is regular and not the root, its
+size is within the limit, and each block that it points to is a data block to which nothing else points. Files that
+fit keep their i-numbers, permissions, owners, sizes, blocks, times and bytes; only their link counts may change. All
+else is mended so that the twelve rules hold: two uses of one block become two blocks, block numbers that can't be
+are cleared, entries that lead to nothing are removed, and whatever has no entry gets one in /lost+found, with the
+name # and its i-number. NOW is the time of a directory that has to be made. With --blocks the copy has at least FSIZE
+blocks: if the volume has fewer, blocks of zeros are appended before, and are free afterwards.
+
+Each difference has a line:
+  i-node 17: cleared                       it was allocated, and is free now
+  i-node 87: made                          it was free or of another kind, and is a new one now
+  i-node 5: size 70000 -> 4096             in bytes
+  i-node 7: contents or fields changed     of a file that doesn't fit, or of a directory
+  i-node 2: links 4 -> 5
+  directory 2, slot 5: 92 motd -> empty    an i-number and a name, before and now
+  free list: rebuilt                       or another field of the super-block changed
+A sound volume has no line, and its copy is the same. The lines are on standard error if NEW is standard output.
+
+Status:
+  0  the copy is sound and was saved; with -n, it can be made
+  1  `unixvol: unsound, rule N`: the volume breaks rule 1 or 2, so its sizes aren't known
+     `unixvol: bounds`: no volume of the edition has FSIZE blocks: 65535 in the sixth, 16777216 in the seventh
+     `unixvol: 28 NoSpace`: there is no room for a directory or an entry that is needed; --blocks makes some
+     `unixvol: 112 NotRepaired`: the copy still isn't sound, or a file that fits would change
+  2  the command line is wrong
+  3  `unixvol: cannot read IMAGE`, `unixvol: cannot write NEW`; with --new, also if something already has this path
+     `unixvol: cannot write -`: standard output failed
+  4  `unixvol: 12 NoMemory`";
+
+const NEW: Parameter = Parameter {
+    name: "NEW",
+    kind: WordKind::Text,
+    need: Need::Maybe,
+    help: "The file to make or replace; needed without -n",
+};
+
+const NOW: Parameter = Parameter {
+    name: "NOW",
+    kind: WordKind::Moment,
+    need: Need::Maybe,
+    help: "The time of new directories: seconds since 1970, or a date like 2026-11-23 or 2026-11-23T12:00:00Z; by default, now",
+};
+
+const DRY_RUN: Parameter = Parameter {
+    name: "dry-run",
+    kind: WordKind::Flag,
+    need: Need::Flag(Some('n')),
+    help: "Write nothing, and print what would change",
+};
+
+const BLOCKS: Parameter = Parameter {
+    name: "blocks",
+    kind: WordKind::LongOr,
+    need: Need::Value(None, ValueName::Blocks),
+    help: "The fewest blocks that the copy has, of 512 bytes",
+};
+
+/// The words that `repair` takes.
+pub(crate) const WORDS: &[Parameter] =
+    &[EDITION, IMAGE, AT, NEW, NOW, UNREPLACED, DRY_RUN, BLOCKS];
+
+/// Reads the words of `repair`.
+pub(crate) fn read<'a, G: Given<'a>>(
+    _alloc: Global,
+    given: &G,
+    clock: Option<u32>,
+) -> Result<Invocation<'a>, WordFault<'a>>
+    ensures read { IfOk result (AsksFor clock verbs.Repair (G.words given.now)) }
+    ensures refused { IfErr result (TellsOf (AsksForNothing clock verbs.Repair (G.words given.now))) }
+{
+    let volume = volume_in(given)?;
+    let repairing = Repairing {
+        blocks: long_or(given, "blocks", 0)?,
+        now: moment_in(given, clock)?,
+    };
+    let copy = copy_in(given)?;
+    Ok(Invocation::Repair {
+        volume,
+        copy,
+        repairing,
+    })
+}
+
+/// Reads the file for the copy that `repair` makes: none if the copy isn't saved.
+fn copy_in<'a, G: Given<'a>>(given: &G) -> Result<Option<MadeFile<'a>>, WordFault<'a>>
+    ensures read { IfOk result (IsNewCopyGiven (G.words given.now)) }
+    ensures refused { IfErr result (TellsOf (IsNewCopyMissing (G.words given.now))) }
+{
+    if flag_in(given, "dry-run") {
+        return Ok(None);
+    }
+    match given.first("NEW") {
+        Some(path) => {
+            let is_new = flag_in(given, "new");
+            Ok(Some(MadeFile { path, is_new }))
+        }
+        None => Err(missing("NEW", "name a file for the copy, or add -n")),
+    }
+}

@@ -11,7 +11,7 @@ pub mod Identified
 pub mod Looked
 pub mod MadeVolumes
 pub mod Played
-pub mod Salvaged
+pub mod CopiesMade
 pub mod Saved
 pub mod Traced
 pub mod VisitedBelow

@@ -19,10 +19,11 @@ pub record IsReportTold (streams : Streams) (report : List ℕ) (code : ℕ) : T
   pub working : streams.failed ≡ streams.had_failed
   pub said : streams.said report
 
--- true if a command may succeed and still report something: `salvage -o` has its report on standard error if the copy goes to standard output (this
--- project)
+-- true if a command may succeed and still report something: `salvage -o` and `repair` have their reports on standard error if the copy goes to standard
+-- output (this project)
 abbrev pub may_report : Invocation → Bool
 may_report (invocations.Salvage volume copy) = is_some copy
+may_report (invocations.Repair volume copy repairing) = is_some copy
 may_report _ = false
 
 -- true if the words that were read may succeed and still report something (this project)

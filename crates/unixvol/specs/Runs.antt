@@ -34,6 +34,7 @@ use Rattle.command_faults.specs.Outcomes.{Concludes, IsAmong}
 use Rattle.command_faults.specs.Streams.{Gets, Streams}
 use Rattle.command_changes.specs.Mkfs.{mkfs_line_at}
 use Rattle.command_changes.specs.Migrate.{of_migration}
+use Rattle.command_changes.specs.Repair.{IsRepairReported, IsUnrepaired}
 use Rattle.command_changes.specs.Resize.{of_resize}
 use Rattle.command_changes.specs.Salvage.{IsReported, IsUnsalvaged}
 use Rattle.command_faults.specs.declared.answer.Remarked.{Remarked}
@@ -59,6 +60,7 @@ use Rattle.command_words.specs.declared.invocation.Work.TheVariants as works
 use Rattle.vol_check.specs.declared.checker.Checker.{Checker}
 use Rattle.command_changes.specs.declared.mkfs.MadeVolume.{MadeVolume}
 use Rattle.command_changes.specs.declared.migrate.Migration.{Migration}
+use Rattle.command_changes.specs.declared.repair.Repairing.{Repairing}
 use Rattle.vol_mkfs.specs.declared.blank.NewVolume.{NewVolume}
 use Rattle.host_files.specs.OpenedFiles.{IsOpened}
 use Rattle.host_files.specs.Packs.{IsReadFrom}
@@ -269,20 +271,30 @@ SavesCopy streams taken stood bytes report status =
     ⊎ (IsOneFile stood × taken bytes × IsReportTold streams report status)
     ⊎ (IsStatusOfFileOrMemory status × Keeps streams.old streams.new × (streams.failed ≡ streams.had_failed) × streams.said [])
 
--- the report on a salvaged volume is printed; if a file is named for the volume, it is saved there first, and if that fails nothing is printed (this
--- project)
-abbrev pub ReportsSalvage : {A : Type 0} → Option A → Streams → (List ℕ → Type 0) → (Stamp → Type 0) → List ℕ → List ℕ → ℕ → Type 0
-ReportsSalvage None streams taken stood bytes report status = Prints streams report status
-ReportsSalvage (Some copy) streams taken stood bytes report status = SavesCopy streams taken stood bytes report status
+-- the report on a volume is printed; if a file is named for the volume, it is saved there first, and if that fails nothing is printed (this project)
+abbrev pub ReportsCopy : {A : Type 0} → Option A → Streams → (List ℕ → Type 0) → (Stamp → Type 0) → List ℕ → List ℕ → ℕ → Type 0
+ReportsCopy None streams taken stood bytes report status = Prints streams report status
+ReportsCopy (Some copy) streams taken stood bytes report status = SavesCopy streams taken stood bytes report status
+
+-- a command runs that makes a volume from an image, and reports on it: nothing is done; or an image is read from a file, and a fault of this kind is
+-- reported; or a volume and a report of this kind are made from the image, and the report is printed (this project)
+abbrev pub RunsCopying : {A : Type 0} → Streams → HostFiles → Edition → (List ℕ → Fault → Type 0) → (List ℕ → List ℕ → List ℕ → Type 0) → Option A → ℕ → Type 0
+RunsCopying streams files edition fails makes copy status =
+    RunsNothing streams files status
+    ⊎ ((image : List ℕ) × files.shown edition image
+    × (((fault : Fault) × fails image fault × IsTold streams fault status)
+    ⊎ ((bytes : List ℕ) × (report : List ℕ) × makes image bytes report × ReportsCopy copy streams files.taken files.stood bytes report status)))
 
 -- `salvage -n` or `-o` runs: nothing is done; or the reason why the image that a file gave can't be salvaged is reported; or it is salvaged, and reported
 -- on (this project)
 abbrev pub RunsSalvage : {A : Type 0} → Streams → HostFiles → Edition → Option A → ℕ → Type 0
-RunsSalvage streams files edition copy status =
-    RunsNothing streams files status
-    ⊎ ((image : List ℕ) × files.shown edition image
-    × (((fault : Fault) × IsUnsalvaged edition image fault × IsTold streams fault status)
-    ⊎ ((bytes : List ℕ) × (report : List ℕ) × IsReported edition image bytes report × ReportsSalvage copy streams files.taken files.stood bytes report status)))
+RunsSalvage streams files edition copy status = RunsCopying streams files edition (IsUnsalvaged edition) (IsReported edition) copy status
+
+-- `repair` runs: nothing is done; or the reason why the image that a file gave isn't repaired is reported; or it is repaired, to a copy, and all that
+-- differs is reported (this project)
+abbrev pub RunsRepair : {A : Type 0} → Streams → HostFiles → Edition → Option A → Repairing → ℕ → Type 0
+RunsRepair streams files edition copy repairing status =
+    RunsCopying streams files edition (IsUnrepaired edition repairing.blocks) (IsRepairReported edition repairing.blocks) copy status
 
 -- `get` runs: nothing is done; or the file at a path of an image, which is read from a file, is printed (this project)
 abbrev pub RunsGetOne : Streams → HostFiles → Edition → List ℕ → ℕ → Type 0
@@ -440,6 +452,7 @@ volume_at (invocations.Identify images form is_deep) = 0
 volume_at (invocations.Diff volume other by) = volume.at
 volume_at (invocations.ExportBad volume map path options) = volume.at
 volume_at (invocations.Salvage volume copy) = volume.at
+volume_at (invocations.Repair volume copy repairing) = volume.at
 volume_at (invocations.Resize volume blocks is_trial) = volume.at
 volume_at (invocations.Look volume look) = volume.at
 volume_at (invocations.Change volume change trace) = volume.at
@@ -462,6 +475,7 @@ Runs streams files status (invocations.Identify images form is_deep) = ⊥
 Runs streams files status (invocations.Diff volume other by) = ⊥
 Runs streams files status (invocations.ExportBad volume map path options) = ⊥
 Runs streams files status (invocations.Salvage volume copy) = RunsSalvage streams files volume.edition copy status
+Runs streams files status (invocations.Repair volume copy repairing) = RunsRepair streams files volume.edition copy repairing status
 Runs streams files status (invocations.Resize volume blocks is_trial) = RunsResize streams files volume blocks is_trial status
 Runs streams files status (invocations.Look volume look) = ⊥
 Runs streams files status (invocations.Change volume change trace) = ⊥

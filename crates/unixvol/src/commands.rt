@@ -1,11 +1,11 @@
-//! `cat`, `get`, `mkfs`, `migrate`, `resize`, `salvage -n` and `salvage -o`, which print all or nothing: the files they open and save.
-ghost use Rattle.std.specs.Prelude.{◌≡◌, ◌≢◌, ◌≤◌, ℕ, Bool, true, List, Option, IfOk, string_bytes};
+//! `cat`, `get`, `mkfs`, `migrate`, `resize`, `salvage -n`, `salvage -o` and `repair`, which print all or nothing: the files they open and save.
+ghost use Rattle.std.specs.Prelude.{◌≡◌, ◌≢◌, ◌≤◌, ℕ, Bool, true, List, Option, IfOk};
 ghost use Rattle.std.specs.Io.KnownBytes.{Keeps};
 ghost use Rattle.std.specs.Process.{exit_status};
 ghost use Rattle.command_faults.specs.Faults.{line_after};
 ghost use Rattle.command_faults.specs.Streams.{ErrorStream, Hears, still, streams};
 ghost use Rattle.unixvol.specs.Reports.{IsOneFile, may_report, may_report_read};
-ghost use Rattle.unixvol.specs.Runs.{IsPlainCommand, IsUnread, GaveAt, PrintsBody, RunsMigrate, RunsMkfs, RunsSalvage, Runs, RunsRead, SavesCopy, RunsToEnd, Ends, but_remarks, host_files, made_in, new_place_at, read_at, volume_at};
+ghost use Rattle.unixvol.specs.Runs.{IsPlainCommand, IsUnread, GaveAt, PrintsBody, RunsMigrate, RunsMkfs, RunsRepair, RunsSalvage, Runs, RunsRead, SavesCopy, RunsToEnd, Ends, but_remarks, host_files, made_in, new_place_at, read_at, volume_at};
 ghost use Rattle.host_files.specs.Save.{IsTaken};
 
 use crate::explain::{explain_cat, explain_command_line, finish, tell_fault};
@@ -13,13 +13,14 @@ use crate::host::Surroundings;
 use crate::looks::run_get;
 use crate::read::{read_stamped, read_volume};
 use crate::resize::run_resize;
-use crate::save::{save_made, save_migrated, save_over};
+use crate::save::{explain_there, is_kept, save_made, save_migrated, save_over};
 use crate::subject::Subject;
 use clap::Error;
-use command_changes::Migration;
 use command_changes::migrate::migrate_image;
 use command_changes::mkfs::make_volume;
+use command_changes::repair::repair_with_report;
 use command_changes::salvage::{ReportedVolume, salvage_with_report};
+use command_changes::{Migration, Repairing};
 use command_faults::answer::{conclude, unremarked};
 use command_faults::status::DONE;
 use command_faults::{Ending, Fault};
@@ -101,6 +102,11 @@ fn carry_out<R: ImageFiles + Clock + Eprint + AllocGlobal, O: Sink>(
             migration,
         } => run_migrate(host, old, at, new, migration),
         Invocation::Salvage { volume, copy } => run_salvage(host, output, volume, copy),
+        Invocation::Repair {
+            volume,
+            copy,
+            repairing,
+        } => run_repair(host, output, volume, copy, repairing),
         Invocation::Resize {
             volume,
             blocks,
@@ -219,24 +225,74 @@ fn run_salvage<R: ImageFiles + Clock + Eprint + AllocGlobal, O: Sink>(
     };
     match copy {
         Some(copy) => save_copy(host, output, copy, stamp, salvaged),
-        None => print_with(salvaged.report.as_bytes(), DONE, output),
+        None => print_with(&salvaged.report, DONE, output),
     }
 }
 
-/// Saves a salvaged volume in the file `copy`, prints its report, and returns how the run ends. The file with the stamp `old`, from which
+/// Repairs the volume in a file, to a copy in memory; saves it in the file `copy`, if one is named; prints all that differs, and returns how the run ends.
+fn run_repair<R: ImageFiles + Clock + Eprint + AllocGlobal, O: Sink>(
+    host: &Surroundings<'_, R>,
+    output: &mut O,
+    volume: VolumeFile<'_>,
+    copy: Option<MadeFile<'_>>,
+    repairing: Repairing,
+) -> Ending
+    ensures { (errors : ErrorStream) → Hears errors result.fault
+        → RunsRepair (streams O.contents O.failed output.old output.new errors) (host_files volume.entry.at R.File.remaining R.File.contents R.had R.stood) volume.entry.edition copy.entry repairing result.status }
+{
+    let (image, stamp) = match read_stamped(host, volume) {
+        Ok(read) => read,
+        Err(status) => {
+            return Ending {
+                status,
+                fault: None,
+            };
+        }
+    };
+    let repaired = match repair_with_report(host.rt.alloc(), volume.edition, image, repairing) {
+        Ok(repaired) => repaired,
+        Err(fault) => return Ending::from(fault),
+    };
+    match copy {
+        Some(copy) => save_unless_kept(host, output, copy, stamp, repaired),
+        None => print_with(&repaired.report, DONE, output),
+    }
+}
+
+/// Saves a volume as [`save_copy`] does, unless the file must be new and something exists at its path, which is reported then.
+fn save_unless_kept<R: ImageFiles + Clock + Eprint + AllocGlobal, O: Sink>(
+    host: &Surroundings<'_, R>,
+    output: &mut O,
+    copy: MadeFile<'_>,
+    old: Stamp,
+    made: ReportedVolume,
+) -> Ending
+    ensures { (errors : ErrorStream) → Hears errors result.fault
+        → SavesCopy (streams O.contents O.failed output.old output.new errors) (IsTaken R.File.contents) R.stood made.bytes.items made.report.items result.status }
+{
+    if is_kept(host, copy) {
+        return Ending {
+            status: explain_there(host, copy.path),
+            fault: None,
+        };
+    }
+    save_copy(host, output, copy.path, old, made)
+}
+
+/// Saves a volume in the file `copy`, prints its report, and returns how the run ends. The file with the stamp `old`, from which
 /// it was made, isn't replaced. If the file is standard output, the report goes to standard error.
 fn save_copy<R: ImageFiles + Clock + Eprint + AllocGlobal, O: Sink>(
     host: &Surroundings<'_, R>,
     output: &mut O,
     copy: &str,
     old: Stamp,
-    salvaged: ReportedVolume,
+    made: ReportedVolume,
 ) -> Ending
     ensures { (errors : ErrorStream) → Hears errors result.fault
-        → SavesCopy (streams O.contents O.failed output.old output.new errors) (IsTaken R.File.contents) R.stood salvaged.bytes.items (string_bytes salvaged.report) result.status }
+        → SavesCopy (streams O.contents O.failed output.old output.new errors) (IsTaken R.File.contents) R.stood made.bytes.items made.report.items result.status }
 {
     let is_output = is_output(host.rt, copy);
-    let status = save_over(host, copy, old, &salvaged.bytes, DONE);
+    let status = save_over(host, copy, old, &made.bytes, DONE);
     if status != DONE {
         return Ending {
             status,
@@ -244,21 +300,21 @@ fn save_copy<R: ImageFiles + Clock + Eprint + AllocGlobal, O: Sink>(
         };
     }
     if is_output {
-        return tell_report(salvaged.report);
+        return tell_report(made.report);
     }
-    print_with(salvaged.report.as_bytes(), DONE, output)
+    print_with(&made.report, DONE, output)
 }
 
 /// Returns the result of a run that succeeds, and has a report for standard error.
-fn tell_report(report: String) -> Ending
+fn tell_report(report: Vec<u8>) -> Ending
     ensures status { result.status ≡ 0 }
-    ensures line { line_after result.fault ≡ string_bytes report }
+    ensures line { line_after result.fault ≡ report.items }
 {
     Ending {
         status: DONE,
         fault: Some(Fault::Worded {
             rule: None,
-            lines: report.into_bytes(),
+            lines: report,
         }),
     }
 }

@@ -5,6 +5,7 @@ use crate::line_meanings::line_meaning;
 use crate::sizes::Sizes;
 use crate::subject::{About, Subject};
 use command_changes::SPARSE_FILE;
+use command_changes::repair::NOT_REPAIRED;
 use command_faults::{Fault, LineFlaw};
 use command_words::Verb;
 use escaped_text::push_escaped;
@@ -27,6 +28,10 @@ const BAD_ID: &str =
 /// The meaning of a sparse file in an archive.
 const STORED_SPARSE: &str =
     "it is stored without its zeros; `tar` without -S, or `bsdtar --no-read-sparse`, stores it whole";
+
+/// The meaning of NotRepaired.
+const UNREPAIRED: &str =
+    "its copy still isn't sound, or would change a file that fits: nothing is saved; `unixvol export --lost` reads what is there";
 
 /// The text for an export that wrote nothing.
 const NOTHING_EXPORTED: &str = "; nothing is exported";
@@ -96,7 +101,8 @@ fn meaning(alloc: Global, about: String, words: &str) -> Result<Option<String>, 
     Ok(Some(format!(in alloc; "{about}: {words}")?))
 }
 
-/// Returns the meaning of an archive that can't be read because it is compressed, or has a sparse file.
+/// Returns the meaning of an archive that can't be read because it is compressed, or has a sparse file; of a volume that needs more blocks; or of one that
+/// isn't repaired.
 fn unread_meaning(
     alloc: Global,
     lines: &[u8],
@@ -112,6 +118,10 @@ fn unread_meaning(
             meaning(alloc, member, STORED_SPARSE)
         }
         (Verb::Resize, _) => needs_meaning(alloc, lines, subject),
+        (Verb::Repair, _) if lines == NOT_REPAIRED => {
+            let image = shown(alloc, subject.image)?;
+            meaning(alloc, image, UNREPAIRED)
+        }
         _ => Ok(None),
     }
 }
@@ -421,6 +431,8 @@ fn too_big(verb: Verb) -> &'static str {
 fn no_space(verb: Verb) -> &'static str {
     match verb {
         Verb::Migrate => "the files need more blocks than the new volume has for them",
+        Verb::Repair =>
+            "there is no room for a directory or an entry that the repair needs; add --blocks N for a larger volume",
         _ => "more blocks are needed than are free",
     }
 }

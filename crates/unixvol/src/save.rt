@@ -228,12 +228,12 @@ fn open_made<R: ImageFiles + Clock + Eprint + AllocGlobal>(
 }
 
 /// True if something exists at the path of a file that must be new.
-fn is_kept<R: ImageFiles>(host: &Surroundings<'_, R>, file: MadeFile<'_>) -> bool {
+pub fn is_kept<R: ImageFiles>(host: &Surroundings<'_, R>, file: MadeFile<'_>) -> bool {
     file.is_new && host.rt.is_there(file.path)
 }
 
 /// Prints that something exists at the path of a file that must be new, and returns the status.
-fn explain_there<R: Eprint + AllocGlobal>(host: &Surroundings<'_, R>, path: &str) -> u8
+pub fn explain_there<R: Eprint + AllocGlobal>(host: &Surroundings<'_, R>, path: &str) -> u8
     ensures { result ≡ 3 }
 {
     explain_unwritten(host, NamedFile::File(path), io::Error::other(THERE))

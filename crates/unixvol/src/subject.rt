@@ -58,6 +58,9 @@ impl<'a> Subject<'a> {
             Invocation::Salvage { volume, .. } => {
                 Some(Subject::new(*volume, Verb::Salvage, About::Image))
             }
+            Invocation::Repair { volume, .. } => {
+                Some(Subject::new(*volume, Verb::Repair, About::Image))
+            }
             Invocation::Resize { volume, .. } => {
                 Some(Subject::new(*volume, Verb::Resize, About::Image))
             }

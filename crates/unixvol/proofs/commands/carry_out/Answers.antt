@@ -1,6 +1,8 @@
+use Rattle.command_changes.specs.Repair.{IsRepairReported, IsUnrepaired}
+use Rattle.command_changes.specs.Salvage.{IsReported, IsUnsalvaged}
 use Rattle.command_faults.specs.Streams.{streams}
 use Rattle.unixvol.specs.Runs.{host_files}
-use Rattle.unixvol.proofs.Salvaged.{ends_salvage}
+use Rattle.unixvol.proofs.CopiesMade.{ends_copying}
 use Rattle.unixvol.proofs.commands.carry_out.Goals as goal
 
 pub returns-in-Get-clause-runs : goal.returns-in-Get-clause-runs
@@ -47,4 +49,13 @@ returns-in-Salvage-clause-runs g c errors hears = rw c.in-Salvage.is (c.run_salv
 
 pub returns-in-Salvage-clause-ends : goal.returns-in-Salvage-clause-ends
 returns-in-Salvage-clause-ends g c errors hears =
-    rw c.in-Salvage.is (ends_salvage c.in-Salvage.volume.at g.R.File.Read.remaining g.R.File.Write.contents g.R.ImageFiles.had g.R.ImageFiles.stood _ c.in-Salvage.volume.edition c.in-Salvage.copy c.run_salvage.result.status (c.run_salvage.ensures errors hears))
+    rw c.in-Salvage.is (ends_copying c.in-Salvage.volume.at g.R.File.Read.remaining g.R.File.Write.contents g.R.ImageFiles.had g.R.ImageFiles.stood _ c.in-Salvage.volume.edition
+    (IsUnsalvaged c.in-Salvage.volume.edition) (IsReported c.in-Salvage.volume.edition) c.in-Salvage.copy c.run_salvage.result.status (c.run_salvage.ensures errors hears))
+
+pub returns-in-Repair-clause-runs : goal.returns-in-Repair-clause-runs
+returns-in-Repair-clause-runs g c errors hears = rw c.in-Repair.is (c.run_repair.ensures errors hears)
+
+pub returns-in-Repair-clause-ends : goal.returns-in-Repair-clause-ends
+returns-in-Repair-clause-ends g c errors hears =
+    rw c.in-Repair.is (ends_copying c.in-Repair.volume.at g.R.File.Read.remaining g.R.File.Write.contents g.R.ImageFiles.had g.R.ImageFiles.stood _ c.in-Repair.volume.edition
+    (IsUnrepaired c.in-Repair.volume.edition c.in-Repair.repairing.blocks) (IsRepairReported c.in-Repair.volume.edition c.in-Repair.repairing.blocks) c.in-Repair.copy c.run_repair.result.status (c.run_repair.ensures errors hears))

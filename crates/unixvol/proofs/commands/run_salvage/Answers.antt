@@ -1,4 +1,4 @@
-use Rattle.std.proofs.Common.{inr, string_bytes}
+use Rattle.std.proofs.Common.{inr}
 use Rattle.unixvol.proofs.commands.run_salvage.Goals as goal
 
 -- the salvaged volume is saved, and its report is printed
@@ -8,7 +8,7 @@ returns-in-Some g c errors hears =
     inr (
       c.in-Ok.read.0.items,
       c.in-Ok.ensures.given,
-      inr (made.salvaged.bytes.items, string_bytes made.salvaged.report, made.ensures.salvaged, rw c.in-Some.is (c.save_copy.ensures errors hears)),
+      inr (made.salvaged.bytes.items, made.salvaged.report.items, made.ensures.salvaged, rw c.in-Some.is (c.save_copy.ensures errors hears)),
     )
 
 -- only its report is printed
@@ -18,10 +18,5 @@ returns-in-None g c errors hears =
     inr (
       c.in-Ok.read.0.items,
       c.in-Ok.ensures.given,
-      inr (
-        made.salvaged.bytes.items,
-        string_bytes made.salvaged.report,
-        made.ensures.salvaged,
-        rw c.in-None.is (rw c.as_bytes.ensures.value at (c.print_with.ensures errors hears)),
-      ),
+      inr (made.salvaged.bytes.items, made.salvaged.report.items, made.ensures.salvaged, rw c.in-None.is (rw c.deref.ensures.value at (c.print_with.ensures errors hears))),
     )

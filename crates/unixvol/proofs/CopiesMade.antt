@@ -1,4 +1,4 @@
--- The end of `salvage -n` and of `salvage -o`.
+-- The end of `salvage -n`, of `salvage -o` and of `repair`.
 use Rattle.std.proofs.Common.{◌≡◌, ℕ, ◌≤◌, true, List, Option, None, Some, inl, inr, sym, subst, arith}
 use Rattle.std.specs.Option.{is_some}
 use Rattle.std.specs.Io.KnownBytes.{Keeps}
@@ -11,7 +11,7 @@ use Rattle.host_files.specs.declared.image_file.Stamp.{Stamp}
 use Rattle.vol_layout.specs.declared.edition.Edition.{Edition}
 use Rattle.unixvol.proofs.Concluded.{ends_remarked, ends_unread}
 use Rattle.unixvol.specs.Reports.{IsReportTold}
-use Rattle.unixvol.specs.Runs.{Ends, IsStatusOfFileOrMemory, ReportsSalvage, RunsSalvage, SavesCopy, but_remarks, host_files}
+use Rattle.unixvol.specs.Runs.{Ends, IsStatusOfFileOrMemory, ReportsCopy, RunsCopying, SavesCopy, but_remarks, host_files}
 
 -- the end of a run that reports a fault
 ends_told : (streams : Streams) (fault : Fault) (status : ℕ) → IsTold streams fault status → Ends streams status
@@ -53,17 +53,18 @@ ends_copy streams taken stood bytes report status (inr (inr unsaved)) =
     ends_remarked true streams status (ends_unsaved streams status unsaved.0 unsaved.1)
 
 ends_reported : {A : Type 0} (copy : Option A) (streams : Streams) (taken : List ℕ → Type 0) (stood : Stamp → Type 0) (bytes report : List ℕ) (status : ℕ)
-    → ReportsSalvage copy streams taken stood bytes report status → Ends (but_remarks (is_some copy) streams) status
+    → ReportsCopy copy streams taken stood bytes report status → Ends (but_remarks (is_some copy) streams) status
 ends_reported None streams taken stood bytes report status prints = ends_printed streams report status prints
 ends_reported (Some copy) streams taken stood bytes report status saves = ends_copy streams taken stood bytes report status saves
 
--- `salvage -n` and `salvage -o` end as a plain command does, except that `-o` may report on standard error
-pub ends_salvage : {F A : Type 0} (at : ℕ) (remaining contents : F → Option (List ℕ)) (had : F → Stamp → Type 0) (stood : Stamp → Type 0) (streams : Streams)
-    (edition : Edition) (copy : Option A) (status : ℕ) → RunsSalvage streams (host_files at remaining contents had stood) edition copy status
-    → Ends (but_remarks (is_some copy) streams) status
-ends_salvage at remaining contents had stood streams edition copy status (inl nothing) =
+-- a command that makes a volume from an image, and reports on it, ends as a plain command does, except that it may report on standard error if a file is
+-- named for the volume
+pub ends_copying : {F A : Type 0} (at : ℕ) (remaining contents : F → Option (List ℕ)) (had : F → Stamp → Type 0) (stood : Stamp → Type 0) (streams : Streams)
+    (edition : Edition) (fails : List ℕ → Fault → Type 0) (makes : List ℕ → List ℕ → List ℕ → Type 0) (copy : Option A) (status : ℕ)
+    → RunsCopying streams (host_files at remaining contents had stood) edition fails makes copy status → Ends (but_remarks (is_some copy) streams) status
+ends_copying at remaining contents had stood streams edition fails makes copy status (inl nothing) =
     ends_remarked (is_some copy) streams status (ends_unread remaining streams status nothing.0 nothing.1)
-ends_salvage at remaining contents had stood streams edition copy status (inr (image, given, inl (fault, why, told))) =
+ends_copying at remaining contents had stood streams edition fails makes copy status (inr (image, given, inl (fault, why, told))) =
     ends_remarked (is_some copy) streams status (ends_told streams fault status told)
-ends_salvage at remaining contents had stood streams edition copy status (inr (image, given, inr (bytes, report, is, reports))) =
+ends_copying at remaining contents had stood streams edition fails makes copy status (inr (image, given, inr (bytes, report, is, reports))) =
     ends_reported copy streams (IsTaken contents) stood bytes report status reports

@@ -28,12 +28,12 @@ looks_same() {
 }
 for edition in 6 7; do
     cp "disk$edition" before
-    for words in 'cat' 'ls' 'get' 'find' 'export' 'sums' 'inode' 'super' 'free' 'block' 'dump' 'df' 'map' 'check' 'icheck' 'dcheck' 'ncheck' 'salvage'; do
+    for words in 'cat' 'ls' 'get' 'find' 'export' 'sums' 'inode' 'super' 'free' 'block' 'dump' 'df' 'map' 'check' 'icheck' 'dcheck' 'ncheck' 'salvage' 'repair'; do
         case $words in
             cat | inode | get) more=/d/hello ;;
             block | dump) more=1 ;;
             icheck | dcheck | ncheck) more=2 ;;
-            salvage) more=-n ;;
+            salvage | repair) more=-n ;;
             *) more= ;;
         esac
         looks_same "$edition" "$words" "disk$edition" $more

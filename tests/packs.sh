@@ -80,7 +80,7 @@ rm broken holder
 cut_out pack $seventh 8000 cut
 saves 'the volume that was put into the pack' cut second
 for words in 'cat /d/body' 'cat 3' 'ls' 'ls /d --long' 'ls --slots' 'ls -R --json' 'get /d/body' 'find' 'find -g b*' 'export' 'sums' 'sums --json' 'inode /d/body' 'super' \
-    'free' 'block 300' 'df' 'map' 'map --svg' 'check' 'check --json' 'icheck 2' 'dcheck 2' 'ncheck 2' 'salvage -n'; do
+    'free' 'block 300' 'df' 'map' 'map --svg' 'check' 'check --json' 'icheck 2' 'dcheck 2' 'ncheck 2' 'salvage -n' 'repair -n'; do
     read -r -a given <<< "$words"
     looks_same $seventh 7 second "${given[@]}"
 done

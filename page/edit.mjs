@@ -80,10 +80,11 @@ export async function exportTree(entry) {
   if (ended) say(ended.error.trim() || `${name} was saved.`, Boolean(ended.status));
 }
 
-/** Writes the files of an image that was cut off into an archive: those that are whole, or the damaged ones too. Returns what is said of the others. */
-export async function exportCut(isWithDamaged) {
+/** Writes the files of an image with lost blocks into an archive: those that are whole, or the damaged ones too. `lost` are the options that say which
+  blocks are lost. Returns what is said of the others. */
+export async function exportRescued(lost, isWithDamaged) {
   const name = `${state.image.name}.tar`;
-  const ended = await savesArchive(['export', '--cut', ...(isWithDamaged ? ['--damaged'] : []), ...at()], name);
+  const ended = await savesArchive(['export', ...lost, ...(isWithDamaged ? ['--damaged'] : []), ...at()], name);
   if (!ended) return '';
   say(ended.length ? `${name} was saved.` : 'Nothing was saved.', !ended.length);
   return ended.error;
@@ -139,6 +140,17 @@ export async function salvage() {
   const given = await asks('Repair the free list?', [], { ok: 'Repair',
     note: `${tried.text.trim()}. Files and directories stay as they are. You can undo this in Changes.` });
   if (given) await changes(['salvage', ...at()], 'The free list was rebuilt.');
+}
+
+/** Makes a sound copy of a damaged volume, and opens it. */
+export async function repair() {
+  const { image } = state;
+  const given = await asks('Make a repaired copy?', [{ name: 'name', label: 'Name of the copy', value: `repaired_${image.name}` }], { ok: 'Repair',
+    note: `${image.name} stays as it is.` });
+  if (!given?.name) return;
+  const ended = await run(['repair', '--new', ...at(image), given.name], { limit: ASKED });
+  if (ended.status) say(ended.error.trim().split('\n').join(' '), true);
+  else say(`${given.name} was made: it is sound.`);
 }
 
 const VOLUME = /^  at (\d+): a volume of edition (\d), with (\d+) blocks/;

@@ -1,9 +1,9 @@
 // The tabs that show what the program says of a volume: check, i-node, volume, find.
-import { button, clear, counted, doing, el, fill, link, longTable, modeText, moment, save, table } from './dom.mjs';
-import { exportCut } from './edit.mjs';
+import { button, chooseFiles, clear, counted, doing, el, fill, link, longTable, modeText, moment, save, table } from './dom.mjs';
+import { exportRescued, repair } from './edit.mjs';
 import { ask } from './engine.mjs';
 import { INODE_BYTES, inodeAt, readInode } from './layout.mjs';
-import { at, go, run, state } from './shelf.mjs';
+import { addFile, at, go, removeFile, run, state } from './shelf.mjs';
 import { plainPath, readTree, reveal } from './tree.mjs';
 
 const PLACES = /(i-nodes?|blocks?|directory) (\d+)/g;
@@ -58,16 +58,41 @@ export async function showCheck(panel) {
   const note = image.check.split('\n').filter((it) => it.startsWith('note:')).join(' ');
   const report = el('div', { 'aria-live': 'polite' });
   const asks = async (command) => report.replaceChildren(el('h3', {}, command), printed(await run([command, ...at(), 1], { limit: SAID })));
-  const cut = (label, id, isWithDamaged) => button(label, async () => {
-    const said = await exportCut(isWithDamaged);
-    report.replaceChildren(said ? el('pre', { id: 'lost' }, said.slice(0, SAID), said.length > SAID ? `.. and ${said.length - SAID} characters more` : '') : '');
-  }, { id });
-  const rescue = image.isCut && el('p', { className: 'row' }, 'The image is cut off. Export as tar: ', cut('files that are whole', 'whole', false),
-    cut('damaged files too, with zeros for what is lost', 'damaged', true));
   fill(panel, el('h2', {}, 'Check'), image.rules.length ? el('p', { className: image.isSound ? 'good' : 'bad', id: 'verdict' }, verdict) : null, note
     ? el('p', {}, note) : null,
     image.rules.length ? rulesTable(image) : el('pre', { className: 'bad' }, image.check),
-    rescue || null, el('p', {}, 'The old checkers: ', ['icheck', 'dcheck', 'ncheck'].flatMap((it) => [button(it, () => asks(it)), ' '])), report);
+    image.isVolume ? rescues(image, report) : null, image.isReadable && !image.isSound ? repairs(report) : null, el('p', {}, 'The old checkers: ', ['icheck', 'dcheck', 'ncheck'].flatMap((it) => [button(it, () => asks(it)), ' '])), report);
+}
+
+/** The buttons that export the files of an image of which blocks are lost: it was cut off, or the user has a map of what could be read. */
+function rescues(image, report) {
+  const says = (said) => report.replaceChildren(said ? el('pre', { id: 'lost' }, said.slice(0, SAID), said.length > SAID
+    ? `.. and ${said.length - SAID} characters more` : '') : '');
+  const exports = (work) => ['Export as tar: ', button('files that are whole', async () => says(await work(false)), { id: 'whole' }), ' ',
+    button('damaged files too, with zeros for what is lost', async () => says(await work(true)), { id: 'damaged' })];
+  const row = el('p', { className: 'row' });
+  const takesMap = async () => {
+    const [file] = await chooseFiles(false);
+    if (file) fill(clear(row), `Blocks that ${file.name} calls unread are lost. `, exports((isWithDamaged) => exportMapped(file, isWithDamaged)));
+  };
+  return fill(row, image.isCut ? ['The image is cut off. ', ...exports((isWithDamaged) => exportRescued(['--cut'], isWithDamaged)), ' ']
+    : 'Was the disk read by ddrescue? ', button('Export by its map…', takesMap, { id: 'map-file' }));
+}
+
+/** Exports by a map of GNU ddrescue, which is a file beside the image meanwhile. */
+async function exportMapped(file, isWithDamaged) {
+  const map = await addFile(file.name, file);
+  try {
+    return await exportRescued(['--bad', map], isWithDamaged);
+  } finally {
+    await removeFile(map);
+  }
+}
+
+/** The buttons that show what a repair changes, and that make a repaired copy. */
+function repairs(report) {
+  const shows = async () => report.replaceChildren(el('h3', {}, 'What a repair changes'), printed(await run(['repair', ...at(), '-n'], { limit: SAID })));
+  return el('p', { className: 'row' }, button('What a repair changes', shows, { id: 'repairs' }), button('Make a repaired copy…', repair, { id: 'repair' }));
 }
 
 /** A field for a number, with buttons for the one before and the next. */

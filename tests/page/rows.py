@@ -445,6 +445,38 @@ def check_damaged(page, native):
     has("a free list that is repaired", True, "✓ sound" in page.text("#state"))
 
 
+def check_rescue(page, native):
+    """The files of an image of which a map says what could be read."""
+    sound = f"{LESSONS}/sound.v7"
+    chart = native.write("rescue.map", b"# Mapfile\n0 + 1\n0 0x1400 +\n0x1400 0x200 -\n0x1600 0x10000 +\n")
+    page.open(sound)
+    page.tab("check")
+    page.choose_files("document.getElementById('map-file').click()", [chart])
+    page.wait("document.getElementById('whole')")
+    for button, options in ("whole", []), ("damaged", ["--damaged"]):
+        wanted = native.run("--explain", "export", "--bad", chart, *options, 7, sound)
+        page.click(f"#{button}")
+        name = page.js("return document.getElementById('image').value")
+        has(f"exported by a map: {button}", wanted.stdout, page.download(f"{name}.tar"))
+        page.rests()
+        has(f"what is said of what the map calls unread: {button}", wanted.stderr.decode(), page.text("#lost"))
+
+
+def check_repair(page, native):
+    """A damaged volume: what a repair changes, and the copy that it makes."""
+    page.lesson("rule_09.v7")
+    page.click("#repairs")
+    page.rests()
+    wanted = native.run("--explain", "repair", "-n", 7, f"{LESSONS}/rule_09.v7")
+    has("what a repair changes", wanted.stdout.decode().strip(), page.text("#panel [aria-live] pre").strip())
+    page.click("#repair")
+    page.answers(name="repaired.img")
+    page.says("repaired.img was made")
+    has("the verdict of a repaired copy", True, "✓ sound" in page.text("#state"))
+    native.run("repair", 7, f"{LESSONS}/rule_09.v7", "repaired.img")
+    has("a repaired copy", native.bytes("repaired.img"), page.image("repaired.img"))
+
+
 def packed(native):
     """A pack with a volume at block 102, as a file."""
     with open(LINUX_MADE, "rb") as volume:

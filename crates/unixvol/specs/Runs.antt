@@ -342,7 +342,7 @@ IsSeen files edition (looks.Block block form) image = files.shown edition image
 IsSeen files edition (looks.Dump target radix) image = files.shown edition image
 IsSeen files edition (looks.Df form) image = files.shown edition image
 IsSeen files edition (looks.Find path name lost form) image = files.shown edition image
-IsSeen files edition (looks.Map picture) image = files.shown edition image
+IsSeen files edition (looks.Map picture file) image = files.shown edition image
 IsSeen files edition looks.Uses image = files.shown edition image
 
 -- part of an image is shown: nothing is done; or it is shown from an image that was read from a file (this project)
@@ -543,7 +543,7 @@ highest_status (looks.Block block form) = 4
 highest_status (looks.Dump target radix) = 4
 highest_status (looks.Df form) = 4
 highest_status (looks.Find path name lost form) = 5
-highest_status (looks.Map picture) = 4
+highest_status (looks.Map picture file) = 4
 highest_status looks.Uses = 4
 highest_status (looks.List path listing) = 4
 highest_status (looks.Slots path form) = 4

@@ -39,8 +39,8 @@ pub(crate) fn map_text(
     file: Option<&str>,
     screen: Screen,
 ) -> Result<String, Fault>
-    ensures text { IfOk result (λ text. IsMap edition image.now screen picture (option_map (λ word. word.now) file) (string_bytes text)) }
-    ensures fault { IfErr result (IsPictureFault edition image.now (option_map (λ word. word.now) file)) }
+    ensures text { IfOk result (λ text. IsMap edition image.now screen picture (option_map (λ word. word.now) file.entry) (string_bytes text)) }
+    ensures fault { IfErr result (IsPictureFault edition image.now (option_map (λ word. word.now) file.entry)) }
 {
     match Geometry::read(edition, image) {
         Ok(geometry) => placed_map(alloc, edition, image, &geometry, picture, file, screen),
@@ -60,8 +60,8 @@ fn placed_map(
 ) -> Result<String, Fault>
     requires fits { Fits geometry.now image.now }
     requires read { geometry_read edition image.now ≡ Ok geometry.now }
-    ensures text { IfOk result (λ text. IsMap edition image.now screen picture (option_map (λ word. word.now) file) (string_bytes text)) }
-    ensures fault { IfErr result (IsPictureFault edition image.now (option_map (λ word. word.now) file)) }
+    ensures text { IfOk result (λ text. IsMap edition image.now screen picture (option_map (λ word. word.now) file.entry) (string_bytes text)) }
+    ensures fault { IfErr result (IsPictureFault edition image.now (option_map (λ word. word.now) file.entry)) }
 {
     match file_node(image, geometry, file) {
         Ok(node) => Ok(node_map(alloc, image, geometry, picture, node, screen)?),
@@ -72,7 +72,7 @@ fn placed_map(
 /// Returns the number of the i-node whose blocks are shown, if not all are.
 fn file_node(image: &Image, geometry: &Geometry, file: Option<&str>) -> Result<Option<u16>, Refusal>
     requires { Fits geometry.now image.now }
-    ensures exact { result ≡ file_node geometry.now image.now (option_map (λ word. word.now) file) }
+    ensures exact { result ≡ file_node geometry.now image.now (option_map (λ word. word.now) file.entry) }
     ensures first { IfOk result (λ node. IfSome node (λ i. 1 ≤ i)) }
     ensures last { IfOk result (λ node. IfSome node (λ i. i ≤ geometry.now.last_inode)) }
 {
@@ -144,7 +144,7 @@ fn picture_of(
 {
     match picture {
         Picture::Cells => letters(alloc, blocks, screen),
-        Picture::Svg => svg(alloc, blocks, blocks_for(SQUARES, blocks.len())),
+        Picture::Svg => squares(alloc, blocks),
     }
 }
 
@@ -160,6 +160,15 @@ fn letters(alloc: Global, blocks: &[Option<Use>], screen: Screen) -> Result<Stri
     let mut text = scale_text(alloc, blocks.len(), each)?;
     text.push_str(drawing.as_str())?;
     Ok(text)
+}
+
+/// Returns the block map as squares.
+fn squares(alloc: Global, blocks: &[Option<Use>]) -> Result<String, AllocError>
+    requires some { 1 ≤ length blocks.now }
+    requires few { length blocks.now < 2 ^ 32 }
+    ensures { IfOk result (λ text. string_bytes text ≡ map_text blocks.now Screen.Stream Picture.Svg) }
+{
+    svg(alloc, blocks, blocks_for(SQUARES, blocks.len()))
 }
 
 /// Returns the number of blocks and of blocks per cell.

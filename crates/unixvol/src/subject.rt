@@ -128,7 +128,8 @@ impl<'a> Subject<'a> {
             Look::Df { .. } => (Verb::Df, About::Image),
             Look::Find { path, .. } => (Verb::Find, About::Path(path)),
             Look::Map {
-                file: Some(path), ..
+                file: Some(path),
+                ..
             } => (Verb::Map, About::Path(path)),
             Look::Map { .. } | Look::Uses => (Verb::Map, About::Image),
             Look::Check { .. } => (Verb::Check, About::Image),

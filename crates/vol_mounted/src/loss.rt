@@ -8,8 +8,8 @@ use crate::scene::Scene;
 use crate::table::NodeTable;
 use fuse_words::{Attributes, Header, Operation};
 use vol_dir::Refusal;
-use vol_serve::nodes::{look_up, read};
 use vol_serve::attributes::node_attributes;
+use vol_serve::nodes::{look_up, read};
 
 /// A file that will lose a name.
 #[derive(Drop)]

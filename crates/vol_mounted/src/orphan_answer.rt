@@ -7,9 +7,9 @@ use crate::refusal::MountedRefusal;
 use crate::reply::count_of;
 use crate::server::MountedServer;
 use fuse_words::{Header, KEEP_CACHE, MOST_DATA, Operation};
-use vol_serve::nodes::NodeFault;
 use vol_serve::errno::RequestRefusal;
 use vol_serve::memory::Room;
+use vol_serve::nodes::NodeFault;
 
 /// The number of seconds for which the kernel may keep the attributes.
 const SECONDS: u64 = 3600;

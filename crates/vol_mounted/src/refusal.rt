@@ -4,8 +4,8 @@ ghost use Rattle.vol_mounted.specs.Errno.{call_errno, errno};
 
 use std::alloc::AllocError;
 use vol_dir::Refusal;
-use vol_serve::nodes::NodeFault;
 use vol_serve::errno::RequestRefusal;
+use vol_serve::nodes::NodeFault;
 
 /// The reason why a request is refused.
 #[derive(Clone, Copy)]

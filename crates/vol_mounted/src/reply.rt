@@ -12,11 +12,11 @@ use fuse_words::{
     Operation, SYMLINK, Settings,
 };
 use vol_layout::Kind;
-use vol_serve::nodes::{NodeFault, look_up};
 use vol_serve::attributes::node_attributes;
 use vol_serve::errno::RequestRefusal;
 use vol_serve::memory::Room;
 use vol_serve::node_replies::{put_bytes, put_listing};
+use vol_serve::nodes::{NodeFault, look_up};
 use vol_serve::statistics::statistics;
 
 /// The number of seconds for which the kernel may keep names and attributes: an hour. Nobody else changes the volume.

@@ -11,8 +11,8 @@ use vol_archive::is_plain;
 use vol_dir::{Cred, walk};
 use vol_layout::Geometry;
 use vol_layout::slot::NAME;
-use vol_serve::nodes::{NodeFault, look_up, stat};
 use vol_serve::errno::RequestRefusal;
+use vol_serve::nodes::{NodeFault, look_up, stat};
 use vol_volume::{Stat, Volume};
 
 /// The volume and the nodes that the kernel knows, at a given time. The calls and the reply of a request are made from this.

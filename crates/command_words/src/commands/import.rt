@@ -7,7 +7,9 @@ ghost use Rattle.command_words.specs.declared.verbs.Verb.TheVariants as verbs;
 use crate::fault::WordFault;
 use crate::given::{Given, flag_in, moment_in, owner_in, path_in};
 use crate::invocation::Invocation;
-use crate::parameters::{AT, CALL_NOW, EDITION, IMAGE, Need, Parameter, TRACE, ValueName, WordKind};
+use crate::parameters::{
+    AT, CALL_NOW, EDITION, IMAGE, Need, Parameter, TRACE, ValueName, WordKind,
+};
 use crate::read_words::volume_in;
 use command_changes::Change;
 use std::alloc::Global;
@@ -83,7 +85,16 @@ const OWNER: Parameter = Parameter {
 };
 
 /// The words that `import` takes.
-pub(crate) const WORDS: &[Parameter] = &[EDITION, IMAGE, AT, BELOW, CALL_NOW, SKIP_SPECIAL, OWNER, TRACE];
+pub(crate) const WORDS: &[Parameter] = &[
+    EDITION,
+    IMAGE,
+    AT,
+    BELOW,
+    CALL_NOW,
+    SKIP_SPECIAL,
+    OWNER,
+    TRACE,
+];
 
 /// Reads the words of `import`.
 pub(crate) fn read<'a, G: Given<'a>>(

@@ -6,16 +6,15 @@ ghost use Rattle.command_words.specs.declared.verbs.Verb.TheVariants as verbs;
 use crate::fault::WordFault;
 use crate::given::{Given, flag_in, long_or, missing, moment_in};
 use crate::invocation::{Invocation, MadeFile};
-use crate::parameters::{
-    AT, EDITION, IMAGE, Need, Parameter, UNREPLACED, ValueName, WordKind,
-};
+use crate::parameters::{AT, EDITION, IMAGE, Need, Parameter, UNREPLACED, ValueName, WordKind};
 use crate::read_words::volume_in;
 use command_changes::Repairing;
 use std::alloc::Global;
 
 pub(crate) const NAME: &str = "repair";
 
-pub(crate) const ABOUT: &str = "Makes a sound copy of a damaged volume, and prints what it changes.";
+pub(crate) const ABOUT: &str =
+    "Makes a sound copy of a damaged volume, and prints what it changes.";
 
 pub(crate) const MORE: &str = "\
 Examples:
@@ -85,8 +84,7 @@ const BLOCKS: Parameter = Parameter {
 };
 
 /// The words that `repair` takes.
-pub(crate) const WORDS: &[Parameter] =
-    &[EDITION, IMAGE, AT, NEW, NOW, UNREPLACED, DRY_RUN, BLOCKS];
+pub(crate) const WORDS: &[Parameter] = &[EDITION, IMAGE, AT, NEW, NOW, UNREPLACED, DRY_RUN, BLOCKS];
 
 /// Reads the words of `repair`.
 pub(crate) fn read<'a, G: Given<'a>>(

@@ -1,6 +1,7 @@
 //! The command `repair`.
 ghost use Rattle.std.specs.Prelude.{IfErr, IfOk};
-ghost use Rattle.command_words.specs.Invocations.{AsksFor, AsksForNothing, IsNewCopyGiven, IsNewCopyMissing, TellsOf};
+ghost use Rattle.command_words.specs.Invocations.{AsksFor, AsksForNothing, IsNewCopyGiven, IsNewCopyMissing, IsOneWrong, IsRepairingGiven, TellsOf};
+ghost use Rattle.command_words.specs.Verbs.{arguments_of};
 ghost use Rattle.command_words.specs.declared.verbs.Verb.TheVariants as verbs;
 
 use crate::fault::WordFault;
@@ -96,15 +97,23 @@ pub(crate) fn read<'a, G: Given<'a>>(
     ensures refused { IfErr result (TellsOf (AsksForNothing clock verbs.Repair (G.words given.now))) }
 {
     let volume = volume_in(given)?;
-    let repairing = Repairing {
-        blocks: long_or(given, "blocks", 0)?,
-        now: moment_in(given, clock)?,
-    };
+    let repairing = repairing_in(given, clock)?;
     let copy = copy_in(given)?;
     Ok(Invocation::Repair {
         volume,
         copy,
         repairing,
+    })
+}
+
+/// Reads the least size and the time of a repaired copy.
+fn repairing_in<'a, G: Given<'a>>(given: &G, clock: Option<u32>) -> Result<Repairing, WordFault<'a>>
+    ensures read { IfOk result (IsRepairingGiven clock (G.words given.now)) }
+    ensures refused { IfErr result (TellsOf (IsOneWrong clock (G.words given.now) (arguments_of verbs.Repair))) }
+{
+    Ok(Repairing {
+        blocks: long_or(given, "blocks", 0)?,
+        now: moment_in(given, clock)?,
     })
 }
 

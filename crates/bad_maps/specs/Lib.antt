@@ -1,4 +1,5 @@
 pub mod Laws
 pub mod Lines
+pub mod Lists
 pub mod Maps
 pub mod Words

@@ -1,2 +1,3 @@
+pub mod ListedBlocks
 pub mod Pushes
 pub mod Ranges

@@ -1,5 +1,6 @@
 pub mod BadImages
 pub mod CutImages
+pub mod GivenSizes
 pub mod Losses
 pub mod LossTexts
 pub mod Laws

@@ -1,10 +1,11 @@
 //! Images of which some blocks couldn't be read, with zeros in their place.
 ghost use Rattle.std.specs.Prelude.{◌≡◌, ◌⊎◌, ℕ, [], true, ◌+◌, ◌*◌, ◌/◌, ◌<◌, ◌≤◌, ◌&&◌, ◌||◌, not, nat_le, if◌then◌else◌, IfErr, IfOk, length, slice_index};
 ghost use Rattle.std.specs.List.{list_any};
-ghost use Rattle.vol_losses.specs.BadImages.{IsRescued, IsUnrescued, is_block_in, is_block_read};
+ghost use Rattle.vol_losses.specs.BadImages.{IsRescued, IsUnrescued, is_block_in, is_block_known, is_block_read};
 ghost use Rattle.vol_losses.specs.Losses.{is_lost};
 
 use crate::cut_images::{CutFault, CutImage, completed};
+use crate::given_sizes::{VolumeSizes, sized};
 use bad_maps::ReadRange;
 use pdp_words::{BLOCK, Image};
 use std::alloc::{AllocError, Global};
@@ -13,9 +14,18 @@ use vol_layout::Edition;
 /// The number of bytes of a block.
 const BYTES: u64 = BLOCK as u64;
 
+/// The reason why an image isn't rescued.
+#[derive(Clone, Copy)]
+pub enum RescueFault {
+    /// It isn't completed, for this reason.
+    Cut(CutFault),
+    /// No volume of the edition has these sizes.
+    Sizes(VolumeSizes),
+}
+
 /// Completes the image of a volume of which only some bytes were read: those in `ranges` of a file in which the volume begins at block `at`. Each block
 /// of which a byte wasn't read, or is missing, is lost, and zeros take the place of all its bytes. The end of the volume is then as
-/// [`completed`] finds it in the super-block.
+/// [`completed`] finds it in the super-block. If `sizes` are given, the super-block is lost too, and states these sizes.
 ///
 /// Takes memory for a mark for each block, and as [`completed`] does; there are no marks if no block is lost. Costs the ranges and the blocks.
 pub fn rescued(
@@ -24,24 +34,48 @@ pub fn rescued(
     bytes: Vec<u8>,
     ranges: &[ReadRange],
     at: u32,
-) -> Result<CutImage, CutFault>
-    ensures done { IfOk result (λ cut. IsRescued edition ranges.now at bytes.items cut.image cut.lost.items) }
-    ensures fault { IfErr result (IsUnrescued edition ranges.now at bytes.items) }
+    sizes: Option<VolumeSizes>,
+) -> Result<CutImage, RescueFault>
+    ensures done { IfOk result (λ cut. IsRescued edition ranges.now at sizes bytes.items cut.image cut.lost.items) }
+    ensures fault { IfErr result (IsUnrescued edition ranges.now at sizes bytes.items) }
 {
-    let Ok(unread) = unread_blocks(alloc, ranges, at, bytes.len() / BLOCK) else {
-        return Err(CutFault::NoMemory);
+    let blocks = bytes.len() / BLOCK;
+    let Ok(unread) = unread_blocks(alloc, ranges, at, sizes, blocks) else {
+        return Err(RescueFault::Cut(CutFault::NoMemory));
     };
-    let image = cleared(bytes, &unread).into_bytes();
-    let image = completed(alloc, edition, image)?.image;
-    match marks_of(unread, image.len() / BLOCK) {
-        Ok(lost) => Ok(CutImage { image, lost }),
-        Err(_) => Err(CutFault::NoMemory),
+    let stated = sized(edition, cleared(bytes, &unread), sizes)?;
+    let cut = match completed(alloc, edition, stated.into_bytes()) {
+        Ok(cut) => cut,
+        Err(fault) => return Err(RescueFault::Cut(fault)),
+    };
+    match marks_of(unread, cut.image.len() / BLOCK) {
+        Ok(lost) => Ok(CutImage { lost, ..cut }),
+        Err(_) => Err(RescueFault::Cut(CutFault::NoMemory)),
     }
 }
 
 /// Returns a mark for each of the first `blocks` blocks of a volume that begins at block `at` of a file: true if a byte of it isn't in the ranges of
-/// bytes that were read.
+/// bytes that were read, or if it is the super-block, and sizes are given.
 fn unread_blocks(
+    alloc: Global,
+    ranges: &[ReadRange],
+    at: u32,
+    sizes: Option<VolumeSizes>,
+    blocks: usize,
+) -> Result<Vec<bool>, AllocError>
+    ensures count { IfOk result (λ unread. length unread.items ≡ blocks) }
+    ensures marks { IfOk result (λ unread. (k : ℕ) → k < blocks → is_lost unread.items k ≡ not (is_block_known sizes ranges.now at k)) }
+{
+    let mut unread = blocks_outside(alloc, ranges, at, blocks)?;
+    if sizes.is_some() && 1 < blocks {
+        unread[1] = true;
+    }
+    Ok(unread)
+}
+
+/// Returns a mark for each of the first `blocks` blocks of a volume that begins at block `at` of a file: true if a byte of it isn't in the ranges of
+/// bytes that were read.
+fn blocks_outside(
     alloc: Global,
     ranges: &[ReadRange],
     at: u32,

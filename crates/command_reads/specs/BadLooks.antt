@@ -1,5 +1,5 @@
--- An export of an image of which some blocks couldn't be read, as a map of GNU ddrescue says.
-use Rattle.std.specs.Prelude.{◌≡◌, ◌⊎◌, ℕ, List, ◌++◌, Bool, codes, decimal, Option, Some, Ok, Err}
+-- Looks at an image of which some blocks couldn't be read, as a map of GNU ddrescue or a list says.
+use Rattle.std.specs.Prelude.{◌≡◌, ◌⊎◌, ℕ, List, ◌++◌, Bool, false, codes, decimal, Option, Some, Ok, Err, option_map}
 use Rattle.escaped_text.specs.Escape.{escaped}
 use Rattle.bad_maps.specs.Lines.{fault_text}
 use Rattle.bad_maps.specs.Maps.{ranges_in}
@@ -10,14 +10,29 @@ use Rattle.bad_maps.specs.declared.maps.ReadRange.{ReadRange}
 use Rattle.vol_layout.specs.declared.edition.Edition.{Edition}
 use Rattle.vol_listing.specs.declared.options.Screen.{Screen}
 use Rattle.vol_losses.specs.BadImages.{IsCleared, IsRescued}
+use Rattle.vol_losses.specs.GivenSizes.{IsSized, are_sizes}
+use Rattle.vol_losses.specs.declared.bad_images.RescueFault.{RescueFault}
+use Rattle.vol_losses.specs.declared.bad_images.RescueFault.TheVariants as rescues
+use Rattle.vol_losses.specs.declared.given_sizes.VolumeSizes.{VolumeSizes}
 use Rattle.command_faults.specs.Faults.{fault_line, no_memory}
 use Rattle.command_faults.specs.Streams.{Streams}
 use Rattle.command_faults.specs.declared.fault.Fault.{Fault}
 use Rattle.command_reads.specs.Export.{ExportsFrom, begun}
-use Rattle.command_reads.specs.Losses.{TellsIncomplete}
-use Rattle.command_reads.specs.Print.{IsTold, IsToldWith}
-use Rattle.command_reads.specs.declared.export_bad.BadMap.{BadMap}
-use Rattle.command_reads.specs.declared.looks.ExportOptions.{ExportOptions}
+use Rattle.command_reads.specs.Find.{found_sights}
+use Rattle.command_reads.specs.Losses.{IsUnreadEnding, TellsIncomplete}
+use Rattle.command_reads.specs.Print.{IsTold, IsToldWith, Shows}
+use Rattle.command_reads.specs.declared.bad_looks.BadBlocks.{BadBlocks}
+use Rattle.command_reads.specs.declared.bad_looks.BadBlocks.TheVariants as bads
+use Rattle.command_reads.specs.declared.bad_looks.BadLook.{BadLook}
+use Rattle.command_reads.specs.declared.bad_looks.BadLook.TheVariants as bad_looks
+use Rattle.command_reads.specs.declared.bad_looks.BadMap.{BadMap}
+use Rattle.command_reads.specs.declared.looks.Look.{Look}
+use Rattle.command_reads.specs.declared.looks.Look.TheVariants as looks
+
+-- what a command shows of an image that was read whole (this project)
+abbrev pub whole_look : BadLook → Look
+whole_look (bad_looks.Export path options) = looks.Export path options
+whole_look (bad_looks.Find path name lost form) = looks.Find path name lost form
 
 -- the words for a line by its number (this project)
 unfoldable pub line_start : ℕ → List ℕ
@@ -27,11 +42,24 @@ line_start number = codes ": line " ++ (decimal number ++ codes ": ")
 abbrev pub map_line : List ℕ → ℕ → LineFault → List ℕ
 map_line name number fault = codes "unixvol: " ++ (escaped name ++ (line_start number ++ (fault_text fault ++ codes "\n")))
 
--- the ending of an export whose map can't be read for this reason: the line that can't be read, with status 3, or out of memory (this project)
+-- the line about sizes that no volume of the edition has (this project)
+unfoldable pub sizes_line : ℕ → ℕ → List ℕ
+sizes_line blocks list_blocks =
+    codes "unixvol: no volume has " ++ (decimal blocks ++ (codes " blocks with an i-list of " ++ (decimal list_blocks ++ codes "\n")))
+
+-- the ending of a look whose map can't be read for this reason: the line that can't be read, with status 3, or out of memory (this project)
 abbrev pub IsMisreadEnding : List ℕ → MapFault → ℕ → Option Fault → Type 0
 IsMisreadEnding name maps.NoMemory status fault = (status ≡ 4) × (fault ≡ Some no_memory)
 IsMisreadEnding name (maps.Line number flaw) status fault =
     ((told : Fault) × (fault ≡ Some told) × (fault_line told ≡ map_line name number flaw) × (status ≡ 3)) ⊎ ((status ≡ 4) × (fault ≡ Some no_memory))
+
+-- the ending of a look at an image that isn't rescued for this reason: the line about wrong sizes, with status 2, or that of an image that isn't completed
+-- (this project)
+abbrev pub IsUnrescuedEnding : RescueFault → ℕ → Option Fault → Type 0
+IsUnrescuedEnding (rescues.Cut why) status fault = IsUnreadEnding why status fault
+IsUnrescuedEnding (rescues.Sizes sizes) status fault =
+    ((told : Fault) × (fault ≡ Some told) × (fault_line told ≡ sizes_line sizes.blocks sizes.list_blocks) × (status ≡ 2))
+    ⊎ ((status ≡ 4) × (fault ≡ Some no_memory))
 
 -- a map can't be read, which is reported: its first line that can't be read and what is wrong with it, with status 3; or memory ran out (this project)
 abbrev pub TellsMisread : BadMap → Streams → ℕ → Type 0
@@ -40,22 +68,36 @@ TellsMisread map streams status =
     × (fault_line fault ≡ map_line map.name.now number flaw) × IsToldWith 3 streams fault status)
     ⊎ IsTold streams no_memory status
 
--- an image isn't rescued, which is reported: too many of its blocks are missing, with status 6, or memory ran out (this project)
-abbrev pub TellsUnrescued : Edition → List ReadRange → ℕ → List ℕ → Streams → ℕ → Type 0
-TellsUnrescued edition ranges at bytes streams status =
-    ((cleared : List ℕ) × IsCleared ranges at bytes cleared × TellsIncomplete edition cleared streams status) ⊎ IsTold streams no_memory status
+-- no volume of the edition has the given sizes, which is reported, with status 2 (this project)
+abbrev pub TellsWrongSizes : Edition → Option VolumeSizes → Streams → ℕ → Type 0
+TellsWrongSizes edition sizes streams status =
+    (wrong : VolumeSizes) × (fault : Fault) × (sizes ≡ Some wrong) × (are_sizes edition wrong ≡ false)
+    × (fault_line fault ≡ sizes_line wrong.blocks wrong.list_blocks) × IsToldWith 2 streams fault status
 
--- the contents of the directory at a path are exported from the image of which only the bytes in the ranges were read, or a fault is reported (this
+-- an image isn't rescued, which is reported: too many of its blocks are missing, with status 6; no volume has the given sizes; or memory ran out (this
 -- project)
-abbrev pub ExportsRescued : Edition → List ℕ → List ReadRange → ℕ → List ℕ → ExportOptions → Screen → Streams → ℕ → Type 0
-ExportsRescued edition bytes ranges at path options screen streams status =
-    ((image : List ℕ) × (lost : List Bool) × IsRescued edition ranges at bytes image lost
-    × ExportsFrom edition image lost options screen streams status (begun options.lost edition image path))
-    ⊎ TellsUnrescued edition ranges at bytes streams status
+abbrev pub TellsUnrescued : Edition → List ReadRange → ℕ → Option VolumeSizes → List ℕ → Streams → ℕ → Type 0
+TellsUnrescued edition ranges at sizes bytes streams status =
+    ((cleared : List ℕ) × (stated : List ℕ) × IsCleared sizes ranges at bytes cleared × IsSized sizes edition cleared stated
+    × TellsIncomplete edition stated streams status)
+    ⊎ (TellsWrongSizes edition sizes streams status ⊎ IsTold streams no_memory status)
 
--- the contents of the directory at a path are exported from the image of which only the bytes were read that a map says, or a fault is reported (this
--- project)
-abbrev pub ExportsBad : Edition → List ℕ → BadMap → List ℕ → ExportOptions → Screen → Streams → ℕ → Type 0
-ExportsBad edition bytes map path options screen streams status =
-    ((ranges : List ReadRange) × (ranges_in map.text.items ≡ Ok ranges) × ExportsRescued edition bytes ranges map.at path options screen streams status)
+-- part of an image that was rescued is shown (this project)
+abbrev pub ShowsRescued : Edition → List ℕ → List Bool → Screen → Streams → ℕ → BadLook → Type 0
+ShowsRescued edition image lost screen streams status (bad_looks.Export path options) =
+    ExportsFrom edition image lost options screen streams status (begun options.lost edition image path.now)
+ShowsRescued edition image lost screen streams status (bad_looks.Find path name orphans form) =
+    Shows (found_sights edition image lost path.now (option_map (λ word. word.now) name) orphans form screen) streams status
+
+-- part of the image of which only the bytes in the ranges were read is shown, or a fault is reported (this project)
+abbrev pub LooksRescued : Edition → List ℕ → List ReadRange → ℕ → Option VolumeSizes → BadLook → Screen → Streams → ℕ → Type 0
+LooksRescued edition bytes ranges at sizes look screen streams status =
+    ((image : List ℕ) × (lost : List Bool) × IsRescued edition ranges at sizes bytes image lost × ShowsRescued edition image lost screen streams status look)
+    ⊎ TellsUnrescued edition ranges at sizes bytes streams status
+
+-- part of an image is shown of which only the bytes were read that a map or ranges say, or a fault is reported (this project)
+abbrev pub LooksBad : Edition → List ℕ → Option VolumeSizes → BadLook → Screen → Streams → ℕ → BadBlocks → Type 0
+LooksBad edition bytes sizes look screen streams status (bads.Outside ranges) = LooksRescued edition bytes ranges.items 0 sizes look screen streams status
+LooksBad edition bytes sizes look screen streams status (bads.Map map) =
+    ((ranges : List ReadRange) × (ranges_in map.text.items ≡ Ok ranges) × LooksRescued edition bytes ranges map.at sizes look screen streams status)
     ⊎ TellsMisread map streams status

@@ -1,5 +1,5 @@
 -- What a command that shows part of an image may come to.
-use Rattle.std.specs.Prelude.{ℕ, List, option_map}
+use Rattle.std.specs.Prelude.{ℕ, List, [], true, option_map}
 use Rattle.vol_layout.specs.declared.edition.Edition.{Edition}
 use Rattle.command_faults.specs.Streams.{Streams}
 use Rattle.command_reads.specs.Block.{IsBlockFault, IsBlockText}
@@ -31,7 +31,7 @@ seen edition image screen (looks.Block block form) = plainly (IsBlockText editio
 seen edition image screen (looks.Dump target radix) = plainly (IsDumpText edition image target radix) (IsDumpFault edition image target)
 seen edition image screen (looks.Free form) = plainly (IsChainText edition image form) (IsChainFault edition image)
 seen edition image screen (looks.Find path name lost form) =
-    telling 5 (AreFound edition image path.now (option_map (λ word. word.now) name) lost form screen) (IsManifestFault edition image path.now lost)
+    telling 5 (AreFound edition image [] path.now (option_map (λ word. word.now) name) lost form screen true) (IsManifestFault edition image path.now lost)
 seen edition image screen (looks.Inode node form) = found edition image form (number_of edition image node)
 seen edition image screen (looks.Super form) = plainly (IsSuperText edition image parts.Fields form) (IsSuperFault edition image)
 seen edition image screen (looks.Df form) = plainly (IsSuperText edition image parts.Space form) (IsSuperFault edition image)

@@ -1,11 +1,14 @@
-//! The export of an image of which some blocks couldn't be read, as a map of GNU ddrescue says.
+//! Looks at an image of which some blocks couldn't be read, as a map of GNU ddrescue or a list says.
 ghost use Rattle.std.specs.Prelude.{◌≡◌, IfOk, string_bytes};
 ghost use Rattle.command_faults.specs.Streams.{ErrorStream, Hears, streams};
-ghost use Rattle.command_reads.specs.ExportBad.{ExportsBad, ExportsRescued, IsMisreadEnding, line_start, map_line};
+ghost use Rattle.command_reads.specs.BadLooks.{IsMisreadEnding, IsUnrescuedEnding, LooksBad, LooksRescued, ShowsRescued, line_start, map_line, sizes_line};
 
 use crate::export::{export_read, unread};
-use crate::looks::ExportOptions;
+use crate::find::find_in;
+use crate::looks::{ExportOptions, Look, OutputForm};
+use crate::print::print;
 use bad_maps::{LineFault, MapFault, ReadRange, read_map};
+use command_faults::status::{BAD_COMMAND_LINE, BAD_FILE};
 use command_faults::{Ending, Fault};
 use escaped_text::push_escaped;
 use pdp_words::Sink;
@@ -13,10 +16,7 @@ use std::alloc::{AllocError, Global};
 use vol_dir::Refusal;
 use vol_layout::Edition;
 use vol_listing::Screen;
-use vol_losses::rescued;
-
-/// The status of a map that can't be read.
-const BAD_MAP: u8 = 3;
+use vol_losses::{CutImage, RescueFault, VolumeSizes, rescued};
 
 /// A map of the bytes of a file that were read, and the place of the volume in that file.
 #[derive(Drop)]
@@ -29,54 +29,180 @@ pub struct BadMap<'a> {
     pub at: u32,
 }
 
-/// Writes an archive of everything below the directory at a path, as [`look`](crate::look) does with `cut` for `Look::Export`, of an image of which only
-/// the bytes were read that a map says. A block of which a byte wasn't read is lost, whatever the image has in its place. If the map can't be read,
-/// nothing is written, the fault names the line and what is wrong with it, and the status is 3.
+/// What says which blocks of an image couldn't be read.
+#[derive(Drop)]
+pub enum BadBlocks<'a> {
+    /// A map: each block of which it doesn't have all bytes.
+    Map(BadMap<'a>),
+    /// Ranges of bytes of the volume: each block of which no range has all bytes.
+    Outside(Vec<ReadRange>),
+}
+
+/// What a command shows of an image of which some blocks couldn't be read.
+#[derive(Clone, Copy)]
+pub enum BadLook<'a> {
+    /// Everything below a directory, as an archive.
+    Export {
+        path: &'a str,
+        options: ExportOptions,
+    },
+    /// The paths of everything below a directory, as for [`Look::Find`].
+    Find {
+        path: &'a str,
+        name: Option<&'a str>,
+        lost: bool,
+        form: OutputForm,
+    },
+}
+
+impl<'a> BadLook<'a> {
+    ghost use Rattle.command_reads.specs.BadLooks.{whole_look};
+
+    /// Returns what a command shows of an image that was read whole.
+    pub fn whole(self) -> Look<'a>
+        ensures { result ≡ whole_look self.entry }
+    {
+        match self {
+            BadLook::Export { path, options } => Look::Export { path, options },
+            BadLook::Find {
+                path,
+                name,
+                lost,
+                form,
+            } => Look::Find {
+                path,
+                name,
+                lost,
+                form,
+            },
+        }
+    }
+}
+
+/// Shows part of an image of which only some blocks were read. A block of which a byte wasn't read is lost, whatever the image has in its place. An
+/// export is as [`look`](crate::look) makes it with `cut`. If blocks are lost, the fault of the other looks has the lines about what is lost, and the
+/// status is 5 if something that is shown is damaged or left out, else 1. If `sizes` are given, the super-block is lost too, and states these sizes;
+/// if no volume of the edition has them, nothing is shown, and the status is 2. If a map can't be read, nothing is shown, the fault names the line and
+/// what is wrong with it, and the status is 3.
 ///
-/// Costs the map, and what that export costs.
-pub fn export_bad<O: Sink>(
+/// Costs the map, and what the look costs.
+pub fn look_bad<O: Sink>(
     alloc: Global,
     edition: Edition,
     image: Vec<u8>,
-    map: BadMap<'_>,
-    path: &str,
-    options: ExportOptions,
+    bad: BadBlocks<'_>,
+    sizes: Option<VolumeSizes>,
+    look: BadLook<'_>,
     screen: Screen,
     output: &mut O,
 ) -> Ending
     ensures { (errors : ErrorStream) → Hears errors result.fault
-        → ExportsBad edition image.items map.entry path.now options screen (streams O.contents O.failed output.old output.new errors) result.status }
+        → LooksBad edition image.items sizes look.entry screen (streams O.contents O.failed output.old output.new errors) result.status bad.entry }
 {
+    let map = match bad {
+        BadBlocks::Outside(ranges) => {
+            return look_rescued(
+                alloc, edition, image, &ranges, 0, sizes, look, screen, output,
+            );
+        }
+        BadBlocks::Map(map) => map,
+    };
     match read_map(alloc, &map.text) {
-        Ok(ranges) => export_rescued(
-            alloc, edition, image, &ranges, map.at, path, options, screen, output,
+        Ok(ranges) => look_rescued(
+            alloc, edition, image, &ranges, map.at, sizes, look, screen, output,
         ),
         Err(fault) => misread(alloc, map.name, fault),
     }
 }
 
-/// Writes the archive of what is whole of an image of which only the bytes in the ranges were read.
-fn export_rescued<O: Sink>(
+/// Shows part of an image of which only the bytes in the ranges were read.
+fn look_rescued<O: Sink>(
     alloc: Global,
     edition: Edition,
     image: Vec<u8>,
     ranges: &[ReadRange],
     at: u32,
-    path: &str,
-    options: ExportOptions,
+    sizes: Option<VolumeSizes>,
+    look: BadLook<'_>,
     screen: Screen,
     output: &mut O,
 ) -> Ending
     ensures { (errors : ErrorStream) → Hears errors result.fault
-        → ExportsRescued edition image.items ranges.now at path.now options screen (streams O.contents O.failed output.old output.new errors) result.status }
+        → LooksRescued edition image.items ranges.now at sizes look.entry screen (streams O.contents O.failed output.old output.new errors) result.status }
 {
-    match rescued(alloc, edition, image, ranges, at) {
-        Ok(read) => export_read(alloc, edition, &read, path, options, screen, output),
-        Err(fault) => unread(alloc, fault),
+    match rescued(alloc, edition, image, ranges, at, sizes) {
+        Ok(read) => show_rescued(alloc, edition, &read, look, screen, output),
+        Err(fault) => unrescued(alloc, fault),
     }
 }
 
-/// Returns the ending of an export whose map can't be read for this reason.
+/// Shows part of an image that was rescued.
+fn show_rescued<O: Sink>(
+    alloc: Global,
+    edition: Edition,
+    read: &CutImage,
+    look: BadLook<'_>,
+    screen: Screen,
+    output: &mut O,
+) -> Ending
+    ensures { (errors : ErrorStream) → Hears errors result.fault
+        → ShowsRescued edition read.now.image read.now.lost.items screen (streams O.contents O.failed output.old output.new errors) result.status look.entry }
+{
+    match look {
+        BadLook::Export { path, options } => {
+            export_read(alloc, edition, read, path, options, screen, output)
+        }
+        BadLook::Find {
+            path,
+            name,
+            lost,
+            form,
+        } => {
+            let shown = find_in(
+                alloc,
+                edition,
+                &read.image,
+                &read.lost,
+                path,
+                name,
+                lost,
+                form,
+                screen,
+            );
+            print(shown, output)
+        }
+    }
+}
+
+/// Returns the ending of a look at an image that isn't rescued for this reason.
+fn unrescued(alloc: Global, fault: RescueFault) -> Ending
+    ensures { IsUnrescuedEnding fault result.status result.fault }
+{
+    let sizes = match fault {
+        RescueFault::Cut(fault) => return unread(alloc, fault),
+        RescueFault::Sizes(sizes) => sizes,
+    };
+    match sizes_line(alloc, sizes.blocks, sizes.list_blocks) {
+        Ok(line) => Ending {
+            status: BAD_COMMAND_LINE,
+            fault: Some(Fault::Worded {
+                rule: None,
+                lines: line.into_bytes(),
+            }),
+        },
+        Err(_) => Ending::from(Fault::Refused(Refusal::NoMemory)),
+    }
+}
+
+/// Returns the line about sizes that no volume of the edition has.
+#[tactic(auto, unfolding(crate::specs::BadLooks::sizes_line))]
+fn sizes_line(alloc: Global, blocks: u32, list_blocks: u16) -> Result<String, AllocError>
+    ensures { IfOk result (λ line. string_bytes line ≡ sizes_line blocks list_blocks) }
+{
+    format!(in alloc; "unixvol: no volume has {blocks} blocks with an i-list of {list_blocks}\n")
+}
+
+/// Returns the ending of a look whose map can't be read for this reason.
 fn misread(alloc: Global, name: &str, fault: MapFault) -> Ending
     ensures { IsMisreadEnding name.now fault result.status result.fault }
 {
@@ -85,7 +211,7 @@ fn misread(alloc: Global, name: &str, fault: MapFault) -> Ending
     };
     match map_line(alloc, name, number, fault) {
         Ok(lines) => Ending {
-            status: BAD_MAP,
+            status: BAD_FILE,
             fault: Some(Fault::Worded { rule: None, lines }),
         },
         Err(_) => Ending::from(Fault::Refused(Refusal::NoMemory)),
@@ -106,7 +232,7 @@ fn map_line(alloc: Global, name: &str, number: u64, fault: LineFault) -> Result<
 }
 
 /// Returns the words for a line by its number.
-#[tactic(auto, unfolding(crate::specs::ExportBad::line_start))]
+#[tactic(auto, unfolding(crate::specs::BadLooks::line_start))]
 fn line_start(alloc: Global, number: u64) -> Result<String, AllocError>
     ensures { IfOk result (λ text. string_bytes text ≡ line_start number) }
 {

@@ -1,15 +1,17 @@
 //! The command that prints the paths of everything below a directory.
-ghost use Rattle.std.specs.Prelude.{◌≡◌, ◌++◌, map, true, IfOk, OnOk, option_map, string_bytes};
+ghost use Rattle.std.specs.Prelude.{◌≡◌, ◌++◌, [], map, true, IfOk, OnOk, option_map, string_bytes};
 ghost use Rattle.std.specs.List.{flat_map};
 ghost use Rattle.serde_json.specs.View.{view};
+ghost use Rattle.vol_layout.specs.Geometry.{Fits};
 ghost use Rattle.vol_listing.specs.Listings.{shown_path};
-ghost use Rattle.command_reads.specs.Find.{AreFound, found_data, found_in, found_json, found_line, is_wanted, path_data};
+ghost use Rattle.command_reads.specs.Find.{AreFound, TellsFound, found_data, found_in, found_json, found_line, found_sights, is_wanted, path_data};
 ghost use Rattle.command_reads.specs.Print.{IsSight, telling};
 ghost use Rattle.command_reads.specs.Remarks.{limit_lines};
 ghost use Rattle.command_reads.specs.Sums.{IsManifestFault};
 
 use crate::export::{begun, ending_with, unstarted, walk_all};
 use crate::looks::OutputForm;
+use crate::losses::losses_on;
 use crate::print::Shown;
 use crate::remarks::{Remarks, push_limits};
 use command_faults::Fault;
@@ -17,7 +19,7 @@ use name_patterns::{is_like, last_name};
 use pdp_words::Image;
 use serde_json::{Value, json};
 use std::alloc::{AllocError, Global};
-use vol_archive::MetEntry;
+use vol_archive::{ExportStart, MetEntry};
 use vol_layout::Edition;
 use vol_listing::json::{entries_line, escaped_text};
 use vol_listing::{Screen, joined, push_shown, shown_path};
@@ -38,8 +40,38 @@ pub(crate) fn find(
     form: OutputForm,
     screen: Screen,
 ) -> Result<Shown, Fault>
-    ensures { IsSight (telling 5 (AreFound edition image.now path.now (option_map (λ word. word.now) pattern.entry) lost form screen)
+    ensures { IsSight (telling 5 (AreFound edition image.now [] path.now (option_map (λ word. word.now) pattern.entry) lost form screen true)
         (IsManifestFault edition image.now path.now lost)) result }
+{
+    find_in(
+        alloc,
+        edition,
+        image,
+        &[],
+        path,
+        pattern,
+        lost,
+        form,
+        screen,
+    )
+}
+
+/// Returns the paths of everything below the directory at a path, as [`find`] does, of an image with lost blocks. If there are marks, the status is 5 if
+/// anything is damaged or left out, else 1, and the lines are those about what is lost.
+///
+/// Costs what [`find`] and [`tell_losses`] cost.
+pub(crate) fn find_in(
+    alloc: Global,
+    edition: Edition,
+    image: &Image,
+    marks: &[bool],
+    path: &str,
+    pattern: Option<&str>,
+    lost: bool,
+    form: OutputForm,
+    screen: Screen,
+) -> Result<Shown, Fault>
+    ensures { IsSight (found_sights edition image.now marks.now path.now (option_map (λ word. word.now) pattern.entry) lost form screen) result }
 {
     let start = match begun(edition, image, path.as_bytes(), lost) {
         Ok(start) => start,
@@ -48,9 +80,26 @@ pub(crate) fn find(
     let rescue = walk_all(alloc, image, &start.geometry, start.inode, lost)?;
     let top = shown_path(alloc, path.as_bytes())?;
     let text = found_in(alloc, &top, &rescue.founds, pattern, form, screen)?;
-    let remarks = limits(alloc, &rescue.founds)?;
+    let remarks = remarks_on(alloc, image, marks, &start, &rescue.founds)?;
     let ending = ending_with(true, remarks);
     Ok(Shown { text, ending })
+}
+
+/// Returns the remarks on the entries: what is lost, if there are lost blocks, else those at which the walk stopped because their paths are too long.
+fn remarks_on(
+    alloc: Global,
+    image: &Image,
+    lost: &[bool],
+    start: &ExportStart,
+    founds: &[MetEntry],
+) -> Result<Remarks, AllocError>
+    requires { Fits start.now.geometry image.now }
+    ensures { IfOk result (λ remarks. TellsFound start.now.geometry image.now lost.now start.now.inode founds.now remarks.lines.items remarks.is_short) }
+{
+    if lost.is_empty() {
+        return limits(alloc, founds);
+    }
+    losses_on(alloc, image, lost, start, founds)
 }
 
 /// Returns the remarks on the entries at which the walk stopped because their paths are too long.

@@ -3,6 +3,7 @@ ghost use Rattle.std.specs.Prelude.{◌≡◌, true, All, IfErr, IfOk, string_by
 ghost use Rattle.vol_layout.specs.Geometry.{Fits};
 ghost use Rattle.vol_inspect.specs.Lost.{IsInList};
 ghost use Rattle.vol_losses.specs.CutImages.{IsIncomplete};
+ghost use Rattle.vol_rescue.specs.Lines.{TellsLosses};
 ghost use Rattle.command_faults.specs.Faults.{fault_line};
 ghost use Rattle.command_reads.specs.Losses.{IsReadAs, TellsExport, is_graded, short_line};
 ghost use Rattle.command_reads.specs.Remarks.{AreOutOfReach};
@@ -12,7 +13,7 @@ use crate::remarks::{Remarks, tell_all};
 use command_faults::Fault;
 use pdp_words::Image;
 use std::alloc::{AllocError, Global};
-use vol_archive::{ExportStart, Rescue};
+use vol_archive::{ExportStart, MetEntry, Rescue};
 use vol_layout::Edition;
 use vol_losses::{CutFault, CutImage, completed};
 use vol_rescue::tell_losses;
@@ -79,7 +80,23 @@ pub(crate) fn remarks_on(
     if lost.is_empty() {
         return tell_all(alloc, edition, image, geometry, rescue, options);
     }
-    let told = tell_losses(alloc, image, geometry, lost, start.inode, &rescue.founds)?;
+    losses_on(alloc, image, lost, start, &rescue.founds)
+}
+
+/// Returns the remarks on what is lost of the entries below a directory.
+///
+/// Costs [`tell_losses`].
+pub(crate) fn losses_on(
+    alloc: Global,
+    image: &Image,
+    lost: &[bool],
+    start: &ExportStart,
+    founds: &[MetEntry],
+) -> Result<Remarks, AllocError>
+    requires { Fits start.now.geometry image.now }
+    ensures { IfOk result (λ remarks. TellsLosses start.now.geometry image.now lost.now start.now.inode founds.now remarks.lines.items remarks.is_short) }
+{
+    let told = tell_losses(alloc, image, &start.geometry, lost, start.inode, founds)?;
     Ok(Remarks {
         rule: None,
         lines: told.lines,

@@ -1,12 +1,10 @@
-use Rattle.std.proofs.Common.{◌∙◌, List, ℕ, ap, sym}
+use Rattle.std.proofs.Common.{◌≡◌, ◌∙◌, ◌==◌, if◌then◌else◌, List, ℕ, length, ap, subst, sym}
 use Rattle.std.specs.Prelude.{option_map, true}
 use Rattle.vol_archive.specs.declared.met_entries.MetEntry.{MetEntry}
 use Rattle.vol_listing.specs.Listings.{shown_path}
 use Rattle.command_reads.specs.Export.{begun, told_status}
-use Rattle.command_reads.specs.Find.{AreFound, found_in}
-use Rattle.command_reads.specs.Remarks.{limit_lines}
-use Rattle.command_reads.proofs.Remarked.{remarked}
-use Rattle.command_reads.proofs.find.find.Goals as goal
+use Rattle.command_reads.specs.Find.{AreFound, TellsFound, found_in}
+use Rattle.command_reads.proofs.find.find_in.Goals as goal
 
 pub returns : goal.returns
 returns c =
@@ -14,15 +12,21 @@ returns c =
     let image = c.args.image.now in
     let pattern = option_map (λ word. word.now) c.args.pattern in
     let remarks = c.in_ok-remarks.remarks in
-    remarked true 5 (AreFound edition image c.args.path.now pattern c.args.lost c.args.form c.args.screen) c.in_ok-text.text.items remarks.lines.items
-    remarks.is_short _ _ (ap (told_status true) c.in_ok-remarks.ensures.short) (record {
-      start = c.in-Ok.start;
-      founds = c.in_ok-rescue.rescue.founds.items;
-      begins = sym (c.in-Ok.ensures.exact ∙ ap (λ (path : List ℕ). begun c.args.lost edition image path) c.as_bytes.ensures.value);
-      walk = c.in_ok-rescue.ensures.founds;
-      paths = c.in_ok-text.ensures
-          ∙ (ap (λ (top : List ℕ). found_in c.args.screen pattern top c.deref-2.result.now c.args.form)
-          (c.deref.ensures.value ∙ (c.in_ok-top.ensures ∙ ap (λ (path : List ℕ). shown_path path) c.as_bytes-2.ensures.value))
-          ∙ ap (λ (founds : List MetEntry). found_in c.args.screen pattern (shown_path c.args.path.now) founds c.args.form) c.deref-2.ensures.value);
-      limits = c.in_ok-remarks.ensures.lines ∙ ap (λ (founds : List MetEntry). limit_lines founds) c.deref-3.ensures.value;
-    }) c.ending_with-ending.ensures.status c.ending_with-ending.ensures.line
+    let line = sym c.ending_with-ending.ensures.line in (
+      remarks.is_short,
+      subst (λ (lines : List ℕ). AreFound edition image c.args.marks.now c.args.path.now pattern c.args.lost c.args.form c.args.screen remarks.is_short c.in_ok-text.text.items lines)
+          line (record {
+            start = c.in-Ok.start;
+            founds = c.in_ok-rescue.rescue.founds.items;
+            begins = sym (c.in-Ok.ensures.exact ∙ ap (λ (path : List ℕ). begun c.args.lost edition image path) c.as_bytes.ensures.value);
+            walk = c.in_ok-rescue.ensures.founds;
+            paths = c.in_ok-text.ensures
+                ∙ (ap (λ (top : List ℕ). found_in c.args.screen pattern top c.deref-2.result.now c.args.form)
+                (c.deref.ensures.value ∙ (c.in_ok-top.ensures ∙ ap (λ (path : List ℕ). shown_path path) c.as_bytes-2.ensures.value))
+                ∙ ap (λ (founds : List MetEntry). found_in c.args.screen pattern (shown_path c.args.path.now) founds c.args.form) c.deref-2.ensures.value);
+            told = subst (λ (founds : List MetEntry). TellsFound c.in-Ok.start.geometry image c.args.marks.now c.in-Ok.start.inode founds remarks.lines.items remarks.is_short)
+                c.deref-3.ensures.value c.in_ok-remarks.ensures;
+          }),
+      subst (λ (lines : List ℕ). c.ending_with-ending.result.status ≡ (if length lines == 0 then 0 else told_status true remarks.is_short)) line
+          c.ending_with-ending.ensures.status,
+    )

@@ -1,4 +1,4 @@
-use Rattle.command_reads.proofs.BadExports.{bad_exports_right}
+use Rattle.command_reads.proofs.BadLooks.{bad_exports_right}
 use Rattle.command_reads.proofs.laws.bad_exports_are_right.Goals as goal
 
 pub returns : goal.returns

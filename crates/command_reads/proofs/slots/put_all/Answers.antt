@@ -1,7 +1,3 @@
-use Rattle.std.proofs.Common.{subst, sym}
-use Rattle.vol_archive.specs.Write.{Writes}
-use Rattle.command_reads.specs.Slots.{slots_in}
-use Rattle.command_reads.specs.declared.looks.OutputForm.{OutputForm}
 use Rattle.command_reads.proofs.slots.put_all.Goals as goal
 
 pub returns-in-Text : goal.returns-in-Text

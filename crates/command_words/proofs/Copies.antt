@@ -8,6 +8,7 @@ use Rattle.command_words.specs.declared.invocation.Work.TheVariants as works
 use Rattle.command_words.specs.declared.parameters.WordKind.TheVariants as kinds
 use Rattle.command_words.specs.declared.verbs.Verb.{Verb}
 use Rattle.command_words.specs.declared.verbs.Verb.TheVariants as verbs
+use Rattle.command_reads.specs.declared.bad_looks.BadLook.TheVariants as bad_looks
 use Rattle.command_reads.specs.declared.looks.Look.TheVariants as looks
 use Rattle.vol_check.specs.declared.checker.Checker.TheVariants as checkers
 use Rattle.command_changes.specs.declared.changes.Change.TheVariants as changes
@@ -42,6 +43,7 @@ puts clock given (invocations.Copy volume (copies.Put directory files keep now t
     inr (directory.now, map (λ file. file.now) files.items, now.seconds, option_map (λ word. word.now) now.word, is.1.0, is.1.1)
 puts clock given (invocations.Work volume (works.Check checkers.Blocks workers form)) put is = absurd (true≢false (sym put))
 puts clock given (invocations.Look volume (looks.Export path options)) put is = absurd (true≢false (sym put))
+puts clock given (invocations.LookBad volume image (bad_looks.Export path options)) put is = absurd (true≢false (sym put))
 puts clock given invocation put is = absurd (true≢false (sym put))
 
 -- every invocation of `get` reads one file or several
@@ -52,6 +54,7 @@ gets clock given (invocations.Copy volume (copies.Get folder paths keeps)) got i
 gets clock given (invocations.Change volume (changes.Put p file keep now) trace) got is = absurd (true≢false (sym got))
 gets clock given (invocations.Work volume (works.Check checkers.Blocks workers form)) got is = absurd (true≢false (sym got))
 gets clock given (invocations.Look volume (looks.Export path options)) got is = absurd (true≢false (sym got))
+gets clock given (invocations.LookBad volume image (bad_looks.Export path options)) got is = absurd (true≢false (sym got))
 gets clock given invocation got is = absurd (true≢false (sym got))
 
 -- if the words put neither one file nor several, `put` has no invocation

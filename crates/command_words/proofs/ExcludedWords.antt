@@ -19,6 +19,7 @@ use Rattle.vol_mkfs.specs.declared.blank.NewVolume.{NewVolume}
 use Rattle.command_words.specs.declared.invocation.Work.TheVariants as works
 use Rattle.command_words.specs.declared.verbs.Verb.{Verb}
 use Rattle.command_words.specs.declared.verbs.Verb.TheVariants as verbs
+use Rattle.command_reads.specs.declared.bad_looks.BadLook.TheVariants as bad_looks
 use Rattle.command_reads.specs.declared.looks.Look.TheVariants as looks
 use Rattle.vol_check.specs.declared.checker.Checker.TheVariants as checkers
 use Rattle.command_changes.specs.declared.changes.Change.TheVariants as changes
@@ -48,6 +49,7 @@ chosen (invocations.Look volume (looks.List path listing)) = inr (inr (refl, ref
 chosen (invocations.Change volume (changes.Put p file keep now) trace) = inr (inr (refl, refl))
 chosen (invocations.Copy volume (copies.Put directory files keep now trace)) = inr (inr (refl, refl))
 chosen (invocations.Work volume (works.Check checkers.Blocks workers form)) = inr (inr (refl, refl))
+chosen (invocations.LookBad volume image (bad_looks.Export p options)) = inr (inr (refl, refl))
 chosen invocation = inr (inr (refl, refl))
 
 -- words for an invocation of `mkfs` in a file that must not exist have no block of a file
@@ -111,6 +113,7 @@ repairs clock given (invocations.Look volume (looks.List path listing)) repaired
 repairs clock given (invocations.Change volume (changes.Put p file keep now) trace) repaired is missing = absurd (true≢false (sym repaired))
 repairs clock given (invocations.Copy volume (copies.Put directory files keep now trace)) repaired is missing = absurd (true≢false (sym repaired))
 repairs clock given (invocations.Work volume (works.Check checkers.Blocks workers form)) repaired is missing = absurd (true≢false (sym repaired))
+repairs clock given (invocations.LookBad volume image (bad_looks.Export p options)) repaired is missing = absurd (true≢false (sym repaired))
 repairs clock given invocation repaired is missing = absurd (true≢false (sym repaired))
 
 -- if the words name no file for a repaired copy, and don't ask to write nothing, `repair` has no invocation

@@ -1,3 +1,6 @@
+pub mod BadLooks
+pub mod BadValues
+pub mod BadWords
 pub mod Copies
 pub mod ExcludedWords
 pub mod Faults

@@ -7,6 +7,7 @@ use Rattle.command_words.specs.declared.invocation.Invocation.TheVariants as inv
 use Rattle.command_words.specs.declared.invocation.Work.TheVariants as works
 use Rattle.command_words.specs.declared.verbs.Verb.{Verb}
 use Rattle.command_words.specs.declared.verbs.Verb.TheVariants as verbs
+use Rattle.command_reads.specs.declared.bad_looks.BadLook.TheVariants as bad_looks
 use Rattle.command_reads.specs.declared.looks.Look.TheVariants as looks
 use Rattle.vol_check.specs.declared.checker.Checker.TheVariants as checkers
 use Rattle.command_changes.specs.declared.changes.Change.TheVariants as changes
@@ -25,6 +26,7 @@ draws clock given (invocations.Look volume looks.Uses) drawn is json svg = true�
 draws clock given (invocations.Change volume (changes.Put p file keep now) trace) drawn is json svg = absurd (true≢false (sym drawn))
 draws clock given (invocations.Copy volume (copies.Put directory files keep now trace)) drawn is json svg = absurd (true≢false (sym drawn))
 draws clock given (invocations.Work volume (works.Check checkers.Blocks workers form)) drawn is json svg = absurd (true≢false (sym drawn))
+draws clock given (invocations.LookBad volume image (bad_looks.Export p options)) drawn is json svg = absurd (true≢false (sym drawn))
 draws clock given invocation drawn is json svg = absurd (true≢false (sym drawn))
 
 -- no invocation of `map` has JSON of one file's blocks
@@ -36,6 +38,7 @@ shows_file clock given (invocations.Look volume looks.Uses) drawn is json file =
 shows_file clock given (invocations.Change volume (changes.Put p word keep now) trace) drawn is json file = absurd (true≢false (sym drawn))
 shows_file clock given (invocations.Copy volume (copies.Put directory files keep now trace)) drawn is json file = absurd (true≢false (sym drawn))
 shows_file clock given (invocations.Work volume (works.Check checkers.Blocks workers form)) drawn is json file = absurd (true≢false (sym drawn))
+shows_file clock given (invocations.LookBad volume image (bad_looks.Export p options)) drawn is json file = absurd (true≢false (sym drawn))
 shows_file clock given invocation drawn is json file = absurd (true≢false (sym drawn))
 
 -- if `--json` and `--svg` are given, `map` has no invocation

@@ -1,12 +1,17 @@
 -- An invocation can only be read from valid words; if a word isn't valid, there is no invocation.
-use Rattle.std.proofs.Common.{rules, ◌≡◌, ◌∙◌, ◌≤◌, ◌∷◌, ℕ, List, [], Option, length, map, sym, ap, subst, inl, inr}
+use Rattle.std.proofs.Common.{rules, ◌≡◌, ◌∙◌, ◌≤◌, ◌∷◌, ℕ, List, [], Option, None, codes, false, length, map, sym, ap, subst, inl, inr}
 use Rattle.std.specs.Borrow.{Bor}
 use Rattle.std.proofs.lemmas.List.{length-map}
-use Rattle.command_words.specs.Invocations.{AreValues, AsksForNothing, IsGiven, IsOneWrong, IsVolumeWrong, NameAsksFor, Words, verb_of}
+use Rattle.bad_maps.specs.Lists.{bytes_around}
+use Rattle.vol_layout.specs.declared.edition.Edition.TheVariants.{V7}
+use Rattle.command_reads.specs.declared.bad_looks.BadLook.TheVariants as bad_looks
+use Rattle.command_reads.specs.declared.looks.Look.TheVariants as looks
+use Rattle.command_words.specs.Invocations.{AreValues, AsksForNothing, IsGiven, IsOneWrong, IsVolumeWrong, NameAsksFor, Words, is_set, verb_of}
 use Rattle.command_words.specs.Verbs.{Argument, IsNoCommand, arguments_of, on_volume, verb_name}
 use Rattle.command_words.specs.declared.invocation.Invocation.{Invocation}
 use Rattle.command_words.specs.declared.invocation.Invocation.TheVariants as invocations
 use Rattle.command_words.specs.declared.verbs.Verb.{Verb}
+use Rattle.command_words.proofs.BadValues.{list_value, none_read, sizes_value}
 use Rattle.command_words.proofs.Names.{verb_name-injective}
 
 -- the number of words given for the scripts is the number of scripts, 1 to 64
@@ -22,6 +27,22 @@ scripts_value items words are least most =
 pub values_given : (clock : Option ℕ) (given : Words) (invocation : Invocation) → IsGiven clock given invocation
     → AreValues clock given (arguments_of (verb_of invocation))
 values_given clock given (invocations.Cat volume node) is = search (rules, scripts_value)
+values_given clock given (invocations.Look volume (looks.Export path options)) is =
+    let sizes = sizes_value given V7 None is.1.1.1 in
+    let list = none_read bytes_around _ is.1.1.0.1 in
+    search (rules, list, sizes)
+values_given clock given (invocations.Look volume (looks.Find path name lost form)) is =
+    let sizes = sizes_value given V7 None is.1.4.1 in
+    let list = none_read bytes_around _ is.1.4.0.1 in
+    search (rules, list, sizes)
+values_given clock given (invocations.LookBad volume image (bad_looks.Export path options)) is =
+    let sizes = sizes_value given volume.edition image.sizes is.1.1.0 in
+    let list = list_value given volume.edition false image is.1.1 in
+    search (rules, list, sizes)
+values_given clock given (invocations.LookBad volume image (bad_looks.Find path name lost form)) is =
+    let sizes = sizes_value given volume.edition image.sizes is.1.4.0 in
+    let list = list_value given volume.edition (is_set (given (codes "cut"))) image is.1.4 in
+    search (rules, list, sizes)
 values_given clock given invocation is = search (rules, scripts_value)
 
 -- if all words are valid, none of them is wrong

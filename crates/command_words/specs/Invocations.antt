@@ -5,7 +5,9 @@ use Rattle.std.specs.Path.{path_file_name}
 use Rattle.std.specs.Str.{bytes_eq}
 use Rattle.vol_layout.specs.declared.edition.Edition.{Edition}
 use Rattle.vol_layout.specs.declared.edition.Edition.TheVariants.{V6, V7}
-use Rattle.command_words.specs.Disks.{AreBlocksOf, list_default}
+use Rattle.bad_maps.specs.Lists.{bytes_around}
+use Rattle.command_words.specs.BadWords.{IsBadImageGiven, IsReadIfAny, sizes_of}
+use Rattle.command_words.specs.Disks.{AreBlocksOf, disk_blocks, list_default}
 use Rattle.command_words.specs.Decimal.{IsNumberUpTo, IsNumberGiven, IsThreads, IsThreadsGiven}
 use Rattle.command_words.specs.Moment.{IsMomentOf}
 use Rattle.command_words.specs.Octal.{IsOctalUpTo, IsOctalGiven}
@@ -15,6 +17,7 @@ use Rattle.command_words.specs.declared.fault.WordFault.{WordFault}
 use Rattle.command_words.specs.declared.fault.WordFault.TheVariants as faults
 use Rattle.command_words.specs.declared.parameters.WordKind.{WordKind}
 use Rattle.command_words.specs.declared.parameters.WordKind.TheVariants as kinds
+use Rattle.command_words.specs.declared.invocation.BadImage.{BadImage}
 use Rattle.command_words.specs.declared.invocation.Copying.{Copying}
 use Rattle.command_words.specs.declared.invocation.Copying.TheVariants as copies
 use Rattle.command_words.specs.declared.invocation.GuessForm.{GuessForm}
@@ -31,6 +34,9 @@ use Rattle.command_words.specs.declared.invocation.Work.{Work}
 use Rattle.command_words.specs.declared.invocation.Work.TheVariants as works
 use Rattle.command_words.specs.declared.verbs.Verb.{Verb}
 use Rattle.command_words.specs.declared.verbs.Verb.TheVariants as verbs
+use Rattle.command_reads.specs.BadLooks.{whole_look}
+use Rattle.command_reads.specs.declared.bad_looks.BadLook.{BadLook}
+use Rattle.command_reads.specs.declared.bad_looks.BadLook.TheVariants as bad_looks
 use Rattle.command_reads.specs.declared.comparison.Comparison.{Comparison}
 use Rattle.command_reads.specs.declared.comparison.Comparison.TheVariants as comparisons
 use Rattle.command_reads.specs.declared.looks.ExportOptions.{ExportOptions}
@@ -165,6 +171,9 @@ IsValue clock kinds.Threads words = IsThreads (first_word words)
 IsValue clock kinds.Moment words = (now : ℕ) × IsMomentGiven clock words now
 IsValue clock kinds.Scripts words = (1 ≤ length words) × (length words ≤ 64)
 IsValue clock kinds.LongOr words = IsNumberIfAny 4294967295 words
+IsValue clock kinds.BlockList words = IsReadIfAny bytes_around words
+IsValue clock kinds.Sizes words = IsReadIfAny sizes_of words
+IsValue clock kinds.Disk words = IsReadIfAny disk_blocks words
 IsValue clock kinds.Flag words = Unit {0}
 
 -- the words given for each of these arguments are valid for it (this project)
@@ -242,7 +251,7 @@ verb_of (invocations.Repair volume copy repairing) = verbs.Repair
 verb_of (invocations.Resize volume blocks is_trial) = verbs.Resize
 verb_of (invocations.Change volume change trace) = change_verb change
 verb_of (invocations.Look volume look) = look_verb look
-verb_of (invocations.ExportBad volume map p options) = verbs.Export
+verb_of (invocations.LookBad volume image look) = look_verb (whole_look look)
 verb_of (invocations.Copy volume copying) = copying_verb copying
 verb_of (invocations.Work volume work) = work_verb work
 verb_of (invocations.Serve volume serving) = verbs.Serve
@@ -263,7 +272,7 @@ volume_of (invocations.Look volume look) = Some volume
 volume_of (invocations.Copy volume copying) = Some volume
 volume_of (invocations.Work volume work) = Some volume
 volume_of (invocations.Serve volume serving) = Some volume
-volume_of (invocations.ExportBad volume map p options) = Some volume
+volume_of (invocations.LookBad volume image look) = Some volume
 volume_of (invocations.Diff volume other by) = Some volume
 volume_of (invocations.Identify images form is_deep) = None
 
@@ -281,7 +290,7 @@ with_volume (invocations.Look old look) volume = invocations.Look volume look
 with_volume (invocations.Copy old copying) volume = invocations.Copy volume copying
 with_volume (invocations.Work old work) volume = invocations.Work volume work
 with_volume (invocations.Serve old serving) volume = invocations.Serve volume serving
-with_volume (invocations.ExportBad old map p options) volume = invocations.ExportBad volume map p options
+with_volume (invocations.LookBad old image look) volume = invocations.LookBad volume image look
 with_volume (invocations.Diff old other by) volume = invocations.Diff volume other by
 with_volume (invocations.Identify images form is_deep) volume = invocations.Identify images form is_deep
 
@@ -439,7 +448,7 @@ IsExportGiven given path options = (path ≡ the_word given (codes "PATH")) × (
 
 -- the words describe this part of an image (this project)
 abbrev pub IsLookGiven : Words → Look → Type 0
-IsLookGiven given (looks.Export path options) = IsExportGiven given path.now options × IsLeftOut given (codes "bad")
+IsLookGiven given (looks.Export path options) = IsExportGiven given path.now options × IsBadImageGiven given V7 false None
 IsLookGiven given (looks.Sums path form lost) = (path.now ≡ the_word given (codes "PATH")) × IsFormGiven given form
     × (lost ≡ is_set (given (codes "lost")))
 IsLookGiven given (looks.Inode node form) = IsNodeGiven (the_word given (codes "INO")) node × IsFormGiven given form
@@ -451,6 +460,7 @@ IsLookGiven given (looks.Dump target radix) =
 IsLookGiven given (looks.Df form) = IsFormGiven given form
 IsLookGiven given (looks.Find path name lost form) = (path.now ≡ the_word given (codes "PATH"))
     × (option_map (λ word. word.now) name ≡ slice_get (given (codes "name")) 0) × (lost ≡ is_set (given (codes "lost"))) × IsFormGiven given form
+    × IsBadImageGiven given V7 (is_set (given (codes "cut"))) None
 IsLookGiven given (looks.Map picture file) = IsPictureGiven given picture × (is_set (given (codes "json")) ≡ false)
     × (option_map (λ word. word.now) file ≡ slice_get (given (codes "file")) 0)
 IsLookGiven given looks.Uses =
@@ -460,6 +470,20 @@ IsLookGiven given (looks.List path listing) = (path.now ≡ the_word given (code
     × IsDepthGiven given listing.depth × (is_set (given (codes "slots")) ≡ false)
 IsLookGiven given (looks.Slots path form) = (path.now ≡ the_word given (codes "PATH")) × (is_set (given (codes "slots")) ≡ true)
     × IsFormGiven given form
+
+-- the words describe this part of an image of which some blocks couldn't be read, and the image; an export of an image that was only cut off isn't
+-- one of these (this project)
+abbrev pub IsBadLookGiven : Words → Edition → BadImage → BadLook → Type 0
+IsBadLookGiven given edition image (bad_looks.Export path options) =
+    IsExportGiven given path.now options × IsBadImageGiven given edition false (Some image)
+IsBadLookGiven given edition image (bad_looks.Find path name lost form) = (path.now ≡ the_word given (codes "PATH"))
+    × (option_map (λ word. word.now) name ≡ slice_get (given (codes "name")) 0) × (lost ≡ is_set (given (codes "lost"))) × IsFormGiven given form
+    × IsBadImageGiven given edition (is_set (given (codes "cut"))) (Some image)
+
+-- the invocation that shows part of an image, of which some blocks may not have been read (this project)
+abbrev pub look_at : VolumeFile → BadLook → Option BadImage → Invocation
+look_at volume look None = invocations.Look volume (whole_look look)
+look_at volume look (Some image) = invocations.LookBad volume image look
 
 -- the words of `put` for several files, in order (this project)
 abbrev pub put_words : Words → List (List ℕ)
@@ -554,8 +578,7 @@ IsGiven clock given (invocations.Resize volume blocks is_trial) = IsVolumeGiven 
 IsGiven clock given (invocations.Change volume change trace) =
     IsVolumeGiven given volume × IsChangeGiven clock given change × IsTraceGiven given change trace
 IsGiven clock given (invocations.Look volume look) = IsVolumeGiven given volume × IsLookGiven given look
-IsGiven clock given (invocations.ExportBad volume map p options) = IsVolumeGiven given volume × IsFirstWord given (codes "bad") map.now
-    × IsExportGiven given p.now options
+IsGiven clock given (invocations.LookBad volume image look) = IsVolumeGiven given volume × IsBadLookGiven given volume.edition image look
 IsGiven clock given (invocations.Copy volume copying) = IsVolumeGiven given volume × IsCopyGiven clock given copying
 IsGiven clock given (invocations.Work volume work) = IsVolumeGiven given volume × IsWorkGiven given work
 IsGiven clock given (invocations.Serve volume serving) = IsVolumeGiven given volume × IsServingGiven given serving

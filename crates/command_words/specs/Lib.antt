@@ -1,3 +1,4 @@
+pub mod BadWords
 pub mod Invocations
 pub mod Decimal
 pub mod Disks

@@ -90,6 +90,12 @@ on_volume more = edition ∷ word (codes "IMAGE") ∷ at ∷ more
 abbrev pub of_checker : List Argument
 of_checker = on_volume ((codes "WORKERS", kinds.Threads, needs.Once) ∷ option (codes "json") ∷ [])
 
+-- the arguments about an image of which some blocks couldn't be read, and then further ones (this project)
+abbrev pub with_bad : List Argument → List Argument
+with_bad more =
+    (codes "bad", kinds.Text, needs.Value None values.Map) ∷ (codes "bad-blocks", kinds.BlockList, needs.Value None values.Blocks)
+    ∷ (codes "sizes", kinds.Sizes, needs.Value None values.Sizes) ∷ (codes "like", kinds.Disk, needs.Value None values.Disk) ∷ more
+
 -- the row of a command: its name, and its words in order (this project)
 abbrev pub row_of : Verb → List ℕ × List Argument
 row_of verbs.Cat = (codes "cat", on_volume (node ∷ []))
@@ -99,11 +105,13 @@ row_of verbs.Ls = (
       ∷ lettered (codes "directory") 100 ∷ option (codes "json") ∷ option (codes "slots") ∷ []),
 )
 row_of verbs.Get = (codes "get", on_volume (word (codes "PATH") ∷ more_words ∷ valued (codes "output") 111 values.Folder ∷ lettered (codes "preserve") 112 ∷ []))
-row_of verbs.Find = (codes "find", on_volume (maybe_path ∷ valued (codes "name") 103 values.Pattern ∷ option (codes "lost") ∷ option (codes "json") ∷ []))
+row_of verbs.Find = (
+  codes "find",
+  on_volume (maybe_path ∷ valued (codes "name") 103 values.Pattern ∷ option (codes "lost") ∷ option (codes "cut") ∷ with_bad (option (codes "json") ∷ [])),
+)
 row_of verbs.Export = (
   codes "export",
-  on_volume (maybe_path ∷ option (codes "lost") ∷ option (codes "cut") ∷ (codes "bad", kinds.Text, needs.Value None values.Map)
-      ∷ option (codes "damaged") ∷ option (codes "status") ∷ []),
+  on_volume (maybe_path ∷ option (codes "lost") ∷ option (codes "cut") ∷ with_bad (option (codes "damaged") ∷ option (codes "status") ∷ [])),
 )
 row_of verbs.Sums = (codes "sums", on_volume (maybe_path ∷ option (codes "lost") ∷ option (codes "json") ∷ []))
 row_of verbs.Inode = (codes "inode", on_volume (node ∷ option (codes "json") ∷ []))
@@ -145,7 +153,7 @@ row_of verbs.Salvage = (codes "salvage", on_volume (valued (codes "output") 111 
 row_of verbs.Repair = (
   codes "repair",
   on_volume (maybe_word (codes "NEW") ∷ moment ∷ option (codes "new") ∷ lettered (codes "dry-run") 110
-      ∷ (codes "blocks", kinds.LongOr, needs.Value None values.Blocks) ∷ []),
+      ∷ (codes "blocks", kinds.LongOr, needs.Value None values.Size) ∷ []),
 )
 row_of verbs.Resize = (codes "resize", on_volume (long_number (codes "BLOCKS") ∷ lettered (codes "dry-run") 110 ∷ []))
 row_of verbs.Play = (codes "play", on_volume ((codes "SCRIPT", kinds.Scripts, needs.Several) ∷ option (codes "journal") ∷ option (codes "trace") ∷ []))

@@ -17,7 +17,7 @@ pub(crate) fn blocks_of(text: &str) -> Option<u32>
 }
 
 /// Returns the number of 512-byte blocks of the disk with this name, in letters of either case.
-fn disk_blocks(name: &str) -> Option<u32>
+pub(crate) fn disk_blocks(name: &str) -> Option<u32>
     ensures { result ≡ disk_blocks name.now }
 {
     if name.eq_ignore_ascii_case("rk05") {

@@ -2,10 +2,12 @@
 ghost use Rattle.std.specs.Prelude.{◌≡◌};
 ghost use Rattle.command_words.specs.Invocations.{volume_of, with_volume};
 
+use bad_maps::ReadRange;
 use command_changes::{Change, Keep, Migration, Repairing};
-use command_reads::{Comparison, ExportOptions, Look, NodeName, OutputForm};
+use command_reads::{BadLook, Comparison, Look, NodeName, OutputForm};
 use vol_check::Checker;
 use vol_layout::Edition;
+use vol_losses::VolumeSizes;
 use vol_mkfs::NewVolume;
 
 /// A volume in a file.
@@ -37,6 +39,24 @@ pub enum NewPlace<'a> {
     File(MadeFile<'a>),
     /// The blocks from `at` on of the file `image`, which exists.
     Part { image: &'a str, at: u32 },
+}
+
+/// What says which blocks of an image couldn't be read.
+#[derive(Drop)]
+pub enum GivenBad<'a> {
+    /// The map in the file at this path: each block of which it doesn't have all bytes.
+    Map(&'a str),
+    /// Ranges of bytes of the volume: each block of which no range has all bytes.
+    Outside(Vec<ReadRange>),
+}
+
+/// What is known of an image of which some blocks couldn't be read.
+#[derive(Drop)]
+pub struct BadImage<'a> {
+    /// The blocks that couldn't be read.
+    pub bad: GivenBad<'a>,
+    /// The sizes of the volume, if they take the place of those in its super-block.
+    pub sizes: Option<VolumeSizes>,
 }
 
 /// The format of guesses.
@@ -163,12 +183,11 @@ pub enum Invocation<'a> {
         volume: VolumeFile<'a>,
         look: Look<'a>,
     },
-    /// Write everything below a directory as an archive, from an image in a file of which some blocks couldn't be read; the file `map` says which.
-    ExportBad {
+    /// Show part of the image in a file, of which some blocks couldn't be read.
+    LookBad {
         volume: VolumeFile<'a>,
-        map: &'a str,
-        path: &'a str,
-        options: ExportOptions,
+        image: BadImage<'a>,
+        look: BadLook<'a>,
     },
     /// Copy several files into the volume in a file, or out of it.
     Copy {
@@ -214,7 +233,7 @@ impl<'a> Invocation<'a> {
             | Invocation::Resize { volume, .. }
             | Invocation::Change { volume, .. }
             | Invocation::Look { volume, .. }
-            | Invocation::ExportBad { volume, .. }
+            | Invocation::LookBad { volume, .. }
             | Invocation::Copy { volume, .. }
             | Invocation::Work { volume, .. }
             | Invocation::Serve { volume, .. }
@@ -254,16 +273,10 @@ impl<'a> Invocation<'a> {
                 trace,
             },
             Invocation::Look { look, .. } => Invocation::Look { volume, look },
-            Invocation::ExportBad {
-                map,
-                path,
-                options,
-                ..
-            } => Invocation::ExportBad {
+            Invocation::LookBad { image, look, .. } => Invocation::LookBad {
                 volume,
-                map,
-                path,
-                options,
+                image,
+                look,
             },
             Invocation::Copy { copying, .. } => Invocation::Copy { volume, copying },
             Invocation::Work { work, .. } => Invocation::Work { volume, work },

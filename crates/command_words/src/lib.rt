@@ -1,6 +1,7 @@
 //! The commands and their words, and the functions that read them.
 #![tactic(auto)]
 
+mod bad_words;
 mod checkers;
 mod commands;
 mod decimal;
@@ -20,7 +21,8 @@ pub mod verbs;
 pub use fault::{Said, WordFault, WrongWord};
 pub use given::Given;
 pub use invocation::{
-    Copying, GuessForm, Invocation, MadeFile, Moment, NewPlace, Serving, VolumeFile, Work,
+    BadImage, Copying, GivenBad, GuessForm, Invocation, MadeFile, Moment, NewPlace, Serving,
+    VolumeFile, Work,
 };
 pub use parameters::{Need, Parameter, ValueName, WordKind};
 pub use read_words::read;

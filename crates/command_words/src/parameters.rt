@@ -36,6 +36,12 @@ pub enum WordKind {
     Scripts,
     /// A 32-bit number; it may be left out.
     LongOr,
+    /// A list of blocks: numbers and ranges, ascending and apart by commas; it may be left out.
+    BlockList,
+    /// The number of blocks of a volume and that of its i-list, apart by a comma; they may be left out.
+    Sizes,
+    /// The name of a disk; it may be left out.
+    Disk,
     /// None: the argument is an option without a value.
     Flag,
 }
@@ -79,7 +85,13 @@ pub enum ValueName {
     /// A file or a directory of a volume.
     Path,
     /// A number of blocks.
+    Size,
+    /// A list of blocks.
     Blocks,
+    /// The number of blocks of a volume and that of its i-list.
+    Sizes,
+    /// A disk.
+    Disk,
 }
 
 impl ValueName {
@@ -95,7 +107,10 @@ impl ValueName {
             ValueName::Map => "MAPFILE",
             ValueName::Block => "BLOCK",
             ValueName::Path => "PATH",
-            ValueName::Blocks => "FSIZE",
+            ValueName::Size => "FSIZE",
+            ValueName::Blocks => "LIST",
+            ValueName::Sizes => "FSIZE,IBLOCKS",
+            ValueName::Disk => "DISK",
         }
     }
 }

@@ -1,15 +1,15 @@
 //! The command `export`.
 ghost use Rattle.std.specs.Prelude.{IfErr, IfOk};
-ghost use Rattle.command_words.specs.Invocations.{AsksFor, IsOneWrong, TellsOf};
-ghost use Rattle.command_words.specs.Verbs.{arguments_of};
+ghost use Rattle.command_words.specs.Invocations.{AsksFor, AsksForNothing, TellsOf};
 ghost use Rattle.command_words.specs.declared.verbs.Verb.TheVariants as verbs;
 
+use crate::bad_words::{BAD, BAD_BLOCKS, CUT, LIKE, SIZES, bad_image_in, look_at};
 use crate::fault::WordFault;
 use crate::given::{Given, flag_in, text_in};
 use crate::invocation::Invocation;
-use crate::parameters::{AT, BELOW, EDITION, IMAGE, LOST, Need, Parameter, ValueName, WordKind};
+use crate::parameters::{AT, BELOW, EDITION, IMAGE, LOST, Need, Parameter, WordKind};
 use crate::read_words::volume_in;
-use command_reads::{ExportOptions, Look, LossOptions};
+use command_reads::{BadLook, ExportOptions, LossOptions};
 use std::alloc::Global;
 
 pub(crate) const NAME: &str = "export";
@@ -23,6 +23,7 @@ Examples:
   unixvol export --lost --status 7 damaged.img > all.tar
   unixvol export --cut 7 cut-off.img > whole-files.tar
   unixvol export --bad rescue.map 7 rescued.img > whole-files.tar
+  unixvol export --bad-blocks 12,878-900 --like rk05 7 damaged.img > whole-files.tar
 
 A POSIX ustar archive is written to standard output: files, directories and special files, with their permissions,
 owners and times of modification. The second and further names of a file are links to the first. Members are
@@ -60,8 +61,13 @@ lost+found. A file that is left out may be whole in another copy of the image; n
 With --bad, the image was copied from a medium of which some blocks couldn't be read, and MAPFILE is the map that GNU
 ddrescue kept of it. It is of all of IMAGE, also with --at. Each block of 512 bytes that the map doesn't call
 finished (+) as a whole is lost, whatever the image has in its place; so is each that the map doesn't cover, or that
-isn't wholly there, as with --cut. All else is as with --cut. If the super-block is lost, its sizes aren't known:
-rule 2 is broken.
+isn't wholly there, as with --cut. All else is as with --cut. With --bad-blocks, the blocks of the volume that LIST
+names are lost: numbers and ranges, as 12,878-4871, strictly ascending.
+
+If the super-block is lost, its sizes aren't known, and rule 2 is broken. Then --sizes or --like gives them: FSIZE
+blocks with IBLOCKS of them for the i-list, as `mkfs` takes them, or those of a volume that `mkfs` makes for DISK.
+Block 1 is then lost, whatever the image has in it. With the wrong sizes, the i-list and the data are taken to be
+where they aren't: see that the members are what you know to be on the volume.
 
 Status:
   0  everything was exported, and the volume is sound
@@ -71,17 +77,18 @@ Status:
      `unixvol: 2 NoEntry`: there is no such file or directory
      `unixvol: 20 NotDirectory`: PATH isn't a directory, or leads through something that isn't one. Of a root that
      isn't one, --lost exports what is left
-     with --cut or --bad: blocks are lost, but nothing is damaged or left out
+     with --cut, --bad or --bad-blocks: blocks are lost, but nothing is damaged or left out
   2  the command line is wrong
+     `unixvol: no volume has 5 blocks with an i-list of 9`: --sizes breaks rule 2, and nothing was exported
   3  `unixvol: cannot read IMAGE`, or `unixvol: cannot write -`: standard output failed, or is a terminal
      `unixvol: rescue.map: line 7: the size is no number`: MAPFILE can't be read, and nothing was exported
   4  `unixvol: 12 NoMemory`
   5  with --status: something was left out, as standard error says; 1 then means that the volume isn't sound, but
      nothing was left out, or that PATH leads to no directory, and nothing was exported
-     with --cut or --bad: something is damaged or left out, as standard error says
+     with --cut, --bad or --bad-blocks: something is damaged or left out, as standard error says
   6  with --status: rule 1 or 2 doesn't hold, so the image has no volume of this edition, and nothing was exported
-     `unixvol: the image has 2 of 2000000 blocks`: more than 1048576 blocks are missing for --cut
-     or --bad";
+     `unixvol: the image has 2 of 2000000 blocks`: more than 1048576 blocks are missing for --cut,
+     --bad or --bad-blocks";
 
 const GRADED: Parameter = Parameter {
     name: "status",
@@ -90,43 +97,29 @@ const GRADED: Parameter = Parameter {
     help: "Exit with status 5 if something isn't exported, and 6 if the image has no volume of this edition",
 };
 
-const CUT: Parameter = Parameter {
-    name: "cut",
-    kind: WordKind::Flag,
-    need: Need::Flag(None),
-    help: "Read an image that was cut off, and export the files that are whole",
-};
-
-const BAD: Parameter = Parameter {
-    name: "bad",
-    kind: WordKind::Text,
-    need: Need::Value(None, ValueName::Map),
-    help: "Export the files that are whole in what was read of IMAGE, by the map that ddrescue kept of it",
-};
-
 const DAMAGED: Parameter = Parameter {
     name: "damaged",
     kind: WordKind::Flag,
     need: Need::Flag(None),
-    help: "With --cut or --bad, export damaged files too, with zeros in place of the bytes that are lost",
+    help: "With --cut, --bad or --bad-blocks, export damaged files too, with zeros in place of the bytes that are lost",
 };
 
 /// The words that `export` takes.
 pub(crate) const WORDS: &[Parameter] = &[
-    EDITION, IMAGE, AT, BELOW, LOST, CUT, BAD, DAMAGED, GRADED,
+    EDITION, IMAGE, AT, BELOW, LOST, CUT, BAD, BAD_BLOCKS, SIZES, LIKE, DAMAGED, GRADED,
 ];
 
 /// Reads the words of `export`.
 pub(crate) fn read<'a, G: Given<'a>>(
-    _alloc: Global,
+    alloc: Global,
     given: &G,
     _clock: Option<u32>,
 ) -> Result<Invocation<'a>, WordFault<'a>>
     ensures read { IfOk result (AsksFor _clock verbs.Export (G.words given.now)) }
-    ensures refused { IfErr result (TellsOf (IsOneWrong _clock (G.words given.now) (arguments_of verbs.Export))) }
+    ensures refused { IfErr result (TellsOf (AsksForNothing _clock verbs.Export (G.words given.now))) }
 {
     let volume = volume_in(given)?;
-    let path = text_in(given, "PATH");
+    let bad = bad_image_in(alloc, given, volume.edition, false)?;
     let options = ExportOptions {
         lost: flag_in(given, "lost"),
         graded: flag_in(given, "status"),
@@ -135,16 +128,9 @@ pub(crate) fn read<'a, G: Given<'a>>(
             damaged: flag_in(given, "damaged"),
         },
     };
-    match given.first("bad") {
-        Some(map) => Ok(Invocation::ExportBad {
-            volume,
-            map,
-            path,
-            options,
-        }),
-        None => Ok(Invocation::Look {
-            volume,
-            look: Look::Export { path, options },
-        }),
-    }
+    let look = BadLook::Export {
+        path: text_in(given, "PATH"),
+        options,
+    };
+    Ok(look_at(volume, bad, look))
 }

@@ -1,9 +1,9 @@
 //! The command `find`.
 ghost use Rattle.std.specs.Prelude.{IfErr, IfOk};
-ghost use Rattle.command_words.specs.Invocations.{AsksFor, IsOneWrong, TellsOf};
-ghost use Rattle.command_words.specs.Verbs.{arguments_of};
+ghost use Rattle.command_words.specs.Invocations.{AsksFor, AsksForNothing, TellsOf};
 ghost use Rattle.command_words.specs.declared.verbs.Verb.TheVariants as verbs;
 
+use crate::bad_words::{BAD, BAD_BLOCKS, CUT, LIKE, SIZES, bad_image_in, look_at};
 use crate::fault::WordFault;
 use crate::given::{Given, flag_in, text_in};
 use crate::invocation::Invocation;
@@ -11,7 +11,7 @@ use crate::parameters::{
     AT, BELOW, EDITION, IMAGE, JSON, LOST, Need, Parameter, ValueName, WordKind,
 };
 use crate::read_words::{form_in, volume_in};
-use command_reads::Look;
+use command_reads::BadLook;
 use std::alloc::Global;
 
 pub(crate) const NAME: &str = "find";
@@ -23,6 +23,7 @@ Examples:
   unixvol find 7 disk.img /usr
   unixvol find 7 disk.img --name '*.c'
   unixvol find --lost 7 damaged.img
+  unixvol find --cut 7 cut-off.img
   unixvol find --json 7 disk.img | jq -r '.entries[] | select(.ino == 92) | .path'
 
 Each entry of the directory and of all directories below has a line, except `.` and `..`, in ascending order of
@@ -41,6 +42,10 @@ With --lost, i-nodes that no entry names, or that are out of reach, are printed 
 the paths below PATH that they have in an archive of `unixvol export --lost`: lost+found/#96 is i-node 96. If the
 root is no directory, these are all that is printed.
 
+With --cut, --bad, --bad-blocks, --sizes and --like, blocks of the image are lost, as `unixvol export --help` says of
+them. The paths are those that can be read without these blocks. The lines on standard error are then those of that
+export, about files, directories and i-nodes of which something is lost, and no others.
+
 The volume need not be sound. Only rules 1 and 2 are checked: the image's size, and the sizes in its super-block.
 
 Status:
@@ -49,10 +54,13 @@ Status:
      `unixvol: unsound, rule 2`: the sizes in the super-block contradict one another
      `unixvol: 2 NoEntry`, `unixvol: 20 NotDirectory`: PATH doesn't lead to a directory. Of a root that is no
      directory, --lost shows what is left
-  2  the command line is wrong
-  3  `unixvol: cannot read IMAGE`, or `unixvol: cannot write -`: standard output failed
+     with --cut, --bad or --bad-blocks: blocks are lost, but nothing is damaged or left out
+  2  the command line is wrong; or no volume has the sizes of --sizes
+  3  `unixvol: cannot read IMAGE`, or `unixvol: cannot write -`: standard output failed; or MAPFILE can't be read
   4  `unixvol: 12 NoMemory`
-  5  a path has more than 4096 bytes, and what is below it isn't printed";
+  5  a path has more than 4096 bytes, and what is below it isn't printed
+     with --cut, --bad or --bad-blocks: something is damaged or left out, as standard error says
+  6  with --cut, --bad or --bad-blocks: too many blocks of the image are missing";
 
 const PATTERN: Parameter = Parameter {
     name: "name",
@@ -62,27 +70,27 @@ const PATTERN: Parameter = Parameter {
 };
 
 /// The words that `find` takes.
-pub(crate) const WORDS: &[Parameter] = &[EDITION, IMAGE, AT, BELOW, PATTERN, LOST, JSON];
+pub(crate) const WORDS: &[Parameter] = &[
+    EDITION, IMAGE, AT, BELOW, PATTERN, LOST, CUT, BAD, BAD_BLOCKS, SIZES, LIKE, JSON,
+];
 
 /// Reads the words of `find`.
 pub(crate) fn read<'a, G: Given<'a>>(
-    _alloc: Global,
+    alloc: Global,
     given: &G,
     _clock: Option<u32>,
 ) -> Result<Invocation<'a>, WordFault<'a>>
     ensures read { IfOk result (AsksFor _clock verbs.Find (G.words given.now)) }
-    ensures refused { IfErr result (TellsOf (IsOneWrong _clock (G.words given.now) (arguments_of verbs.Find))) }
+    ensures refused { IfErr result (TellsOf (AsksForNothing _clock verbs.Find (G.words given.now))) }
 {
     let volume = volume_in(given)?;
-    let path = text_in(given, "PATH");
-    let name = given.first("name");
-    let lost = flag_in(given, "lost");
-    let form = form_in(given);
-    let look = Look::Find {
-        path,
-        name,
-        lost,
-        form,
+    let cut = flag_in(given, "cut");
+    let bad = bad_image_in(alloc, given, volume.edition, cut)?;
+    let look = BadLook::Find {
+        path: text_in(given, "PATH"),
+        name: given.first("name"),
+        lost: flag_in(given, "lost"),
+        form: form_in(given),
     };
-    Ok(Invocation::Look { volume, look })
+    Ok(look_at(volume, bad, look))
 }

@@ -80,7 +80,7 @@ const DRY_RUN: Parameter = Parameter {
 const BLOCKS: Parameter = Parameter {
     name: "blocks",
     kind: WordKind::LongOr,
-    need: Need::Value(None, ValueName::Blocks),
+    need: Need::Value(None, ValueName::Size),
     help: "The fewest blocks that the copy has, of 512 bytes",
 };
 

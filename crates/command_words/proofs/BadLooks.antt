@@ -1,0 +1,27 @@
+-- Words that ask for part of an image of which some blocks may not have been read.
+use Rattle.std.proofs.Common.{◌≡◌, ℕ, Bool, false, List, Option, None, Some, codes, slice_get, refl}
+use Rattle.std.specs.Borrow.{Bor}
+use Rattle.std.specs.Prelude.{option_map}
+use Rattle.command_reads.specs.declared.bad_looks.BadLook.TheVariants as bad_looks
+use Rattle.command_reads.specs.declared.looks.ExportOptions.{ExportOptions}
+use Rattle.command_reads.specs.declared.looks.OutputForm.{OutputForm}
+use Rattle.command_words.specs.BadWords.{IsBadImageGiven}
+use Rattle.command_words.specs.Invocations.{AsksFor, IsExportGiven, IsFormGiven, IsVolumeGiven, Words, is_set, look_at, the_word}
+use Rattle.command_words.specs.declared.invocation.BadImage.{BadImage}
+use Rattle.command_words.specs.declared.invocation.VolumeFile.{VolumeFile}
+use Rattle.command_words.specs.declared.verbs.Verb.TheVariants as verbs
+
+-- the words of `export` ask for its invocation
+pub export_asked : (clock : Option ℕ) (given : Words) (volume : VolumeFile) (path : Bor (List ℕ)) (options : ExportOptions) (bad : Option BadImage) → IsVolumeGiven given volume
+    → IsExportGiven given path.now options → IsBadImageGiven given volume.edition false bad
+    → AsksFor clock verbs.Export given (look_at volume (bad_looks.Export path options) bad)
+export_asked clock given volume path options None named is none = (refl, (named, (is, none)))
+export_asked clock given volume path options (Some image) named is bad = (refl, (named, (is, bad)))
+
+-- the words of `find` ask for its invocation
+pub find_asked : (clock : Option ℕ) (given : Words) (volume : VolumeFile) (path : Bor (List ℕ)) (name : Option (Bor (List ℕ))) (lost : Bool) (form : OutputForm) (bad : Option BadImage)
+    → IsVolumeGiven given volume → path.now ≡ the_word given (codes "PATH") → option_map (λ word. word.now) name ≡ slice_get (given (codes "name")) 0
+    → lost ≡ is_set (given (codes "lost")) → IsFormGiven given form → IsBadImageGiven given volume.edition (is_set (given (codes "cut"))) bad
+    → AsksFor clock verbs.Find given (look_at volume (bad_looks.Find path name lost form) bad)
+find_asked clock given volume path name lost form None named is pattern orphans shown none = (refl, (named, (is, pattern, orphans, shown, none)))
+find_asked clock given volume path name lost form (Some image) named is pattern orphans shown bad = (refl, (named, (is, pattern, orphans, shown, bad)))

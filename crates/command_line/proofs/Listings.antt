@@ -16,6 +16,7 @@ use Rattle.vol_listing.specs.declared.options.Depth.{Depth}
 use Rattle.vol_listing.specs.declared.options.Depth.TheVariants as depths
 use Rattle.vol_listing.specs.declared.options.Lines.{Lines}
 use Rattle.vol_listing.specs.declared.options.Lines.TheVariants as lines
+use Rattle.command_reads.specs.declared.bad_looks.BadLook.TheVariants as bad_looks
 use Rattle.command_reads.specs.declared.looks.Look.TheVariants as looks
 use Rattle.command_changes.specs.declared.changes.Change.TheVariants as changes
 use Rattle.vol_check.specs.declared.checker.Checker.TheVariants as checkers
@@ -175,6 +176,7 @@ asks_listing clock given edition image path (invocations.Look volume (looks.List
 asks_listing clock given edition image path (invocations.Change volume (changes.Put p file keep now) trace) test e_is i_is p_is none is = absurd (true≢false (sym test))
 asks_listing clock given edition image path (invocations.Copy volume (copies.Put directory files keep now trace)) test e_is i_is p_is none is = absurd (true≢false (sym test))
 asks_listing clock given edition image path (invocations.Work volume (works.Check checkers.Blocks workers form)) test e_is i_is p_is none is = absurd (true≢false (sym test))
+asks_listing clock given edition image path (invocations.LookBad volume bad (bad_looks.Export p options)) test e_is i_is p_is none is = absurd (true≢false (sym test))
 asks_listing clock given edition image path invocation test e_is i_is p_is none is = absurd (true≢false (sym test))
 
 -- if clap found the words of `ls` without options, no option was given

@@ -1,39 +1,68 @@
--- The end of an export of an image of which some blocks couldn't be read.
-use Rattle.std.proofs.Common.{◌≡◌, ℕ, ◌≤◌, List, Option, inl, inr, arith}
+-- The end of a command that shows part of an image of which some blocks couldn't be read.
+use Rattle.std.proofs.Common.{◌≡◌, ℕ, ◌≤◌, Bool, true, List, Option, inl, inr, arith}
+use Rattle.std.specs.Prelude.{option_map}
+use Rattle.bad_maps.specs.declared.maps.ReadRange.{ReadRange}
 use Rattle.command_faults.specs.Faults.{no_memory}
 use Rattle.command_faults.specs.Streams.{Streams}
-use Rattle.command_reads.specs.Export.{begun}
-use Rattle.command_reads.specs.ExportBad.{ExportsBad}
+use Rattle.command_reads.specs.BadLooks.{LooksBad, LooksRescued, ShowsRescued, TellsUnrescued}
+use Rattle.command_reads.specs.Export.{begun, told_status}
+use Rattle.command_reads.specs.Find.{found_sights}
 use Rattle.command_reads.specs.Losses.{TellsIncomplete}
-use Rattle.command_reads.specs.declared.export_bad.BadMap.{BadMap}
-use Rattle.command_reads.specs.declared.looks.ExportOptions.{ExportOptions}
+use Rattle.command_reads.specs.declared.bad_looks.BadBlocks.{BadBlocks}
+use Rattle.command_reads.specs.declared.bad_looks.BadBlocks.TheVariants as reads
+use Rattle.command_reads.specs.declared.bad_looks.BadLook.{BadLook}
+use Rattle.command_reads.specs.declared.bad_looks.BadLook.TheVariants as bad_looks
+use Rattle.command_words.specs.declared.invocation.BadImage.{BadImage}
 use Rattle.command_words.specs.declared.invocation.VolumeFile.{VolumeFile}
 use Rattle.host_files.specs.declared.image_file.Stamp.{Stamp}
 use Rattle.vol_layout.specs.declared.edition.Edition.{Edition}
 use Rattle.vol_listing.specs.declared.options.Screen.{Screen}
-use Rattle.unixvol.specs.ExportBad.{RunsExportBad}
+use Rattle.vol_losses.specs.declared.given_sizes.VolumeSizes.{VolumeSizes}
+use Rattle.unixvol.specs.LookBad.{RunsLookBad}
 use Rattle.unixvol.specs.Runs.{IsEndWithin, host_files}
-use Rattle.unixvol.proofs.Looked.{ends_badly, ends_from, ends_told, ends_unread, most_six}
+use Rattle.unixvol.proofs.Looked.{ends_badly, ends_from, ends_shows, ends_told, ends_unread, lines_few, most_six, told_few}
 
 ends_incomplete : (edition : Edition) (bytes : List ℕ) (streams : Streams) (status : ℕ) → TellsIncomplete edition bytes streams status → IsEndWithin 6 streams status
 ends_incomplete edition bytes streams status (inl (there, blocks, fault, is, line, told)) =
     ends_badly 6 streams status (omega (arith, told.status)) (omega (arith, told.status))
 ends_incomplete edition bytes streams status (inr told) = ends_told 6 streams no_memory status (omega arith) told
 
-ends_bad : (edition : Edition) (bytes : List ℕ) (map : BadMap) (path : List ℕ) (options : ExportOptions) (screen : Screen) (streams : Streams) (status : ℕ)
-    → ExportsBad edition bytes map path options screen streams status → IsEndWithin 6 streams status
-ends_bad edition bytes map path options screen streams status (inl (ranges, is, inl (image, lost, rescued, exports))) =
-    ends_from 6 edition image lost options screen streams status (begun options.lost edition image path) (most_six options.graded lost) exports
-ends_bad edition bytes map path options screen streams status (inl (ranges, is, inr (inl (cleared, zeros, told)))) = ends_incomplete edition cleared streams status told
-ends_bad edition bytes map path options screen streams status (inl (ranges, is, inr (inr told))) = ends_told 6 streams no_memory status (omega arith) told
-ends_bad edition bytes map path options screen streams status (inr (inl (number, flaw, fault, is, line, told))) =
+ends_unrescued : (edition : Edition) (ranges : List ReadRange) (at : ℕ) (sizes : Option VolumeSizes) (bytes : List ℕ) (streams : Streams) (status : ℕ)
+    → TellsUnrescued edition ranges at sizes bytes streams status → IsEndWithin 6 streams status
+ends_unrescued edition ranges at sizes bytes streams status (inl (cleared, stated, zeros, sized, told)) = ends_incomplete edition stated streams status told
+ends_unrescued edition ranges at sizes bytes streams status (inr (inl (wrong, fault, is, invalid, line, told))) =
     ends_badly 6 streams status (omega (arith, told.status)) (omega (arith, told.status))
-ends_bad edition bytes map path options screen streams status (inr (inr told)) = ends_told 6 streams no_memory status (omega arith) told
+ends_unrescued edition ranges at sizes bytes streams status (inr (inr told)) = ends_told 6 streams no_memory status (omega arith) told
 
--- an export with a map ends with a status of at most 6, and with 0 only if everything was printed and no fault was reported
-pub ends_bad_export : {F : Type 0} (at : ℕ) (remaining contents : F → Option (List ℕ)) (had : F → Stamp → Type 0) (stood : Stamp → Type 0) (streams : Streams)
-    (screen : Screen) (volume : VolumeFile) (name path : List ℕ) (options : ExportOptions) (status : ℕ)
-    → RunsExportBad streams (host_files at remaining contents had stood) screen volume name path options status → IsEndWithin 6 streams status
-ends_bad_export at remaining contents had stood streams screen volume name path options status (inl nothing) = ends_unread remaining 6 streams status (omega arith) nothing.0
-ends_bad_export at remaining contents had stood streams screen volume name path options status (inr done) =
-    ends_bad volume.edition done.0 done.1 path options screen streams status done.6
+ends_rescued : (edition : Edition) (image : List ℕ) (lost : List Bool) (screen : Screen) (streams : Streams) (status : ℕ) (look : BadLook)
+    → ShowsRescued edition image lost screen streams status look → IsEndWithin 6 streams status
+ends_rescued edition image lost screen streams status (bad_looks.Export path options) shows =
+    ends_from 6 edition image lost options screen streams status (begun options.lost edition image path.now) (most_six options.graded lost) shows
+ends_rescued edition image lost screen streams status (bad_looks.Find path name orphans form) shows =
+    ends_shows 6 (found_sights edition image lost path.now (option_map (λ word. word.now) name) orphans form screen) streams status (omega arith)
+    (λ text wanted lines is.
+    let told = told_few true is.0 in
+    lines_few 6 (told_status true is.0) wanted lines told.0 told.1 is.2) shows
+
+ends_read : (edition : Edition) (bytes : List ℕ) (ranges : List ReadRange) (at : ℕ) (sizes : Option VolumeSizes) (look : BadLook) (screen : Screen) (streams : Streams)
+    (status : ℕ) → LooksRescued edition bytes ranges at sizes look screen streams status → IsEndWithin 6 streams status
+ends_read edition bytes ranges at sizes look screen streams status (inl (image, lost, rescued, shows)) = ends_rescued edition image lost screen streams status look shows
+ends_read edition bytes ranges at sizes look screen streams status (inr told) = ends_unrescued edition ranges at sizes bytes streams status told
+
+ends_bad : (edition : Edition) (bytes : List ℕ) (sizes : Option VolumeSizes) (look : BadLook) (screen : Screen) (streams : Streams) (status : ℕ) (bad : BadBlocks)
+    → LooksBad edition bytes sizes look screen streams status bad → IsEndWithin 6 streams status
+ends_bad edition bytes sizes look screen streams status (reads.Outside ranges) looks = ends_read edition bytes ranges.items 0 sizes look screen streams status looks
+ends_bad edition bytes sizes look screen streams status (reads.Map map) (inl (ranges, is, looks)) =
+    ends_read edition bytes ranges map.at sizes look screen streams status looks
+ends_bad edition bytes sizes look screen streams status (reads.Map map) (inr (inl (number, flaw, fault, is, line, told))) =
+    ends_badly 6 streams status (omega (arith, told.status)) (omega (arith, told.status))
+ends_bad edition bytes sizes look screen streams status (reads.Map map) (inr (inr told)) = ends_told 6 streams no_memory status (omega arith) told
+
+-- a look at an image of which some blocks couldn't be read ends with a status of at most 6, and with 0 only if everything was printed and no fault was
+-- reported
+pub ends_bad_look : {F : Type 0} (at : ℕ) (remaining contents : F → Option (List ℕ)) (had : F → Stamp → Type 0) (stood : Stamp → Type 0) (streams : Streams)
+    (screen : Screen) (volume : VolumeFile) (image : BadImage) (look : BadLook) (status : ℕ)
+    → RunsLookBad streams (host_files at remaining contents had stood) screen volume image look status → IsEndWithin 6 streams status
+ends_bad_look at remaining contents had stood streams screen volume image look status (inl nothing) = ends_unread remaining 6 streams status (omega arith) nothing.0
+ends_bad_look at remaining contents had stood streams screen volume image look status (inr done) =
+    ends_bad volume.edition done.0 image.sizes look screen streams status done.1 done.4

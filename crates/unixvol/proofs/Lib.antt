@@ -1,5 +1,5 @@
 pub mod Asked
-pub mod BadExports
+pub mod BadLooks
 pub mod Begun
 pub mod Checked
 pub mod Compared

@@ -82,7 +82,7 @@ plain_few : (most : ℕ) (is_text : List ℕ → Type 0) (text : List ℕ) (want
     → (wanted ≤ most) × (wanted ≡ 0 → lines ≡ [])
 plain_few most is_text text wanted lines is = (omega (arith, is.0.1), λ e. is.1)
 
-lines_few : (most wanted status : ℕ) (lines : List ℕ) → 1 ≤ wanted → wanted ≤ most → status ≡ (if length lines == 0 then 0 else wanted)
+pub lines_few : (most wanted status : ℕ) (lines : List ℕ) → 1 ≤ wanted → wanted ≤ most → status ≡ (if length lines == 0 then 0 else wanted)
     → (status ≤ most) × (status ≡ 0 → lines ≡ [])
 lines_few most wanted status [] least within is = (omega (arith, is), λ e. refl)
 lines_few most wanted status (line ∷ lines) least within is =
@@ -113,7 +113,7 @@ most_four false true = omega arith
 most_four false false = omega arith
 
 -- the status of an export with remarks is at least 1
-told_few : (graded short : Bool) → (1 ≤ told_status graded short) × (told_status graded short ≤ 6)
+pub told_few : (graded short : Bool) → (1 ≤ told_status graded short) × (told_status graded short ≤ 6)
 told_few true true = (omega arith, omega arith)
 told_few true false = (omega arith, omega arith)
 told_few false true = (omega arith, omega arith)

@@ -2,7 +2,7 @@ pub mod Below
 pub mod Compare
 pub mod Copies
 pub mod Editions
-pub mod ExportBad
+pub mod LookBad
 pub mod Identify
 pub mod Reports
 pub mod Resize

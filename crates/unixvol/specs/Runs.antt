@@ -142,6 +142,7 @@ pub record HostFiles : Type 1 where
   pub put : Edition → List ℕ → Type 0
   pub script : List ℕ → Type 0
   pub shown : Edition → List ℕ → Type 0
+  pub ended : List ℕ → Type 0
   pub checked : Edition → List ℕ → Type 0
   pub opened : Edition → List ℕ → Stamp → Type 0
   pub taken : List ℕ → Type 0
@@ -159,6 +160,7 @@ host_files at remaining contents had stood =
       put = λ edition. GavePut edition remaining;
       script = GaveScript remaining;
       shown = λ edition. GaveAt at (Volume edition) remaining;
+      ended = GaveAt at End remaining;
       checked = λ edition. GaveImage at edition remaining;
       opened = λ edition. IsOpened at edition remaining had;
       taken = IsTaken contents;
@@ -420,7 +422,7 @@ abbrev pub IsPlainCommand : Invocation → Type 0
 IsPlainCommand (invocations.Look volume look) = ⊥
 IsPlainCommand (invocations.Identify images form is_deep) = ⊥
 IsPlainCommand (invocations.Diff volume other by) = ⊥
-IsPlainCommand (invocations.ExportBad volume map path options) = ⊥
+IsPlainCommand (invocations.LookBad volume image look) = ⊥
 IsPlainCommand (invocations.Change volume change trace) = ⊥
 IsPlainCommand (invocations.Copy volume copying) = ⊥
 IsPlainCommand (invocations.Work volume work) = ⊥
@@ -450,7 +452,7 @@ volume_at (invocations.Mkfs place volume) = new_place_at place
 volume_at (invocations.Migrate old at new migration) = at
 volume_at (invocations.Identify images form is_deep) = 0
 volume_at (invocations.Diff volume other by) = volume.at
-volume_at (invocations.ExportBad volume map path options) = volume.at
+volume_at (invocations.LookBad volume image look) = volume.at
 volume_at (invocations.Salvage volume copy) = volume.at
 volume_at (invocations.Repair volume copy repairing) = volume.at
 volume_at (invocations.Resize volume blocks is_trial) = volume.at
@@ -473,7 +475,7 @@ Runs streams files status (invocations.Mkfs place volume) = RunsMkfs streams (ma
 Runs streams files status (invocations.Migrate old at new migration) = RunsMigrate streams files migration status
 Runs streams files status (invocations.Identify images form is_deep) = ⊥
 Runs streams files status (invocations.Diff volume other by) = ⊥
-Runs streams files status (invocations.ExportBad volume map path options) = ⊥
+Runs streams files status (invocations.LookBad volume image look) = ⊥
 Runs streams files status (invocations.Salvage volume copy) = RunsSalvage streams files volume.edition copy status
 Runs streams files status (invocations.Repair volume copy repairing) = RunsRepair streams files volume.edition copy repairing status
 Runs streams files status (invocations.Resize volume blocks is_trial) = RunsResize streams files volume blocks is_trial status

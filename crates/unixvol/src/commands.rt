@@ -114,7 +114,7 @@ fn carry_out<R: ImageFiles + Clock + Eprint + AllocGlobal, O: Sink>(
         } => run_resize(host, volume, blocks, is_trial),
         Invocation::Identify { .. }
         | Invocation::Diff { .. }
-        | Invocation::ExportBad { .. }
+        | Invocation::LookBad { .. }
         | Invocation::Look { .. }
         | Invocation::Change { .. }
         | Invocation::Copy { .. }

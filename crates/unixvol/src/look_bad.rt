@@ -1,43 +1,44 @@
-//! `export --bad`, which reads a map of the blocks of an image that couldn't be read.
+//! Commands that show part of an image of which some blocks couldn't be read.
+ghost use Rattle.std.specs.Prelude.{IfErr, IfOk};
 ghost use Rattle.std.specs.Process.{exit_status};
 ghost use Rattle.command_faults.specs.Streams.{ErrorStream, Hears, streams};
-ghost use Rattle.unixvol.specs.ExportBad.{ExportsBadToEnd, RunsExportBad};
-ghost use Rattle.unixvol.specs.Runs.{host_files};
+ghost use Rattle.unixvol.specs.LookBad.{IsBadRead, IsKnownRead, LooksBadToEnd, RunsLookBad};
+ghost use Rattle.unixvol.specs.Runs.{IsUnread, host_files};
 
 use crate::explain::{finish_printed, tell_fault};
 use crate::host::Surroundings;
-use crate::read::{read_file, read_volume};
+use crate::read::{read_blocks, read_file, read_volume};
 use crate::subject::Subject;
 use command_faults::Ending;
 use command_line::VolumeFile;
-use command_reads::export_bad::{BadMap, export_bad};
-use command_reads::{ExportOptions, Look};
+use command_reads::bad_looks::look_bad;
+use command_reads::{BadBlocks, BadLook, BadMap};
+use command_words::{BadImage, GivenBad};
 use host_files::{ImageFiles, noted_writer};
 use pdp_words::{IntoWrite, Sink};
 use std::io::Write;
 use std::process::ExitCode;
 use vol_listing::Screen;
+use vol_losses::VolumeSizes;
 
-/// Writes everything below the directory at a path as an archive, from the image in a file of which the map in the file `map` says what was read, and
-/// returns the exit code. Output is written to `output`, which is standard output, as `screen` shows it; a fault is printed as lines on standard error.
-/// `errors` writes to standard error too.
+/// Shows part of the image in a file of which only some blocks were read, and returns the exit code. Output is written to `output`, which is standard
+/// output, as `screen` shows it; a fault is printed as lines on standard error. `errors` writes to standard error too.
 pub fn run_to_end<R: ImageFiles + Eprint + AllocGlobal, O: Write + Drop, E: Write + Drop>(
     host: &Surroundings<'_, R>,
     screen: Screen,
     output: O,
     errors: E,
     volume: VolumeFile<'_>,
-    map: &str,
-    path: &str,
-    options: ExportOptions,
+    image: BadImage<'_>,
+    look: BadLook<'_>,
 ) -> ExitCode
-    ensures { ExportsBadToEnd (host_files volume.entry.at R.File.remaining R.File.contents R.had R.stood) screen (O.contents output) (E.contents errors)
-        volume.entry map.now path.now options (exit_status result) }
+    ensures { LooksBadToEnd (host_files volume.entry.at R.File.remaining R.File.contents R.had R.stood) screen (O.contents output) (E.contents errors)
+        volume.entry image.entry look.entry (exit_status result) }
 {
     let mut errors = IntoWrite::new(errors);
     let mut output = noted_writer(output);
-    let ending = run(host, screen, &mut output, volume, map, path, options);
-    let subject = Subject::of_look(volume, Look::Export { path, options });
+    let ending = run(host, screen, &mut output, volume, image, look);
+    let subject = Subject::of_look(volume, look.whole());
     tell_fault(
         host,
         &mut errors,
@@ -48,22 +49,21 @@ pub fn run_to_end<R: ImageFiles + Eprint + AllocGlobal, O: Write + Drop, E: Writ
     ExitCode::from(finish_printed(host, output.into_inner().into_inner(), ending.status))
 }
 
-/// Writes the archive, and returns the result of the run, which holds if [`finish_printed`] succeeds.
+/// Shows part of the image, and returns the result of the run, which holds if [`finish_printed`] succeeds.
 fn run<R: ImageFiles + Eprint + AllocGlobal, O: Sink>(
     host: &Surroundings<'_, R>,
     screen: Screen,
     output: &mut O,
     volume: VolumeFile<'_>,
-    map: &str,
-    path: &str,
-    options: ExportOptions,
+    image: BadImage<'_>,
+    look: BadLook<'_>,
 ) -> Ending
     ensures { (errors : ErrorStream) → Hears errors result.fault
-        → RunsExportBad (streams O.contents O.failed output.old output.new errors)
-        (host_files volume.entry.at R.File.remaining R.File.contents R.had R.stood) screen volume.entry map.now path.now options result.status }
+        → RunsLookBad (streams O.contents O.failed output.old output.new errors)
+        (host_files volume.entry.at R.File.remaining R.File.contents R.had R.stood) screen volume.entry image.entry look.entry result.status }
 {
-    let text = match read_file(host, map) {
-        Ok(text) => text,
+    let bad = match read_bad(host, volume, image.bad) {
+        Ok(bad) => bad,
         Err(status) => {
             return Ending {
                 status,
@@ -71,8 +71,8 @@ fn run<R: ImageFiles + Eprint + AllocGlobal, O: Sink>(
             };
         }
     };
-    let image = match read_volume(host, volume) {
-        Ok(image) => image,
+    let bytes = match read_known(host, volume, image.sizes) {
+        Ok(bytes) => bytes,
         Err(status) => {
             return Ending {
                 status,
@@ -80,19 +80,52 @@ fn run<R: ImageFiles + Eprint + AllocGlobal, O: Sink>(
             };
         }
     };
-    let given = BadMap {
-        name: map,
-        text,
-        at: volume.at,
-    };
-    export_bad(
+    look_bad(
         host.rt.alloc(),
         volume.edition,
-        image,
-        given,
-        path,
-        options,
+        bytes,
+        bad,
+        image.sizes,
+        look,
         screen,
         output,
     )
+}
+
+/// Reads the image of the volume in a file: up to the end that its super-block states, or if sizes are given, that they state. If it can't be read, reports
+/// that on standard error and returns the exit status.
+fn read_known<R: ImageFiles + Eprint + AllocGlobal>(
+    host: &Surroundings<'_, R>,
+    volume: VolumeFile<'_>,
+    sizes: Option<VolumeSizes>,
+) -> Result<Vec<u8>, u8>
+    ensures given { IfOk result (λ bytes. IsKnownRead (host_files volume.entry.at R.File.remaining R.File.contents R.had R.stood) volume.entry bytes.items sizes) }
+    ensures fault { IfErr result (IsUnread R.File.remaining) }
+{
+    match sizes {
+        None => read_volume(host, volume),
+        Some(sizes) => read_blocks(host, volume, sizes.blocks),
+    }
+}
+
+/// Returns what says which blocks couldn't be read: the map, which is read from its file, or the ranges themselves. If the map's file can't be read,
+/// reports that on standard error and returns the exit status.
+fn read_bad<'a, R: ImageFiles + Eprint + AllocGlobal>(
+    host: &Surroundings<'_, R>,
+    volume: VolumeFile<'_>,
+    bad: GivenBad<'a>,
+) -> Result<BadBlocks<'a>, u8>
+    ensures read { IfOk result (λ read. IsBadRead (host_files volume.entry.at R.File.remaining R.File.contents R.had R.stood) volume.entry bad.entry read) }
+    ensures fault { IfErr result (IsUnread R.File.remaining) }
+{
+    let map = match bad {
+        GivenBad::Outside(ranges) => return Ok(BadBlocks::Outside(ranges)),
+        GivenBad::Map(map) => map,
+    };
+    let text = read_file(host, map)?;
+    Ok(BadBlocks::Map(BadMap {
+        name: map,
+        text,
+        at: volume.at,
+    }))
 }

@@ -7,13 +7,13 @@ mod compare;
 mod copy;
 mod editions;
 mod explain;
-mod export_bad;
 mod guesses;
 mod hints;
 mod host;
 mod identify;
 mod identify_below;
 mod line_meanings;
+mod look_bad;
 mod looks;
 mod meanings;
 mod mounted;
@@ -90,13 +90,12 @@ fn main(rt: HostRuntime) -> ExitCode {
             serve::run_to_end(&host, rt.stdin(), output, errors, volume, serving)
         }
         Ok(
-            Invocation::ExportBad {
+            Invocation::LookBad {
                 volume,
-                map,
-                path,
-                options,
+                image,
+                look,
             },
-        ) => export_bad::run_to_end(&host, screen, output, errors, volume, map, path, options),
+        ) => look_bad::run_to_end(&host, screen, output, errors, volume, image, look),
         Ok(Invocation::Diff { volume, other, by }) => {
             compare::run_to_end(&host, output, errors, volume, other, by)
         }

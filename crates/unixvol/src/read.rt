@@ -1,5 +1,5 @@
 //! Reads files to their ends, or to the end of the volume or archive in them.
-ghost use Rattle.std.specs.Prelude.{◌≡◌, ◌⊎◌, ◌*◌, [], false, true, All, Err, IfErr, IfOk, IsErrOf, Ok, OnErr, length};
+ghost use Rattle.std.specs.Prelude.{◌≡◌, ◌⊎◌, ◌*◌, [], false, true, All, Err, IfErr, IfOk, IsErrOf, List, Ok, OnErr, length, take, ℕ};
 ghost use Rattle.pdp_words.specs.Devices.{LosesFront};
 ghost use Rattle.host_files.specs.OpenedFiles.{IsOpened};
 ghost use Rattle.host_files.specs.Packs.{IsReadFrom};
@@ -217,25 +217,49 @@ pub fn read_stamped<R: ImageFiles + Eprint + AllocGlobal>(
     ensures fault { IfErr result (IsUnread R.File.remaining) }
 {
     match open_stamped(host.rt, volume.image) {
-        Ok((file, stamp)) => Ok((read_part(host, volume, file, stamp)?.bytes, stamp)),
+        Ok((file, stamp)) => {
+            let up_to = UpTo::Volume(volume.edition);
+            Ok((read_part(host, volume, up_to, file, stamp)?.bytes, stamp))
+        }
         Err(why) => Err(explain_unread(host, NamedFile::File(volume.image), why)),
     }
 }
 
-/// Reads the image of the volume in its open file, which has this stamp. If it can't be read, prints the fault and returns the status.
+/// Reads the image of the volume in a file that has this number of blocks, whatever its super-block says; or as much of it as the file has. If it can't be
+/// read, prints the fault and returns the status.
+pub fn read_blocks<R: ImageFiles + Eprint + AllocGlobal>(
+    host: &Surroundings<'_, R>,
+    volume: VolumeFile<'_>,
+    blocks: u32,
+) -> Result<Vec<u8>, u8>
+    ensures given { IfOk result (λ bytes. (all : List ℕ) × GaveAt volume.entry.at UpTo.End R.File.remaining all × (bytes.items ≡ take (512 * blocks) all)) }
+    ensures fault { IfErr result (IsUnread R.File.remaining) }
+{
+    match open_stamped(host.rt, volume.image) {
+        Ok((file, stamp)) => {
+            let mut bytes = read_part(host, volume, UpTo::End, file, stamp)?.bytes;
+            bytes.truncate(BLOCK * blocks as usize);
+            Ok(bytes)
+        }
+        Err(why) => Err(explain_unread(host, NamedFile::File(volume.image), why)),
+    }
+}
+
+/// Reads the image of the volume in its open file, which has this stamp, up to this end. If it can't be read, prints the fault and returns the status.
 fn read_part<R: ImageFiles + Eprint + AllocGlobal>(
     host: &Surroundings<'_, R>,
     volume: VolumeFile<'_>,
+    up_to: UpTo,
     file: R::File,
     stamp: Stamp,
 ) -> Result<ReadFile<R::File>, u8>
     requires { R.had file stamp }
-    ensures given { IfOk result (λ read. IsReadFrom (512 * volume.entry.at) (UpTo.Volume volume.entry.edition) (R.File.remaining file) (R.File.remaining read.file) read.bytes.items) }
+    ensures given { IfOk result (λ read. IsReadFrom (512 * volume.entry.at) up_to (R.File.remaining file) (R.File.remaining read.file) read.bytes.items) }
     ensures fault { IfErr result (IsUnread R.File.remaining) }
 {
     let named = NamedFile::File(volume.image);
     match moved_to(host.rt, file, stamp, volume.at) {
-        Ok(moved) => read_open(host, named, UpTo::Volume(volume.edition), moved),
+        Ok(moved) => read_open(host, named, up_to, moved),
         Err(MoveFault::Short) => Err(explain_short(host, named, volume.at)),
         Err(MoveFault::Unread(why)) => Err(explain_unread(host, named, why)),
     }
@@ -294,7 +318,10 @@ pub fn read_image<R: ImageFiles + Clock + Eprint + AllocGlobal>(
     ensures fault { IfErr result (IsUnread R.File.remaining) }
 {
     match open_image(host.rt, volume.image, host.is_watched) {
-        Ok((file, stamp)) => Ok((read_part(host, volume, file, stamp)?, stamp)),
+        Ok((file, stamp)) => {
+            let up_to = UpTo::Volume(volume.edition);
+            Ok((read_part(host, volume, up_to, file, stamp)?, stamp))
+        }
         Err(fault) => Err(explain_unopened(host, NamedFile::File(volume.image), fault)),
     }
 }

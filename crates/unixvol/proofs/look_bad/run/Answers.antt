@@ -1,6 +1,6 @@
 use Rattle.std.proofs.Common.{inl, inr, refl}
 use Rattle.std.proofs.KnownBytes.{Keeps-refl}
-use Rattle.unixvol.proofs.export_bad.run.Goals as goal
+use Rattle.unixvol.proofs.look_bad.run.Goals as goal
 
 pub returns-in-Err : goal.returns-in-Err
 returns-in-Err g c errors hears = inl (c.in-Err.ensures.fault, Keeps-refl (g.O.Sink.contents c.args.output.now), refl, hears)
@@ -11,11 +11,9 @@ returns-in-Err-read_volume g c errors hears = inl (c.in-Err-read_volume.ensures.
 pub returns : goal.returns
 returns g c errors hears =
     inr (
-      c.in-Ok-read_volume.image.items,
-      record { name = c.args.map; text = c.in-Ok.text; at = c.args.volume.at },
+      c.in-Ok-read_volume.bytes.items,
+      c.in-Ok.bad,
       c.in-Ok-read_volume.ensures.given,
-      c.in-Ok.ensures.given,
-      refl,
-      refl,
-      c.export_bad.ensures errors hears,
+      c.in-Ok.ensures.read,
+      c.look_bad.ensures errors hears,
     )

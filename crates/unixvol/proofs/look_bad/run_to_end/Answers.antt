@@ -1,11 +1,11 @@
 use Rattle.std.specs.Process.{exit_status}
 use Rattle.pdp_words.specs.Adapters.{writer_in, has_write_failed}
 use Rattle.command_faults.specs.Streams.{heard}
-use Rattle.unixvol.specs.ExportBad.{RunsExportBad}
+use Rattle.unixvol.specs.LookBad.{RunsLookBad}
 use Rattle.unixvol.specs.Runs.{IsEndWithin, host_files}
-use Rattle.unixvol.proofs.BadExports.{ends_bad_export}
+use Rattle.unixvol.proofs.BadLooks.{ends_bad_look}
 use Rattle.unixvol.proofs.Begun.{begun, ended_printed}
-use Rattle.unixvol.proofs.export_bad.run_to_end.Goals as goal
+use Rattle.unixvol.proofs.look_bad.run_to_end.Goals as goal
 
 pub returns : goal.returns
 returns g c =
@@ -18,11 +18,11 @@ returns g c =
       _,
       _,
       status,
-      begun (λ streams. RunsExportBad streams files c.args.screen c.args.volume c.args.map.now c.args.path.now c.args.options status) (g.O.Write.contents c.args.output)
+      begun (λ streams. RunsLookBad streams files c.args.screen c.args.volume c.args.image c.args.look status) (g.O.Write.contents c.args.output)
           (g.E.Write.contents c.args.errors) _ _ _ _ _ _ _ c.noted_writer-output.ensures.bytes c.new-errors.ensures.bytes c.noted_writer-output.ensures.fresh runs,
       begun (λ streams. IsEndWithin 6 streams status) (g.O.Write.contents c.args.output) (g.E.Write.contents c.args.errors) _ _ _ _ _ _ _
           c.noted_writer-output.ensures.bytes c.new-errors.ensures.bytes c.noted_writer-output.ensures.fresh
-          (ends_bad_export c.args.volume.at g.R.File.Read.remaining g.R.File.Write.contents g.R.ImageFiles.had g.R.ImageFiles.stood _ c.args.screen c.args.volume c.args.map.now
-          c.args.path.now c.args.options status runs),
+          (ends_bad_look c.args.volume.at g.R.File.Read.remaining g.R.File.Write.contents g.R.ImageFiles.had g.R.ImageFiles.stood _ c.args.screen c.args.volume c.args.image
+          c.args.look status runs),
       ended_printed status c.finish_printed.result (exit_status c.from.result) c.from.ensures c.finish_printed.ensures,
     )

@@ -1,6 +1,6 @@
 #!/usr/bin/env bash
-# Runs `export --cut` and `export --bad` of the built program on volumes that were cut off, or of which blocks couldn't be read, and compares what it
-# writes with what the whole volume holds.
+# Runs `export` and `find` of the built program with `--cut`, `--bad`, `--bad-blocks`, `--sizes` and `--like` on volumes that were cut off, or of which
+# blocks couldn't be read, and compares what it writes with what the whole volume holds.
 # Usage: tests/rescue.sh PROGRAM. It prints a line for each row that fails, and ends with 'N passed, N failed'.
 . "$(dirname "$0")/rows.sh"
 linux="$samples/linux_made.v7"
@@ -282,6 +282,132 @@ refuses 3 'unixvol: cannot read missing.map' export --bad missing.map 7 one.img
 refuses 3 'unixvol: cannot read missing' export --bad one.map 7 missing
 refuses 3 'unixvol: cannot read one.img' export --at 4000000 --bad one.map 7 one.img
 refuses 6 'unixvol: the image has 40 of 16000000 blocks' export --bad one.map 7 long.img
+
+# A list of blocks says what the maps above say: the same archives and lines. With --at the numbers are of the volume.
+for edition in 6 7; do
+    "$program" mkfs "$edition" b.img 4872 100 0 0 0
+    "$program" put "$edition" b.img -t / f1 f2 f3 f4 f5 f6 f7 f8 0
+    exports 5 bad.tar "$edition" b.img --bad half.map
+    cp error told
+    for list in 878-4871 0878-4871 878-1000,1001-4871 878-4294967295 878,879,880-4871; do
+        exports 5 list.tar "$edition" b.img --bad-blocks "$list"
+        cmp -s list.tar bad.tar && cmp -s error told
+        has "the blocks $list of edition $edition" 0 $?
+    done
+done
+exports 5 bad.tar 7 copy.img --bad rescue.map
+cp error told
+exports 5 list.tar 7 copy.img --bad-blocks 346-347,860
+cmp -s list.tar bad.tar && cmp -s error told
+has 'the blocks of a map' 0 $?
+exports 5 list.tar 7 pack.img --at 7 --bad-blocks 346-347,860
+cmp -s list.tar bad.tar && cmp -s error told
+has 'the blocks of a volume in a pack' 0 $?
+exports 5 damaged.tar 7 copy.img --bad-blocks 346-347,860 --damaged
+tar -xOf damaged.tar f4 | cmp -s - f4.want
+has 'a damaged file by a list' 0 $?
+exports 1 list.tar 7 b.img --bad-blocks 4871
+has 'a free block' 'unixvol: 1 of 4872 blocks are lost' "$(cat error)"
+exports 0 list.tar 7 b.img --bad-blocks 4872-99999
+exports 5 list.tar 7 cut.img --bad-blocks 860
+has 'blocks that are missing, and one of a list' 'unixvol: 3995 of 4872 blocks are lost' "$(head -n 1 error)"
+refuses 1 'unixvol: unsound, rule 2' export --bad-blocks 1 7 b.img
+while IFS= read -r list; do
+    misread "error: invalid value '$list' for '<bad-blocks>': not numbers and ranges of blocks" export --bad-blocks "$list" 7 b.img
+done << END
+
+5-3
+3,3
+12,5
+1-5,5
+1-5,3-9
+1,,2
+1,
+,1
+1-
+1-2-3
+x
+1, 2
++1
+0x10
+4294967296
+1-4294967296
+END
+misread "error: the argument '--bad-blocks' cannot be used with '--bad'" export --bad-blocks 12 --bad half.map 7 b.img
+misread "error: the argument '--bad-blocks' cannot be used with '--bad'" find --bad half.map 7 b.img --bad-blocks 12
+
+# The super-block is lost: with the sizes of the volume everything else is there. Whatever the image has in block 1 is no matter.
+exports 0 whole.tar 7 "$linux"
+fsize=240 isize=12
+cp "$linux" super.img
+head -c 512 /dev/zero | dd of=super.img bs=512 seek=1 conv=notrunc status=none
+refuses 1 'unixvol: unsound, rule 2' export 7 super.img
+for image in super.img "$linux"; do
+    for words in "--sizes $fsize,$isize" "--cut --sizes $fsize,$isize" "--sizes $fsize,$isize --bad-blocks 1"; do
+        # shellcheck disable=SC2086
+        exports 1 sizes.tar 7 "$image" $words
+        has "the line of ${image##*/} with $words" "unixvol: 1 of $fsize blocks are lost" "$(cat error)"
+        cmp -s sizes.tar whole.tar
+        has "the archive of ${image##*/} with $words" 0 $?
+    done
+done
+for edition in 6 7; do
+    "$program" mkfs "$edition" rk.img rk05
+    "$program" put "$edition" rk.img -t / f1 f2 f3 0
+    exports 0 whole.tar "$edition" rk.img
+    head -c 512 /dev/urandom | dd of=rk.img bs=512 seek=1 conv=notrunc status=none
+    exports 1 like.tar "$edition" rk.img --like RK05
+    has "the line of a disk of edition $edition" 'unixvol: 1 of 4872 blocks are lost' "$(cat error)"
+    cmp -s like.tar whole.tar
+    has "the archive of a disk of edition $edition" 0 $?
+    { head -c 3584 /dev/urandom; cat rk.img; } > pack.img
+    exports 1 like.tar "$edition" pack.img --at 7 --like rk05
+    cmp -s like.tar whole.tar
+    has "a disk of edition $edition in a pack" 0 $?
+    truncate -s 1000 rk.img
+    refuses 1 'unixvol: 20 NotDirectory' export "$edition" rk.img --like rk05
+done
+refuses 2 'unixvol: no volume has 5 blocks with an i-list of 9' export --sizes 5,9 7 b.img
+refuses 2 'unixvol: no volume has 240 blocks with an i-list of 0' export --sizes 240,0 7 b.img
+refuses 2 'unixvol: no volume has 240 blocks with an i-list of 238' export --sizes 240,238 7 b.img
+refuses 2 'unixvol: no volume has 70000 blocks with an i-list of 100' export --sizes 70000,100 6 b.img
+refuses 2 'unixvol: no volume has 65535 blocks with an i-list of 4096' export --sizes 65535,4096 6 b.img
+refuses 2 'unixvol: no volume has 16777217 blocks with an i-list of 9' find --sizes 16777217,9 7 b.img
+refuses 6 'unixvol: the image has 4872 of 16000000 blocks' export --sizes 16000000,100 7 b.img
+for word in '' 240 240,12,3 240,x 240,65536 4294967296,12 240, ,12; do
+    misread "error: invalid value '$word' for '<sizes>': not two decimal numbers" export --sizes "$word" 7 b.img
+done
+misread "error: invalid value 'ra81' for '<like>': not rk05" export --like ra81 7 b.img
+misread "error: the argument '--like' cannot be used with '--sizes'" export --like rk05 --sizes 4872,100 7 b.img
+
+# `find` prints the paths that can be read without the lost blocks, and the lines of an export.
+for edition in 6 7; do
+    "$program" mkfs "$edition" b.img 4872 100 0 0 0
+    "$program" put "$edition" b.img -t / f1 f2 f3 f4 f5 f6 f7 f8 0
+    head -c 450000 b.img > cut.img
+    "$program" find "$edition" b.img > paths
+    exports 5 cut.tar "$edition" cut.img --cut
+    cp error told
+    refuses 1 'unixvol: unsound, rule 1' find "$edition" cut.img
+    for words in '--cut cut.img' '--bad half.map b.img' '--bad-blocks 878-4871 b.img' '--cut --bad-blocks 878-4871 cut.img'; do
+        # shellcheck disable=SC2086
+        "$program" find "$edition" ${words##* } ${words% *} > found 2> error
+        has "the status of find $words of edition $edition" 5 $?
+        cmp -s found paths && cmp -s error told
+        has "find $words of edition $edition" 0 $?
+    done
+    "$program" find "$edition" b.img --cut > found 2> error
+    has "find --cut of a whole image of edition $edition" 0 $?
+    cmp -s found paths && [ ! -s error ]
+    has "its paths, of edition $edition" 0 $?
+done
+"$program" find 7 dir.img /d --bad-blocks "$last" --json > found 2> error
+has 'the status of find --json in a directory of which a block is lost' 5 $?
+has 'its paths' 30 "$(grep -o '"path"' found | wc -l)"
+has 'its line' 1 "$(grep -c '^unixvol: .: names may be missing: 160 of 672 bytes are lost: 512-671$' error)"
+"$program" find --lost 7 dir.img --bad-blocks "$last" --name '#*' > found 2> error
+has 'find --lost has the i-nodes whose names are lost' 10 "$(wc -l < found)"
+refuses 3 'unixvol: bad.map: line 3: the range begins before the end of the one above' find --bad bad.map 7 b.img
 
 # Random volumes of both editions, of which random blocks are lost and have random bytes: each member is in the whole volume with the same header and
 # bytes, each file that is no member has a line, and of damaged files the bytes outside the ranges are right.

@@ -1,11 +1,11 @@
 //! Reads the words about an image of which some blocks couldn't be read.
-ghost use Rattle.std.specs.Prelude.{◌≡◌, ◌∷◌, [], IfErr, IfOk, codes};
+ghost use Rattle.std.specs.Prelude.{◌≡◌, ◌∷◌, [], IfErr, IfOk};
 ghost use Rattle.command_words.specs.BadWords.{IsBadImageGiven, IsBadIfAny, IsBadWrong, IsSizesGiven, sizes_from, sizes_of, whole_file};
-ghost use Rattle.command_words.specs.Invocations.{IsWrong, TellsOf, look_at};
+ghost use Rattle.command_words.specs.Invocations.{TellsOf, look_at};
 
 use crate::disks::{disk_blocks, list_default};
-use crate::fault::{Said, WordFault, WrongWord};
-use crate::given::{Given, wrong};
+use crate::fault::WordFault;
+use crate::given::{Given, excluded, wrong};
 use crate::invocation::{BadImage, GivenBad, Invocation, VolumeFile};
 use crate::parameters::{Need, Parameter, ValueName, WordKind};
 use bad_maps::{ListFault, ReadRange, read_list};
@@ -159,17 +159,6 @@ fn sizes_in<'a, G: Given<'a>>(
         },
         (Some(_), Some(_)) => Err(excluded("like", "sizes", LIKE.help)),
     }
-}
-
-/// Returns the fault for an option that doesn't go together with another one.
-fn excluded<'a>(name: &'a str, other: &'a str, wanted: &'a str) -> WordFault<'a>
-    ensures { IsWrong result }
-{
-    WordFault::Wrong(WrongWord {
-        name,
-        said: Said::Option(other),
-        wanted,
-    })
 }
 
 /// Reads the number of blocks of a volume and that of its i-list, apart by a comma.

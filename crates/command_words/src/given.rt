@@ -315,6 +315,17 @@ pub(crate) fn missing<'a>(name: &'a str, wanted: &'a str) -> WordFault<'a>
     })
 }
 
+/// Returns the fault for an option that doesn't go together with another one.
+pub(crate) fn excluded<'a>(name: &'a str, other: &'a str, wanted: &'a str) -> WordFault<'a>
+    ensures { IsWrong result }
+{
+    WordFault::Wrong(WrongWord {
+        name,
+        said: Said::Option(other),
+        wanted,
+    })
+}
+
 /// Returns the fault for a word that isn't valid for the argument `name`.
 pub(crate) fn wrong<'a>(name: &'a str, word: &'a str, wanted: &'a str) -> WordFault<'a>
     ensures { IsWrong result }

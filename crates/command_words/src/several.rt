@@ -1,8 +1,8 @@
 //! The words for several files to copy.
-ghost use Rattle.std.specs.Prelude.{◌≡◌, ◌≢◌, ◌≤◌, ◌-◌, ◌∷◌, [], None, ℕ, List, Option, Some, false, true, IfErr, IfOk, IfSome, codes, flat_map, length, map, option_map, take};
-ghost use Rattle.command_words.specs.Invocations.{AreFilesGiven, ArePathsGiven, EndsInMoment, IsFirstWord, IsLeftOut, IsMomentAfter, TellsOf, are_apart, are_distinct, get_words, is_set, last_names, put_words};
+ghost use Rattle.std.specs.Prelude.{◌≡◌, ◌≢◌, ◌≤◌, ◌-◌, [], None, ℕ, List, Option, Some, false, true, IfErr, IfOk, IfSome, codes, flat_map, length, map, option_map};
+ghost use Rattle.command_words.specs.Invocations.{AreFilesGiven, ArePathsGiven, EndsInMoment, IsFirstWord, IsLeftOut, IsMomentAfter, TellsOf, are_apart, are_distinct, get_words, last_names, put_words};
 
-use crate::fault::{Said, WordFault, WrongWord};
+use crate::fault::WordFault;
 use crate::given::{Given, missing, wrong};
 use crate::invocation::Moment;
 use crate::moment::moment_of;

@@ -66,8 +66,9 @@ names are lost: numbers and ranges, as 12,878-4871, strictly ascending.
 
 If the super-block is lost, its sizes aren't known, and rule 2 is broken. Then --sizes or --like gives them: FSIZE
 blocks with IBLOCKS of them for the i-list, as `mkfs` takes them, or those of a volume that `mkfs` makes for DISK.
-Block 1 is then lost, whatever the image has in it. With the wrong sizes, the i-list and the data are taken to be
-where they aren't: see that the members are what you know to be on the volume.
+Block 1 is then lost, whatever the image has in it. IMAGE is read to its end, and may be shorter, as with --cut.
+With the wrong sizes, the i-list and the data are taken to be where they aren't: see that the members are what you
+know to be on the volume.
 
 Status:
   0  everything was exported, and the volume is sound
@@ -77,18 +78,19 @@ Status:
      `unixvol: 2 NoEntry`: there is no such file or directory
      `unixvol: 20 NotDirectory`: PATH isn't a directory, or leads through something that isn't one. Of a root that
      isn't one, --lost exports what is left
-     with --cut, --bad or --bad-blocks: blocks are lost, but nothing is damaged or left out
+     if blocks are lost (--cut, --bad, --bad-blocks, --sizes, --like): nothing is damaged or left out
   2  the command line is wrong
-     `unixvol: no volume has 5 blocks with an i-list of 9`: --sizes breaks rule 2, and nothing was exported
+     `unixvol: no volume has 5 blocks with an i-list of 9`: --sizes, or --like in the sixth edition, breaks rule 2, and nothing
+     was exported
   3  `unixvol: cannot read IMAGE`, or `unixvol: cannot write -`: standard output failed, or is a terminal
      `unixvol: rescue.map: line 7: the size is no number`: MAPFILE can't be read, and nothing was exported
   4  `unixvol: 12 NoMemory`
   5  with --status: something was left out, as standard error says; 1 then means that the volume isn't sound, but
      nothing was left out, or that PATH leads to no directory, and nothing was exported
-     with --cut, --bad or --bad-blocks: something is damaged or left out, as standard error says
+     if blocks are lost: something is damaged or left out, as standard error says
   6  with --status: rule 1 or 2 doesn't hold, so the image has no volume of this edition, and nothing was exported
-     `unixvol: the image has 2 of 2000000 blocks`: more than 1048576 blocks are missing for --cut,
-     --bad or --bad-blocks";
+     `unixvol: the image has 2 of 2000000 blocks`: more than 1048576 blocks are missing for one of
+     these options";
 
 const GRADED: Parameter = Parameter {
     name: "status",
@@ -101,7 +103,7 @@ const DAMAGED: Parameter = Parameter {
     name: "damaged",
     kind: WordKind::Flag,
     need: Need::Flag(None),
-    help: "With --cut, --bad or --bad-blocks, export damaged files too, with zeros in place of the bytes that are lost",
+    help: "If blocks are lost, export damaged files too, with zeros in place of the bytes that are lost",
 };
 
 /// The words that `export` takes.

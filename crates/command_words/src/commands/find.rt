@@ -43,8 +43,8 @@ the paths below PATH that they have in an archive of `unixvol export --lost`: lo
 root is no directory, these are all that is printed.
 
 With --cut, --bad, --bad-blocks, --sizes and --like, blocks of the image are lost, as `unixvol export --help` says of
-them. The paths are those that can be read without these blocks. The lines on standard error are then those of that
-export, about files, directories and i-nodes of which something is lost, and no others.
+them. The paths are those whose names can be read without these blocks. The lines on standard error are then those of
+that export, which also name entries that no archive can hold; they are about all entries, also with --name.
 
 The volume need not be sound. Only rules 1 and 2 are checked: the image's size, and the sizes in its super-block.
 
@@ -54,13 +54,13 @@ Status:
      `unixvol: unsound, rule 2`: the sizes in the super-block contradict one another
      `unixvol: 2 NoEntry`, `unixvol: 20 NotDirectory`: PATH doesn't lead to a directory. Of a root that is no
      directory, --lost shows what is left
-     with --cut, --bad or --bad-blocks: blocks are lost, but nothing is damaged or left out
-  2  the command line is wrong; or no volume has the sizes of --sizes
+     if blocks are lost (--cut, --bad, --bad-blocks, --sizes, --like): nothing is damaged or left out
+  2  the command line is wrong; or no volume of the edition has the sizes of --sizes or --like
   3  `unixvol: cannot read IMAGE`, or `unixvol: cannot write -`: standard output failed; or MAPFILE can't be read
   4  `unixvol: 12 NoMemory`
   5  a path has more than 4096 bytes, and what is below it isn't printed
-     with --cut, --bad or --bad-blocks: something is damaged or left out, as standard error says
-  6  with --cut, --bad or --bad-blocks: too many blocks of the image are missing";
+     if blocks are lost: something is damaged or left out, as standard error says
+  6  if blocks are lost: more than 1048576 blocks of the image are missing";
 
 const PATTERN: Parameter = Parameter {
     name: "name",

@@ -3,8 +3,8 @@ ghost use Rattle.std.specs.Prelude.{IfErr, IfOk};
 ghost use Rattle.command_words.specs.Invocations.{AreTwoFormsGiven, AsksFor, AsksForNothing, IsGuessFormGiven, TellsOf};
 ghost use Rattle.command_words.specs.declared.verbs.Verb.TheVariants as verbs;
 
-use crate::fault::{Said, WordFault, WrongWord};
-use crate::given::{Given, flag_in};
+use crate::fault::WordFault;
+use crate::given::{Given, excluded, flag_in};
 use crate::invocation::{GuessForm, Invocation};
 use crate::parameters::{JSON, Need, Parameter, WordKind};
 use std::alloc::Global;
@@ -67,8 +67,8 @@ With --json each image is one object on a line:
   bytes    the size of a regular file; null of another
   file     the path, as it was given
   format   1
-  guess    pack, volume, empty, tar, ext2, swapped, cut, inside, unknown; simh, dump, fat, rt11, files11; or gzip,
-           bzip2, xz, zstd, zip
+  guess    pack, volume, empty, tar, ext2, swapped, cut, inside, unknown; simh, dump, tp, fat, rt11, files11; or
+           gzip, bzip2, xz, zstd, zip
   parts    of a pack all that it has, in order; else the volume that the guess names, if it names one
   read     the number of bytes that the guess is by; null of a pack, which was read to its end
 
@@ -142,10 +142,6 @@ fn guess_form_in<'a, G: Given<'a>>(given: &G) -> Result<GuessForm, WordFault<'a>
         (false, false) => Ok(GuessForm::Lines),
         (true, false) => Ok(GuessForm::Json),
         (false, true) => Ok(GuessForm::Catalogue),
-        (true, true) => Err(WordFault::Wrong(WrongWord {
-            name: "csv",
-            said: Said::Option("json"),
-            wanted: CSV.help,
-        })),
+        (true, true) => Err(excluded("csv", "json", CSV.help)),
     }
 }

@@ -3,8 +3,8 @@ ghost use Rattle.std.specs.Prelude.{◌≡◌, ◌≢◌, false, true, None, IfE
 ghost use Rattle.command_words.specs.Invocations.{AsksFor, AsksForNothing, IsPictureGiven, TellsOf, is_set};
 ghost use Rattle.command_words.specs.declared.verbs.Verb.TheVariants as verbs;
 
-use crate::fault::{Said, WordFault, WrongWord};
-use crate::given::{Given, flag_in};
+use crate::fault::WordFault;
+use crate::given::{Given, excluded, flag_in};
 use crate::invocation::Invocation;
 use crate::parameters::{AT, EDITION, IMAGE, JSON, Need, Parameter, ValueName, WordKind};
 use crate::read_words::volume_in;
@@ -26,10 +26,10 @@ Each block is drawn as a letter. A row begins with the number of its first block
 number of blocks of each use. In a large volume one letter stands for several blocks, and shows the use of most of
 them; if several uses have as many, it is the first of these: named twice, lost, super-block, boot, i-list,
 directory, pointer (an indirect block), file, chain (a block that continues the free list), free. It is `!` if some
-of the blocks are lost or named twice, but most aren't.
+of the blocks are lost or named twice, and another use has most.
 
 With --file, only the blocks of the file or directory at PATH have letters, its indirect blocks too; all others are
-shown as dots.
+shown as dots. A letter is then for the blocks of the file in its cell.
 
 On a terminal the letters have colours, unless the variable NO_COLOR is not empty or TERM is `dumb`, and a row is as
 wide as COLUMNS says.
@@ -96,11 +96,7 @@ fn no_svg<'a, G: Given<'a>>(given: &G) -> Result<(), WordFault<'a>>
     ensures refused { IfErr result (TellsOf (is_set (G.words given.now (codes "svg")) ≡ true)) }
 {
     if flag_in(given, "svg") {
-        Err(WordFault::Wrong(WrongWord {
-            name: "svg",
-            said: Said::Option("json"),
-            wanted: SVG.help,
-        }))
+        Err(excluded("svg", "json", SVG.help))
     } else {
         Ok(())
     }
@@ -113,11 +109,7 @@ fn no_file<'a, G: Given<'a>>(given: &G) -> Result<(), WordFault<'a>>
 {
     match given.first("file") {
         None => Ok(()),
-        Some(_) => Err(WordFault::Wrong(WrongWord {
-            name: "file",
-            said: Said::Option("json"),
-            wanted: FILE.help,
-        })),
+        Some(_) => Err(excluded("file", "json", FILE.help)),
     }
 }
 

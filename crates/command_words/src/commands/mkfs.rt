@@ -7,8 +7,10 @@ ghost use Rattle.command_words.specs.declared.verbs.Verb.TheVariants as verbs;
 
 use crate::decimal::long_of;
 use crate::disks::list_default;
-use crate::fault::{Said, WordFault, WrongWord};
-use crate::given::{Given, blocks_in, flag_in, moment_in, new_edition_in, text_in, word_or, wrong};
+use crate::fault::WordFault;
+use crate::given::{
+    Given, blocks_in, excluded, flag_in, moment_in, new_edition_in, text_in, word_or, wrong,
+};
 use crate::invocation::{Invocation, NewPlace};
 use crate::parameters::{Need, Parameter, UNREPLACED, ValueName, WordKind};
 use crate::read_words::made_in;
@@ -196,11 +198,7 @@ fn not_new<'a, G: Given<'a>>(given: &G) -> Result<(), WordFault<'a>>
     ensures refused { IfErr result (TellsOf (is_set (G.words given.now (codes "new")) ≡ true)) }
 {
     if flag_in(given, "new") {
-        Err(WordFault::Wrong(WrongWord {
-            name: "at",
-            said: Said::Option("new"),
-            wanted: MADE_AT.help,
-        }))
+        Err(excluded("at", "new", MADE_AT.help))
     } else {
         Ok(())
     }

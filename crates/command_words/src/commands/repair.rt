@@ -42,18 +42,19 @@ Each difference has a line:
   i-node 7: contents or fields changed     of a file that doesn't fit, or of a directory
   i-node 2: links 4 -> 5
   directory 2, slot 5: 92 motd -> empty    an i-number and a name, before and now
-  free list: rebuilt                       or another field of the super-block changed
-A sound volume has no line, and its copy is the same. The lines are on standard error if NEW is standard output.
+  free list: rebuilt                       the super-block or a block of the list isn't the same
+A sound volume has no line, and its copy is the same, unless --blocks makes it larger. The lines are on standard error if NEW is standard output.
 
 Status:
   0  the copy is sound and was saved; with -n, it can be made
   1  `unixvol: unsound, rule N`: the volume breaks rule 1 or 2, so its sizes aren't known
      `unixvol: bounds`: no volume of the edition has FSIZE blocks: 65535 in the sixth, 16777216 in the seventh
-     `unixvol: 28 NoSpace`: there is no room for a directory or an entry that is needed; --blocks makes some
+     `unixvol: 28 NoSpace`: a directory or an entry that is needed has no free block or i-node; --blocks makes more
+     blocks, and no more i-nodes
      `unixvol: 112 NotRepaired`: the copy still isn't sound, or a file that fits would change
   2  the command line is wrong
   3  `unixvol: cannot read IMAGE`, `unixvol: cannot write NEW`; with --new, also if something already has this path
-     `unixvol: cannot write -`: standard output failed
+     `unixvol: cannot write -`: standard output failed, after NEW was written
   4  `unixvol: 12 NoMemory`";
 
 const NEW: Parameter = Parameter {

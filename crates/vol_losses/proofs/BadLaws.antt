@@ -2,8 +2,6 @@
 use Rattle.std.proofs.Common.{◌≡◌, ℕ, ◌+◌, ◌-◌, ◌*◌, ◌/◌, ◌<◌, ◌≤◌, ◌==◌, ◌∙◌, sym, ap, Bool, true, false, not, ◌&&◌, nat_lt, List, ◌++◌, length, replicate, get_or, refl, arith, cond, take, inl, inr, Option, Some, None}
 use Rattle.std.proofs.lemmas.Bool.{cases_lt, eqb-false, ltb-true, true≢false}
 use Rattle.std.proofs.lemmas.List.{get_or_append_left, get_or-take, length-append, length-take-le}
-use Rattle.bad_maps.specs.Maps.{is_read}
-use Rattle.bad_maps.proofs.Ranges.{covered_read}
 use Rattle.bad_maps.specs.declared.maps.ReadRange.{ReadRange}
 use Rattle.vol_layout.specs.Geometry.{Fits, block_count}
 use Rattle.vol_layout.specs.declared.edition.Edition.{Edition}
@@ -51,11 +49,6 @@ second : (a b : Bool) → (a && b) ≡ true → b ≡ true
 second true b e = e
 second false b e = absurd (true≢false (sym e))
 
--- all bytes of a block that is known were read
-known_read : (sizes : Option VolumeSizes) (ranges : List ReadRange) (at k : ℕ) → is_block_known sizes ranges at k ≡ true → is_block_read ranges at k ≡ true
-known_read None ranges at k is = is
-known_read (Some sizes) ranges at k is = second (not (k == 1)) (is_block_read ranges at k) is
-
 -- if a test and another one hold, the first is true of what it denies
 denied : (a b : Bool) → (not a && b) ≡ true → a ≡ false
 denied true b e = absurd (true≢false (sym e))
@@ -88,22 +81,19 @@ pub incomplete_stated : (edition : Edition) (ranges : List ReadRange) (at : ℕ)
 incomplete_stated edition ranges at sizes bytes cleared stated cuts.NoMemory zeros sized cause = tt
 incomplete_stated edition ranges at sizes bytes cleared stated (cuts.TooShort there blocks) zeros sized cause = (cleared, stated, zeros, sized, cause)
 
--- every volume that has the bytes that were read agrees with the rescued image outside the lost blocks
+-- every volume that has the bytes of the known blocks agrees with the rescued image outside the lost blocks
 pub rescue_agrees : (geometry : Geometry) (edition : Edition) (ranges : List ReadRange) (at : ℕ) (sizes : Option VolumeSizes) (bytes volume image : List ℕ) (lost : List Bool)
-    → Fits geometry image → IsRescued edition ranges at sizes bytes image lost → HasRead ranges at bytes volume → AgreesOutside geometry lost image volume
+    → Fits geometry image → IsRescued edition ranges at sizes bytes image lost → HasRead sizes ranges at bytes volume → AgreesOutside geometry lost image volume
 rescue_agrees geometry edition ranges at sizes bytes volume image lost fits rescued has = record {
   bytes = λ k r inside low sure.
       let block : k < length image / 512 = omega (arith, inside, fits.blocks) in
       let parts = there_parts (nat_lt k (length bytes / 512)) (is_block_known sizes ranges at k) (sym (rescued.marks k block) ∙ sure) in
       let there : k < length bytes / 512 = ltb-true k (length bytes / 512) parts.0 in
-      let byte : 512 * k + r < length bytes = omega (arith, there, low) in
-      let read : is_read ranges (512 * at + (512 * k + r)) ≡ true =
-      covered_read ranges (512 * (at + k)) 512 (512 * at + (512 * k + r)) (known_read sizes ranges at k parts.1) (omega arith) (omega (arith, low)) in
       let count = rescued.zeros.count in
       let more = sized_more sizes edition rescued.cleared rescued.stated rescued.sized in
       let within : 512 * k + r < length rescued.cleared = omega (arith, there, low, count) in
       let whole : 512 * k + r < 512 * (length rescued.stated / 512) = omega (arith, there, low, count, more) in
-      has.kept (512 * k + r) byte read
+      has.kept k r there low parts.1
       ∙ sym (byte_completed edition rescued.stated image rescued.missing (512 * k + r) whole rescued.completed
       ∙ (byte_sized sizes edition ranges at k r rescued.cleared rescued.stated rescued.sized parts.1 low within
       ∙ (rescued.zeros.block k r there low ∙ ap (λ b. cond b (get_or bytes (512 * k + r) 0) 0) parts.1)));

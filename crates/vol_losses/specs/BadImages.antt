@@ -1,7 +1,7 @@
 -- Images of which some blocks couldn't be read, with zeros in their place.
 use Rattle.std.specs.Prelude.{◌≡◌, ◌⊎◌, ℕ, ◌+◌, ◌*◌, ◌/◌, ◌<◌, ◌&&◌, ◌==◌, not, nat_lt, if◌then◌else◌, List, [], length, slice_index, Bool, true, false, Option, Some, None}
 use Rattle.std.specs.List.{list_any}
-use Rattle.bad_maps.specs.Maps.{covers, is_read, is_read_from}
+use Rattle.bad_maps.specs.Maps.{covers, is_read_from}
 use Rattle.bad_maps.specs.declared.maps.ReadRange.{ReadRange}
 use Rattle.vol_layout.specs.Geometry.{Fits}
 use Rattle.vol_layout.specs.declared.edition.Edition.{Edition}
@@ -56,11 +56,13 @@ IsUnrescued edition ranges at sizes bytes (rescues.Cut (cuts.TooShort there bloc
     × IsIncomplete edition stated (cuts.TooShort there blocks)
 IsUnrescued edition ranges at sizes bytes (rescues.Sizes wrong) = (sizes ≡ Some wrong) × (are_sizes edition wrong ≡ false)
 
--- the volume, which begins at this block of a file, has each of these bytes that was read (this project)
-pub record HasRead (ranges : List ReadRange) (at : ℕ) (bytes volume : List ℕ) : Type 0 where
-  pub kept : (n : ℕ) → n < length bytes → is_read ranges (512 * at + n) ≡ true → slice_index volume n ≡ slice_index bytes n
+-- the volume, which begins at this block of a file, has the bytes of each whole block that is known: so its super-block may hold anything if the sizes are
+-- given (this project)
+pub record HasRead (sizes : Option VolumeSizes) (ranges : List ReadRange) (at : ℕ) (bytes volume : List ℕ) : Type 0 where
+  pub kept : (k r : ℕ) → k < length bytes / 512 → r < 512 → is_block_known sizes ranges at k ≡ true
+      → slice_index volume (512 * k + r) ≡ slice_index bytes (512 * k + r)
 
--- every volume that has the bytes that were read agrees with the rescued image outside the lost blocks (this project's law)
+-- every volume that has the bytes of the known blocks agrees with the rescued image outside the lost blocks (this project's law)
 abbrev pub RescuesAgree : Type 0
 RescuesAgree = (geometry : Geometry) (edition : Edition) (ranges : List ReadRange) (at : ℕ) (sizes : Option VolumeSizes) (bytes volume image : List ℕ) (lost : List Bool) → Fits geometry image
-    → IsRescued edition ranges at sizes bytes image lost → HasRead ranges at bytes volume → AgreesOutside geometry lost image volume
+    → IsRescued edition ranges at sizes bytes image lost → HasRead sizes ranges at bytes volume → AgreesOutside geometry lost image volume

@@ -145,10 +145,12 @@ export async function salvage() {
 /** Makes a sound copy of a damaged volume, and opens it. */
 export async function repair() {
   const { image } = state;
-  const given = await asks('Make a repaired copy?', [{ name: 'name', label: 'Name of the copy', value: `repaired_${image.name}` }], { ok: 'Repair',
-    note: `${image.name} stays as it is.` });
+  const given = await asks('Make a repaired copy?', [
+    { name: 'name', label: 'Name of the copy', value: `repaired_${image.name}` },
+    { name: 'blocks', label: 'Blocks of 512 bytes, at least', hint: 'Left empty, it is as large as the volume.' },
+  ], { ok: 'Repair', note: `${image.name} stays as it is.` });
   if (!given?.name) return;
-  const ended = await run(['repair', '--new', ...at(image), given.name], { limit: ASKED });
+  const ended = await run(['repair', '--new', ...(given.blocks ? ['--blocks', given.blocks] : []), ...at(image), given.name], { limit: ASKED });
   if (ended.status) say(ended.error.trim().split('\n').join(' '), true);
   else say(`${given.name} was made: it is sound.`);
 }

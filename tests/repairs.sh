@@ -131,7 +131,7 @@ saves 'a sound volume whose copy need not be larger' new sound
 for edition in 6 7; do
     refuses 1 'unixvol: bounds' repair $edition "$samples/lessons/sound.v$edition" new --blocks $((edition == 6 ? 65536 : 16777217))
 done
-has 'the second line where there is no room' "unixvol: full: there is no room for a directory or an entry that the repair needs; add --blocks N for a larger volume" \
+has 'the second line where there is no room' "unixvol: full: a directory or an entry that the repair needs has no free block or i-node; --blocks N makes more blocks, and no more i-nodes" \
     "$(UNIXVOL_EXPLAIN=1 "$program" repair 7 full -n 2>&1 | tail -n 1)"
 
 # The words, and the files. NEW is replaced, but never the image, and with --new nothing is.

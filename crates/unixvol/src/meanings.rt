@@ -432,7 +432,7 @@ fn no_space(verb: Verb) -> &'static str {
     match verb {
         Verb::Migrate => "the files need more blocks than the new volume has for them",
         Verb::Repair =>
-            "there is no room for a directory or an entry that the repair needs; add --blocks N for a larger volume",
+            "a directory or an entry that the repair needs has no free block or i-node; --blocks N makes more blocks, and no more i-nodes",
         _ => "more blocks are needed than are free",
     }
 }

@@ -1,5 +1,5 @@
 -- Commands that show part of an image of which some blocks couldn't be read: the files that they read, and their result.
-use Rattle.std.specs.Prelude.{◌≡◌, ◌⊎◌, ◌*◌, ℕ, Bool, false, List, take, Option, None, Some}
+use Rattle.std.specs.Prelude.{◌≡◌, ◌⊎◌, ◌*◌, ℕ, Bool, false, List, Option, None, Some}
 use Rattle.command_faults.specs.Streams.{Gets, Streams}
 use Rattle.command_reads.specs.BadLooks.{LooksBad}
 use Rattle.command_reads.specs.declared.bad_looks.BadBlocks.{BadBlocks}
@@ -23,7 +23,7 @@ IsBadRead files volume (bads.Outside ranges) (reads.Map map) = ⊥
 -- the image of the volume is read: up to the end that its super-block states, or that the given sizes state; or as much of it as the file has (this project)
 abbrev pub IsKnownRead : HostFiles → VolumeFile → List ℕ → Option VolumeSizes → Type 0
 IsKnownRead files volume bytes None = files.shown volume.edition bytes
-IsKnownRead files volume bytes (Some sizes) = (all : List ℕ) × files.ended all × (bytes ≡ take (512 * sizes.blocks) all)
+IsKnownRead files volume bytes (Some sizes) = files.front (512 * sizes.blocks) bytes
 
 -- a command that shows part of an image of which some blocks couldn't be read runs: nothing is done, as one of the files can't be read; or the map, if
 -- there is one, and the image are read, and what was read of the image is shown (this project)

@@ -63,8 +63,8 @@ use Rattle.command_changes.specs.declared.migrate.Migration.{Migration}
 use Rattle.command_changes.specs.declared.repair.Repairing.{Repairing}
 use Rattle.vol_mkfs.specs.declared.blank.NewVolume.{NewVolume}
 use Rattle.host_files.specs.OpenedFiles.{IsOpened}
-use Rattle.host_files.specs.Packs.{IsReadFrom}
-use Rattle.host_files.specs.ReadParts.{IsReadUpTo}
+use Rattle.host_files.specs.Packs.{IsMovedTo, IsReadFrom}
+use Rattle.host_files.specs.ReadParts.{IsReadOn, IsReadUpTo}
 use Rattle.host_files.specs.declared.volume_front.UpTo.{UpTo}
 use Rattle.host_files.specs.declared.volume_front.UpTo.TheVariants.{End, Volume, Archive}
 use Rattle.host_files.specs.Save.{IsTaken, Stores}
@@ -83,6 +83,11 @@ Gave {F} up_to remaining bytes = (old : F) × (new : F) × IsReadUpTo up_to (rem
 -- these bytes of a volume that begins at this block were read from some file, up to this end (std::io::Read)
 abbrev pub GaveAt : {F : Type 0} → ℕ → UpTo → (F → Option (List ℕ)) → List ℕ → Type 0
 GaveAt {F} at up_to remaining bytes = (old : F) × (new : F) × IsReadFrom (512 * at) up_to (remaining old) (remaining new) bytes
+
+-- the first `most` bytes of a volume that begins at this block were read from some file, or as many as it had there (std::io::Read)
+abbrev pub GaveFront : {F : Type 0} → ℕ → ℕ → (F → Option (List ℕ)) → List ℕ → Type 0
+GaveFront {F} at most remaining bytes =
+    (old : F) × (mid : Option (List ℕ)) × (new : F) × IsMovedTo (512 * at) (remaining old) mid × IsReadOn mid (remaining new) [] bytes most
 
 -- these bytes were read from some file, which had no more left (std::io::Read)
 abbrev pub GaveBytes : {F : Type 0} → (F → Option (List ℕ)) → List ℕ → Type 0
@@ -142,7 +147,7 @@ pub record HostFiles : Type 1 where
   pub put : Edition → List ℕ → Type 0
   pub script : List ℕ → Type 0
   pub shown : Edition → List ℕ → Type 0
-  pub ended : List ℕ → Type 0
+  pub front : ℕ → List ℕ → Type 0
   pub checked : Edition → List ℕ → Type 0
   pub opened : Edition → List ℕ → Stamp → Type 0
   pub taken : List ℕ → Type 0
@@ -160,7 +165,7 @@ host_files at remaining contents had stood =
       put = λ edition. GavePut edition remaining;
       script = GaveScript remaining;
       shown = λ edition. GaveAt at (Volume edition) remaining;
-      ended = GaveAt at End remaining;
+      front = λ most. GaveFront at most remaining;
       checked = λ edition. GaveImage at edition remaining;
       opened = λ edition. IsOpened at edition remaining had;
       taken = IsTaken contents;

@@ -1,10 +1,10 @@
 //! Reads files to their ends, or to the end of the volume or archive in them.
-ghost use Rattle.std.specs.Prelude.{◌≡◌, ◌⊎◌, ◌*◌, [], false, true, All, Err, IfErr, IfOk, IsErrOf, List, Ok, OnErr, length, take, ℕ};
+ghost use Rattle.std.specs.Prelude.{◌≡◌, ◌⊎◌, ◌*◌, [], false, true, All, Err, IfErr, IfOk, IsErrOf, Ok, OnErr, length};
 ghost use Rattle.pdp_words.specs.Devices.{LosesFront};
 ghost use Rattle.host_files.specs.OpenedFiles.{IsOpened};
-ghost use Rattle.host_files.specs.Packs.{IsReadFrom};
+ghost use Rattle.host_files.specs.Packs.{IsMovedTo, IsReadFrom};
 ghost use Rattle.host_files.specs.ReadParts.{IsPast, IsReadOn, IsReadUpTo};
-ghost use Rattle.unixvol.specs.Runs.{GaveAt, GaveBytes, GaveImage, GavePut, GaveScript, IsKept, IsStatusOfFileOrMemory, IsUnread, is_other_longer};
+ghost use Rattle.unixvol.specs.Runs.{GaveAt, GaveBytes, GaveFront, GaveImage, GavePut, GaveScript, IsKept, IsStatusOfFileOrMemory, IsUnread, is_other_longer};
 
 use crate::explain::{
     NamedFile, explain_no_memory, explain_short, explain_unread, explain_unwritten, reason_of,
@@ -217,49 +217,60 @@ pub fn read_stamped<R: ImageFiles + Eprint + AllocGlobal>(
     ensures fault { IfErr result (IsUnread R.File.remaining) }
 {
     match open_stamped(host.rt, volume.image) {
-        Ok((file, stamp)) => {
-            let up_to = UpTo::Volume(volume.edition);
-            Ok((read_part(host, volume, up_to, file, stamp)?.bytes, stamp))
-        }
+        Ok((file, stamp)) => Ok((read_part(host, volume, file, stamp)?.bytes, stamp)),
         Err(why) => Err(explain_unread(host, NamedFile::File(volume.image), why)),
     }
 }
 
-/// Reads the image of the volume in a file that has this number of blocks, whatever its super-block says; or as much of it as the file has. If it can't be
-/// read, prints the fault and returns the status.
+/// Reads this number of blocks of the volume in a file, whatever its super-block says; or as many as the file has. If it can't be read, prints the fault
+/// and returns the status.
 pub fn read_blocks<R: ImageFiles + Eprint + AllocGlobal>(
     host: &Surroundings<'_, R>,
     volume: VolumeFile<'_>,
     blocks: u32,
 ) -> Result<Vec<u8>, u8>
-    ensures given { IfOk result (λ bytes. (all : List ℕ) × GaveAt volume.entry.at UpTo.End R.File.remaining all × (bytes.items ≡ take (512 * blocks) all)) }
+    ensures given { IfOk result (λ bytes. GaveFront volume.entry.at (512 * blocks) R.File.remaining bytes.items) }
     ensures fault { IfErr result (IsUnread R.File.remaining) }
 {
-    match open_stamped(host.rt, volume.image) {
-        Ok((file, stamp)) => {
-            let mut bytes = read_part(host, volume, UpTo::End, file, stamp)?.bytes;
-            bytes.truncate(BLOCK * blocks as usize);
-            Ok(bytes)
-        }
-        Err(why) => Err(explain_unread(host, NamedFile::File(volume.image), why)),
-    }
+    let named = NamedFile::File(volume.image);
+    let (file, stamp) = match open_stamped(host.rt, volume.image) {
+        Ok(opened) => opened,
+        Err(why) => return Err(explain_unread(host, named, why)),
+    };
+    let moved = moved_over(host, volume, file, stamp)?;
+    Ok(read_more(host, named, BLOCK * blocks as usize, unread(host, moved))?.bytes)
 }
 
-/// Reads the image of the volume in its open file, which has this stamp, up to this end. If it can't be read, prints the fault and returns the status.
+/// Reads the image of the volume in its open file, which has this stamp. If it can't be read, prints the fault and returns the status.
 fn read_part<R: ImageFiles + Eprint + AllocGlobal>(
     host: &Surroundings<'_, R>,
     volume: VolumeFile<'_>,
-    up_to: UpTo,
     file: R::File,
     stamp: Stamp,
 ) -> Result<ReadFile<R::File>, u8>
     requires { R.had file stamp }
-    ensures given { IfOk result (λ read. IsReadFrom (512 * volume.entry.at) up_to (R.File.remaining file) (R.File.remaining read.file) read.bytes.items) }
+    ensures given { IfOk result (λ read. IsReadFrom (512 * volume.entry.at) (UpTo.Volume volume.entry.edition) (R.File.remaining file) (R.File.remaining read.file) read.bytes.items) }
+    ensures fault { IfErr result (IsUnread R.File.remaining) }
+{
+    let named = NamedFile::File(volume.image);
+    let moved = moved_over(host, volume, file, stamp)?;
+    read_open(host, named, UpTo::Volume(volume.edition), moved)
+}
+
+/// Moves the open file of a volume, which has this stamp, to the volume's first block. If it can't be moved, prints the fault and returns the status.
+fn moved_over<R: ImageFiles + Eprint + AllocGlobal>(
+    host: &Surroundings<'_, R>,
+    volume: VolumeFile<'_>,
+    file: R::File,
+    stamp: Stamp,
+) -> Result<R::File, u8>
+    requires { R.had file stamp }
+    ensures moved { IfOk result (λ moved. IsMovedTo (512 * volume.entry.at) (R.File.remaining file) (R.File.remaining moved)) }
     ensures fault { IfErr result (IsUnread R.File.remaining) }
 {
     let named = NamedFile::File(volume.image);
     match moved_to(host.rt, file, stamp, volume.at) {
-        Ok(moved) => read_open(host, named, up_to, moved),
+        Ok(moved) => Ok(moved),
         Err(MoveFault::Short) => Err(explain_short(host, named, volume.at)),
         Err(MoveFault::Unread(why)) => Err(explain_unread(host, named, why)),
     }
@@ -318,10 +329,7 @@ pub fn read_image<R: ImageFiles + Clock + Eprint + AllocGlobal>(
     ensures fault { IfErr result (IsUnread R.File.remaining) }
 {
     match open_image(host.rt, volume.image, host.is_watched) {
-        Ok((file, stamp)) => {
-            let up_to = UpTo::Volume(volume.edition);
-            Ok((read_part(host, volume, up_to, file, stamp)?, stamp))
-        }
+        Ok((file, stamp)) => Ok((read_part(host, volume, file, stamp)?, stamp)),
         Err(fault) => Err(explain_unopened(host, NamedFile::File(volume.image), fault)),
     }
 }

@@ -66,9 +66,8 @@ names are lost: numbers and ranges, as 12,878-4871, strictly ascending.
 
 If the super-block is lost, its sizes aren't known, and rule 2 is broken. Then --sizes or --like gives them: FSIZE
 blocks with IBLOCKS of them for the i-list, as `mkfs` takes them, or those of a volume that `mkfs` makes for DISK.
-Block 1 is then lost, whatever the image has in it. IMAGE is read to its end, and may be shorter, as with --cut.
-With the wrong sizes, the i-list and the data are taken to be where they aren't: see that the members are what you
-know to be on the volume.
+Block 1 is then lost, whatever the image has in it. IMAGE may then be shorter, as with --cut. With the wrong sizes,
+the i-list and the data are taken to be where they aren't: see that the members are what you know to be on the volume.
 
 Status:
   0  everything was exported, and the volume is sound

@@ -138,9 +138,9 @@ abbrev pub IsStored : {F : Type 0} → ℕ → List ℕ → (F → Option (List 
 IsStored {F} at bytes remaining contents had = (part : VolumePart) × (part.at ≡ at) × (part.bytes.now ≡ bytes) × Stores remaining contents had part
 
 -- the effects of files on the program: none could be read, with this status; these bytes, these bytes to put into a volume of an edition, this
--- script, this image of a volume of an edition, or this image for `check` was read from a file; such an image was read from a file that will be
--- changed and had this stamp; these bytes were written to a file; this volume was saved in its place, or in some place; no other volume has a block of
--- this growth; the file at some path had this stamp (this project)
+-- script, this image of a volume of an edition, these first bytes of one, or this image for `check` was read from a file; such an image was read from
+-- a file that will be changed and had this stamp; these bytes were written to a file; this volume was saved in its place, or in some place; no other
+-- volume has a block of this growth; the file at some path had this stamp (this project)
 pub record HostFiles : Type 1 where
   pub unread : ℕ → Type 0
   pub given : List ℕ → Type 0

@@ -59,6 +59,12 @@ saves 'the copy of a sound volume' new "$linux"
 repairs 7 longer
 saves 'the copy of a sound volume in a longer file' new "$linux"
 
+# A bad number in a chain block of the free list: the super-block of the copy is the same.
+"$program" mkfs 7 whole 60 2 0 0 1
+changed whole chained $((512 * 10 + 6)) 'FF FF'
+repairs 7 chained 'free list: rebuilt'
+saves 'the copy of a volume whose chain block was damaged' new whole
+
 # A file whose entry is gone, and a root that is gone: directories and files are in /lost+found, and what they hold is the same.
 changed "$linux" nameless 8752 '00 00'
 repairs 7 nameless 'i-node 2: links 4 -> 5' 'i-node 2: contents or fields changed' 'directory 2, slot 4: empty -> 3 lost+found' 'i-node 3: links 0 -> 2' \

@@ -1,8 +1,9 @@
 -- Lemmas on repaired copies.
-use Rattle.std.proofs.Common.{◌≡◌, ℕ, ◌≤◌, ◌∙◌, sym, subst, true, false, List, [], ◌∷◌, ◌++◌, refl, arith, inl, inr, Option, Some, None}
+use Rattle.std.proofs.Common.{◌≡◌, ℕ, suc, ◌+◌, ◌<◌, ◌≤◌, ◌∙◌, sym, ap, subst, Bool, true, false, List, [], ◌∷◌, ◌++◌, reverse, slice_index, refl, arith, inl, inr, Option, Some, None}
 use Rattle.std.proofs.lemmas.List.Folds.{list_any-append}
 use Rattle.std.proofs.lemmas.List.Elements.{All-append, All-cons, All-nil}
-use Rattle.std.proofs.lemmas.Bool.{true≢false}
+use Rattle.std.proofs.lemmas.List.{reverse-reverse}
+use Rattle.std.proofs.lemmas.Bool.{true≢false, or_parts}
 use Rattle.std.specs.List.{list_any}
 use Rattle.std.specs.Option.{is_some}
 use Rattle.vol_layout.specs.Geometry.{geometry_of, list_size, block_count}
@@ -13,9 +14,15 @@ use Rattle.vol_layout.specs.declared.i_node.Inode.{Inode}
 use Rattle.vol_layout.specs.declared.edition.Edition.{Edition}
 use Rattle.vol_layout.specs.declared.edition.Edition.TheVariants.{V6, V7}
 use Rattle.vol_layout.specs.declared.geometry.Geometry.{Geometry}
+use Rattle.vol_free.specs.FreeWalk.{free_walk}
+use Rattle.vol_free.specs.Stack.{IsIn}
+use Rattle.vol_free.specs.Walk.{AreZoned}
+use Rattle.vol_free.proofs.FreeFaults.{in_reverse}
+use Rattle.vol_free.proofs.Stacks.{zone_below}
 use Rattle.vol_judge.specs.Sound.{IsSound, IsJudged}
+use Rattle.vol_losses.specs.Losses.{AgreesOutside, is_lost}
 use Rattle.vol_repair.specs.Lines.{is_about, is_for_links, is_for_slot, is_for_list, IsTold, IsTrueLine}
-use Rattle.vol_repair.specs.Repaired.{TellsUpTo, TellsAll, HasSameFront, IsRepaired}
+use Rattle.vol_repair.specs.Repaired.{TellsUpTo, TellsAll, HasSameFront, HasSameList, IsRepaired}
 use Rattle.vol_repair.specs.declared.repair_line.RepairLine.{RepairLine}
 use Rattle.vol_repair.specs.declared.repair_line.RepairLine.TheVariants as lines
 use Rattle.vol_repair.proofs.Telling.{told_more, told_last, or_false}
@@ -55,6 +62,31 @@ tells_list geometry old new n xs ys items told = subst (TellsUpTo geometry old n
 pub list_told : (xs ys : List RepairLine) → ys ≡ xs ++ (lines.FreeList ∷ []) → IsTold is_for_list ys
 list_told xs ys items = subst (IsTold is_for_list) (sym items) (told_last is_for_list xs lines.FreeList refl)
 
+-- each of some data blocks, of which none is marked, is below the end of the data zone and isn't marked
+unmarked : (geometry : Geometry) (changed : List Bool) (xs : List ℕ) (b : ℕ) → IsIn b xs → AreZoned geometry xs → list_any (is_lost changed) xs ≡ false
+    → (b < geometry.zone_end) × (is_lost changed b ≡ false)
+unfolding IsIn
+unmarked geometry changed [] b among zoned none = absurd among
+unmarked geometry changed (x ∷ xs) b (inl same) zoned none =
+    subst (λ k. (k < geometry.zone_end) × (is_lost changed k ≡ false)) (sym same)
+    (zone_below geometry x (zoned 0 0 (omega arith)), (or_parts (is_lost changed x) (list_any (is_lost changed) xs) none).0)
+unmarked geometry changed (x ∷ xs) b (inr later) zoned none =
+    unmarked geometry changed xs b later (λ k d low. zoned (suc k) d (omega (arith, low)))
+    (or_parts (is_lost changed x) (list_any (is_lost changed) xs) none).1
+
+-- two images have the same super-block and blocks of the new one's free list, if none of them is marked as changed
+pub list_same : (geometry : Geometry) (changed : List Bool) (old new : List ℕ) (xs : List ℕ) → AgreesOutside geometry changed old new
+    → ((r : ℕ) → r < 512 → slice_index new (512 + r) ≡ slice_index old (512 + r)) → reverse xs ≡ (free_walk geometry new).met → AreZoned geometry xs
+    → list_any (is_lost changed) xs ≡ false → HasSameList geometry old new
+list_same geometry changed old new xs agrees head turned zoned none = record {
+  head = head;
+  blocks = λ b r among low.
+      let met = (free_walk geometry new).met in
+      let within : IsIn b xs = subst (IsIn b) (ap reverse (sym turned) ∙ reverse-reverse xs) (in_reverse b met among) in
+      let sure = unmarked geometry changed xs b within zoned none in
+      agrees.bytes b r sure.0 low sure.1;
+}
+
 -- two images with the same numbers of blocks in their super-blocks have the same sizes
 pub sizes_same : (edition : Edition) (old new : List ℕ) → list_size new ≡ list_size old → block_count edition new ≡ block_count edition old
     → geometry_of edition new ≡ geometry_of edition old
@@ -83,13 +115,13 @@ same_repaired edition old new xs sound same none =
             right = All-nil (IsTrueLine (geometry_of edition old) old old);
             fresh = λ i past. refl;
           };
-          list = inl (λ k low. refl);
+          list = inl (record { head = λ r low. refl; blocks = λ b r among low. refl });
         };
       };
       same = λ known. (refl, refl);
     }))
 
--- a copy that is sound, with the lines of all that differs from an image that isn't
+-- a copy that is sound, with the lines of what differs from an image that isn't
 pub other_repaired : (edition : Edition) (geometry : Geometry) (old new : List ℕ) (xs : List RepairLine) → geometry ≡ geometry_of edition old
     → (IsSound edition old → ⊥) → IsSound edition new → HasSameFront edition old new → TellsAll geometry old new xs → IsRepaired edition old new xs
 other_repaired edition geometry old new xs sizes broken sound front told = record {

@@ -1,10 +1,12 @@
--- A repaired copy of an image, with the lines of all that differs.
-use Rattle.std.specs.Prelude.{◌≡◌, ◌⊎◌, ℕ, ◌+◌, ◌<◌, ◌≤◌, true, false, List, [], length, slice_index}
+-- A repaired copy of an image, with the lines of what differs.
+use Rattle.std.specs.Prelude.{◌≡◌, ◌⊎◌, ℕ, ◌+◌, ◌*◌, ◌<◌, ◌≤◌, true, false, List, [], length, slice_index}
 use Rattle.std.specs.List.{All, list_any}
 use Rattle.vol_layout.specs.Geometry.{geometry_of}
 use Rattle.vol_layout.specs.Inode.{inode_of}
 use Rattle.vol_layout.specs.declared.edition.Edition.{Edition}
 use Rattle.vol_layout.specs.declared.geometry.Geometry.{Geometry}
+use Rattle.vol_free.specs.FreeWalk.{free_walk}
+use Rattle.vol_free.specs.Stack.{IsIn}
 use Rattle.vol_judge.specs.Sound.{IsSound, IsLeastBroken}
 use Rattle.vol_repair.specs.Kept.{KeepsFile, FitsFile}
 use Rattle.vol_repair.specs.Lines.{is_about, is_for_links, is_for_slot, is_for_list, IsTold, dir_entry, IsTrueLine}
@@ -24,10 +26,16 @@ pub record TellsUpTo (geometry : Geometry) (old new : List ℕ) (n : ℕ) (lines
   pub right : All (IsTrueLine geometry old new) lines
   pub fresh : (i : ℕ) → n < i → list_any (is_about i) lines ≡ false
 
--- the lines tell all that differs between the i-nodes, directories and super-blocks of two images (this project)
+-- the super-block and each block of the new image's free list have the same bytes in both images (this project)
+pub record HasSameList (geometry : Geometry) (old new : List ℕ) : Type 0 where
+  pub head : (r : ℕ) → r < 512 → slice_index new (512 + r) ≡ slice_index old (512 + r)
+  pub blocks : (b r : ℕ) → IsIn b (free_walk geometry new).met → r < 512 → slice_index new (512 * b + r) ≡ slice_index old (512 * b + r)
+
+-- the lines tell all that differs between the i-nodes, directories and super-blocks of two images, and in the blocks of the new one's free list
+-- (this project)
 pub record TellsAll (geometry : Geometry) (old new : List ℕ) (lines : List RepairLine) : Type 0 where
   pub told : TellsUpTo geometry old new geometry.last_inode lines
-  pub list : ((k : ℕ) → k < 512 → slice_index new (512 + k) ≡ slice_index old (512 + k)) ⊎ IsTold is_for_list lines
+  pub list : HasSameList geometry old new ⊎ IsTold is_for_list lines
 
 -- the copy is as long as the image, and has the same boot block and sizes (this project)
 pub record HasSameFront (edition : Edition) (old new : List ℕ) : Type 0 where
@@ -35,8 +43,8 @@ pub record HasSameFront (edition : Edition) (old new : List ℕ) : Type 0 where
   pub boot : (k : ℕ) → k < 512 → slice_index new k ≡ slice_index old k
   pub sizes : geometry_of edition new ≡ geometry_of edition old
 
--- the copy is sound, as long as the image, and has the same boot block and sizes; the lines tell all that differs in its i-nodes, directories and
--- super-block; each file that fits is kept (this project)
+-- the copy is sound, as long as the image, and has the same boot block and sizes; the lines tell all that differs in its i-nodes, directories,
+-- super-block and the blocks of its free list; each file that fits is kept (this project)
 pub record IsMended (edition : Edition) (old new : List ℕ) (lines : List RepairLine) : Type 0 where
   pub sound : IsSound edition new
   pub front : HasSameFront edition old new

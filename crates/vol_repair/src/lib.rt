@@ -1,4 +1,4 @@
-//! Repairs the image of a damaged volume to a copy, and tells all that differs.
+//! Repairs the image of a damaged volume to a copy, and tells what differs.
 #![tactic(auto)]
 
 mod claims;

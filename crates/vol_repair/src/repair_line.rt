@@ -29,6 +29,6 @@ pub enum RepairLine {
         old: Slot,
         new: Slot,
     },
-    /// The super-block isn't the same: its free list was rebuilt.
+    /// The free list was rebuilt: the super-block or a block of the list isn't the same.
     FreeList,
 }

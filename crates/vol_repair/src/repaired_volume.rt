@@ -1,8 +1,10 @@
 //! The repair of a damaged volume, to a copy.
-ghost use Rattle.std.specs.Prelude.{◌≡◌, ◌≤◌, length, true, IfOk, IfErr, IfSome};
+ghost use Rattle.std.specs.Prelude.{◌≡◌, ◌≤◌, false, length, true, IfOk, IfErr, IfSome};
+ghost use Rattle.std.specs.List.{list_any};
 ghost use Rattle.vol_layout.specs.Geometry.{Fits, geometry_of};
 ghost use Rattle.vol_judge.specs.Sound.{IsLeastBroken, IsSound};
-ghost use Rattle.vol_repair.specs.Repaired.{HasSameFront, IsRepaired, IsRepairFault, TellsAll};
+ghost use Rattle.vol_losses.specs.Losses.{AgreesOutside, is_lost};
+ghost use Rattle.vol_repair.specs.Repaired.{HasSameFront, HasSameList, IsRepaired, IsRepairFault, TellsAll};
 ghost use Rattle.vol_repair.specs.Told.{IsNotFit};
 
 use crate::claims::find_claims;
@@ -13,8 +15,10 @@ use crate::told_lines::push_lines;
 use pdp_words::Image;
 use std::alloc::{AllocError, Global};
 use thiserror::Error;
+use vol_free::walk_free;
 use vol_judge::judge;
 use vol_layout::{Edition, Geometry, GeometryFault, Super};
+use vol_losses::is_lost;
 
 /// The reason why an image wasn't repaired.
 #[derive(Clone, Copy, Debug, Error)]
@@ -48,11 +52,12 @@ impl From<AllocError> for RepairFault {
 pub struct Repaired {
     /// The copy.
     pub image: Image,
-    /// All that differs between the image and the copy.
+    /// What differs between the image and the copy: in i-nodes, the bytes of files, slots of directories, the super-block, and the blocks of the copy's free
+    /// list.
     pub lines: Vec<RepairLine>,
 }
 
-/// Repairs the image of a volume to a copy, which is sound and as long as the image, and returns it with a line for all that differs. A sound image is
+/// Repairs the image of a volume to a copy, which is sound and as long as the image, and returns it with lines that tell what differs. A sound image is
 /// its own copy, with no line. A file fits if it is regular, isn't the root, has a size within the limit, and has only data blocks that no other position
 /// points to: each such file keeps its i-node and its bytes, and only its link count may differ. `now` is the time of new i-nodes, in seconds.
 ///
@@ -116,7 +121,7 @@ fn repair_broken(
     }
 }
 
-/// Returns a copy with the lines of all that differs, if it is sound and keeps each file that isn't marked in `unfit`.
+/// Returns a copy with the lines of what differs, if it is sound and keeps each file that isn't marked in `unfit`.
 fn told(
     alloc: Global,
     edition: Edition,
@@ -168,7 +173,7 @@ fn has_same_sizes(edition: Edition, old: &Image, new: &Image) -> bool
         && super_block.block_count(old) == super_block.block_count(new)
 }
 
-/// Returns the lines of all that differs, or `None` if a file isn't kept that isn't marked in `unfit`.
+/// Returns the lines of what differs, or `None` if a file isn't kept that isn't marked in `unfit`.
 fn lines_of(
     alloc: Global,
     geometry: &Geometry,
@@ -186,8 +191,36 @@ fn lines_of(
     if !push_lines(alloc, old, new, geometry, &changed, unfit, &mut lines)? {
         return Ok(None);
     }
-    if !is_same_block(old, new, 1) {
+    if is_list_changed(alloc, geometry, old, new, &changed)? {
         lines.push(RepairLine::FreeList)?;
     }
     Ok(Some(lines))
+}
+
+/// True if the super-block or a block of the new image's free list differs between two images. `changed` marks each block that does.
+///
+/// Costs a walk over the free list. Takes a byte for each block of the volume, and four for each block of the list.
+fn is_list_changed(
+    alloc: Global,
+    geometry: &Geometry,
+    old: &Image,
+    new: &Image,
+    changed: &[bool],
+) -> Result<bool, AllocError>
+    requires old { Fits geometry.now old.now }
+    requires new { Fits geometry.now new.now }
+    requires agrees { AgreesOutside geometry.now changed.now old.now new.now }
+    ensures { IfOk result (λ differs. differs ≡ false → HasSameList geometry.now old.now new.now) }
+{
+    if !is_same_block(old, new, 1) {
+        return Ok(true);
+    }
+    Ok(is_any_changed(changed, &walk_free(alloc, new, geometry)?.met))
+}
+
+/// True if one of some blocks is marked.
+fn is_any_changed(changed: &[bool], blocks: &[u32]) -> bool
+    ensures { result ≡ list_any (is_lost changed.now) blocks.now }
+{
+    blocks.iter().any(|block| is_lost(changed, *block))
 }

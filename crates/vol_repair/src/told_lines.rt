@@ -1,4 +1,4 @@
-//! The lines of all that differs between an image and its repaired copy.
+//! The lines of what differs between an image and its repaired copy.
 ghost use Rattle.std.specs.Prelude.{◌≡◌, ℕ, ◌+◌, ◌<◌, ◌≤◌, true, false, IfOk, slice_index_or};
 ghost use Rattle.std.specs.List.{list_any};
 ghost use Rattle.vol_layout.specs.Geometry.{Fits};
@@ -18,7 +18,7 @@ use vol_file::no_marks;
 use vol_layout::i_list::{kind, size};
 use vol_layout::{Geometry, Kind, inode};
 
-/// Appends the lines of all that differs in the i-nodes and directories of two images, and returns true. Returns false if a file isn't kept that isn't
+/// Appends the lines of what differs in the i-nodes and directories of two images, and returns true. Returns false if a file isn't kept that isn't
 /// marked in `unfit`, or if there are too many lines. `changed` marks the blocks that differ.
 ///
 /// Costs a read of each i-node, the search of [`is_kept`] for each, and a read of each slot of the directories that aren't kept. Takes six bytes for

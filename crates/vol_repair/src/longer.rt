@@ -1,7 +1,8 @@
 //! The image of a volume with more blocks, before it is repaired.
-ghost use Rattle.std.specs.Prelude.{◌≡◌, ◌*◌, ◌<◌, ◌≤◌, IfErr, IfOk, length};
+ghost use Rattle.std.specs.Prelude.{◌≡◌, ◌*◌, ◌<◌, ◌≤◌, IfErr, IfOk, length, true};
+ghost use Rattle.std.specs.Result.{is_ok};
 ghost use Rattle.vol_layout.specs.Edition.{constants};
-ghost use Rattle.vol_layout.specs.Geometry.{block_count};
+ghost use Rattle.vol_layout.specs.Geometry.{block_count, geometry_read};
 ghost use Rattle.vol_repair.specs.Longer.{IsLengthened, IsLonger};
 ghost use Rattle.vol_repair.specs.declared.longer.LengthFault.TheVariants as faults;
 
@@ -24,6 +25,7 @@ pub enum LengthFault {
 /// Takes memory for the longer image, while the other one is there. `TooMany` is checked first.
 pub fn lengthened(edition: Edition, bytes: Vec<u8>, blocks: u32) -> Result<Vec<u8>, LengthFault>
     ensures lengthened { IfOk result (λ longer. IsLengthened edition blocks bytes.items longer.items) }
+    ensures few { IfOk result (λ _. blocks ≤ (constants edition).block_limit) }
     ensures fault { IfErr result (λ fault. fault ≡ faults.TooMany → (constants edition).block_limit < blocks) }
 {
     if blocks > edition.constants().block_limit {
@@ -43,6 +45,7 @@ fn with_least(
     own: u32,
     blocks: u32,
 ) -> Result<Vec<u8>, LengthFault>
+    requires sized { is_ok (geometry_read edition bytes.items) ≡ true }
     requires whole { 512 * own ≤ length bytes.items }
     requires own { own ≡ block_count edition bytes.items }
     requires room { 2 ≤ own }
@@ -66,6 +69,7 @@ fn longer(
     own: u32,
     blocks: u32,
 ) -> Result<Vec<u8>, AllocError>
+    requires sized { is_ok (geometry_read edition bytes.items) ≡ true }
     requires whole { 512 * own ≤ length bytes.items }
     requires own { own ≡ block_count edition bytes.items }
     requires room { 2 ≤ own }

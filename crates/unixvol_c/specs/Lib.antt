@@ -1,6 +1,9 @@
 pub mod Calls
 pub mod Held
+pub mod Kept
+pub mod Looks
 pub mod Numbers
 pub mod Opened
+pub mod Repaired
 pub mod Texts
 pub mod Structs

@@ -20,6 +20,7 @@ refusal_text number =
     else if nat_eq number 102 then codes "NotRegular"
     else if nat_eq number 103 then codes "NoInode"
     else if nat_eq number 104 then codes "BadId"
+    else if nat_eq number 112 then codes "NotRepaired"
     else codes "unknown"
 
 -- the text of a broken rule by its number (this project)
@@ -48,6 +49,7 @@ own_text number =
     else if nat_eq number 303 then codes "bounds"
     else if nat_eq number 304 then codes "too many records"
     else if nat_eq number 305 then codes "no such report"
+    else if nat_eq number 306 then codes "no such look"
     else codes "unknown"
 
 -- the text of a number that a function returned (this project)

@@ -30,7 +30,7 @@ fn number_text(number: u16) -> &'static str
     }
 }
 
-/// Returns the name of a refusal, or the text for 0.
+/// Returns the name of a refusal, also of a repair, or the text for 0.
 fn refusal_text(number: u16) -> &'static str
     ensures { result.now ≡ refusal_text number }
 {
@@ -51,6 +51,7 @@ fn refusal_text(number: u16) -> &'static str
         102 => "NotRegular",
         103 => "NoInode",
         104 => "BadId",
+        112 => "NotRepaired",
         _ => "unknown",
     }
 }
@@ -87,6 +88,7 @@ fn own_text(number: u16) -> &'static str
         303 => "bounds",
         304 => "too many records",
         305 => "no such report",
+        306 => "no such look",
         _ => "unknown",
     }
 }

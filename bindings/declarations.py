@@ -34,6 +34,10 @@ IN_C = {
     "&[u8]": ["const void *", "size_t"],
     "&mut [u8]": ["void *", "size_t"],
     "&mut [ListedName]": ["unixvol_entry *", "size_t"],
+    "&mut [RepairedLine]": ["unixvol_repaired *", "size_t"],
+    "&View": ["const unixvol_view *"],
+    "&RescueView": ["const unixvol_rescue_view *"],
+    "&mut Seen": ["unixvol_seen *"],
     "[u8; 14]": ["uint8_t[14]"],
     "*mut u8": ["void *"],
 }
@@ -45,6 +49,7 @@ IN_RUST = {
     "*mut c_void": "void *",
     "*mut Entry": "unixvol_entry *",
     "&mut About": "unixvol_sizes *",
+    "*mut Repaired": "unixvol_repaired *",
 }
 
 # The types of C in Python.
@@ -61,6 +66,17 @@ IN_PYTHON = {
     ctypes.POINTER(ctypes.c_size_t): "size_t *",
     ctypes.POINTER(ctypes.c_uint16): "uint16_t *",
     None: "void",
+}
+
+# The structs of C, as the source names them, and the Rust wrapper.
+STRUCTS = {
+    "unixvol_entry": ("ListedName", "Entry"),
+    "unixvol_node": ("Node", "Node"),
+    "unixvol_sizes": ("VolumeSizes", "About"),
+    "unixvol_view": ("View", "View"),
+    "unixvol_rescue_view": ("RescueView", "RescueView"),
+    "unixvol_seen": ("Seen", "Seen"),
+    "unixvol_repaired": ("RepairedLine", "Repaired"),
 }
 
 # The names of the source's parameters elsewhere.
@@ -108,19 +124,24 @@ def of_source() -> tuple[Functions, Fields, dict[str, int]]:
     }
     structs = {
         called: [(field, IN_C[kind][0]) for field, kind in fields_of(name, text)]
-        for called, name in {"unixvol_entry": "ListedName", "unixvol_node": "Node", "unixvol_sizes": "VolumeSizes"}.items()
+        for called, (name, _) in STRUCTS.items()
     }
     # A handle's sealed volume is a pointer.
     structs["unixvol"] = [
         ("volume", IN_C[fields_of(kind, text)[0][1]][0]) if field == "sealed" else (field, kind)
         for field, kind in fields_of("Handle", text)
     ]
-    numbers = {name: int(value) for name, value in re.findall(r"pub const (\w+): i32 = (\d+);", text)}
+    numbers = {name: int(value) for name, value in re.findall(r"pub const (\w+): (?:i32|u8) = (\d+);", text)}
     numbers["IS_CLOSED"] = numbers.pop("CLOSED")
     refusals = (TOP / "crates/vol_dir/src/refusal.rt").read_text()
     for name, value in re.findall(r"Refusal::(\w+) => (\d+),", refusals):
         numbers[re.sub(r"(?<!^)(?=[A-Z])", "_", name).upper()] = int(value)
     return functions, structs, numbers
+
+
+def is_look(name: str) -> bool:
+    """True for the numbers of looks and of comparisons."""
+    return name.startswith(("LOOK_", "BY_"))
 
 
 def of_header() -> tuple[Functions, Fields, dict[str, int]]:
@@ -135,6 +156,7 @@ def of_header() -> tuple[Functions, Fields, dict[str, int]]:
         fields = re.findall(r"^\s*([\w ]+?[ *]+)(\w+)(\[\d+\])?;", body, re.M)
         structs[name] = [(field, kind.strip() + size) for kind, field, size in fields]
     numbers = re.findall(r"UNIXVOL_(\w+) = (\d+)", text.split("enum unixvol_kind")[0])
+    numbers += re.findall(r"UNIXVOL_((?:LOOK|BY)_\w+) = (\d+)", text)
     return functions, structs, {name: int(value) for name, value in numbers}
 
 
@@ -147,16 +169,15 @@ def of_rust() -> tuple[Functions, Fields]:
         name: ([typed(*it) for it in split(taken)], named(result) if result else "void")
         for name, taken, result in re.findall(r"fn (unixvol_\w+)\(([^)]*)\)(?: -> (\w+))?;", text)
     }
+    called = {"Handle": "unixvol"} | {rust: name for name, (_, rust) in STRUCTS.items()}
     structs = {
-        {"Handle": "unixvol", "Entry": "unixvol_entry", "Node": "unixvol_node", "About": "unixvol_sizes"}[name]: [
-            (field, named(kind)) for field, kind in split(body)
-        ]
+        called[name]: [(field, named(kind)) for field, kind in split(body)]
         for name, body in re.findall(r"pub struct (\w+) \{(.*?)\n\}", text, re.S)
     }
     return functions, structs
 
 
-def of_python(folder: str) -> tuple[Functions, Fields, dict[str, int]]:
+def of_python(folder: str) -> tuple[Functions, Fields, dict[str, int], dict[str, int]]:
     """Returns the declarations of the Python package."""
     sys.path.insert(0, folder)
     import unixvol
@@ -167,8 +188,14 @@ def of_python(folder: str) -> tuple[Functions, Fields, dict[str, int]]:
         "unixvol_node": library.Node,
         "unixvol_entry": library.Entry,
         "unixvol_sizes": library.Sizes,
+        "unixvol_view": library.View,
+        "unixvol_rescue_view": library.RescueView,
+        "unixvol_seen": library.Seen,
+        "unixvol_repaired": library.Repaired,
     }
-    words = IN_PYTHON | {ctypes.POINTER(kind): f"{name} *" for name, kind in structs.items()}
+    words = IN_PYTHON | {
+        ctypes.POINTER(kind): ("const " if name.endswith("view") else "") + f"{name} *" for name, kind in structs.items()
+    }
     functions = {
         f"unixvol_{name}": ([words[it] for it in taken], words[library.function(name).restype])
         for name, taken in library.FUNCTIONS.items()
@@ -177,7 +204,8 @@ def of_python(folder: str) -> tuple[Functions, Fields, dict[str, int]]:
     refusals = {
         re.sub(r"(?<!^)(?=[A-Z])", "_", kind.__name__).upper(): kind.number for kind in unixvol.Refusal.__subclasses__()
     }
-    return functions, fields, refusals
+    looks = {f"{start}_{it.name}": it.value for start, kind in (("LOOK", library.Look), ("BY", library.By)) for it in kind}
+    return functions, fields, refusals, looks
 
 
 def compare(where: str, wanted: dict, found: dict) -> tuple[int, int]:
@@ -203,7 +231,8 @@ def main() -> int:
         results += [
             compare("_library.py", kinds(functions), python[0]),
             compare("_library.py", structs, python[1]),
-            compare("_faults.py", {name: it for name, it in numbers.items() if 0 < it < 200}, python[2]),
+            compare("_faults.py", {name: it for name, it in numbers.items() if 0 < it < 200 and not is_look(name)}, python[2]),
+            compare("_library.py", {name: it for name, it in numbers.items() if is_look(name)}, python[3]),
         ]
     passed, failed = map(sum, zip(*results))
     print(f"{passed} passed, {failed} failed")

@@ -106,6 +106,8 @@ test_examples() {
     fails 1 'inject a name that is there' "$room/inject" 7 "$room/pack" README.md /usr/README.md
     runs 'the pack is as it was' cmp "$room/before" "$room/pack"
     fails 1 'list of an image that is none' "$room/list" 7 README.md
+    "$room/list" 7 samples/lessons/rule_12.v7 2> "$room/found"
+    runs 'the rules that an image breaks' grep -q '^12 each link count is the number of entries: a wrong link count: ' "$room/found"
 }
 
 # The Python package: the declarations, the tests, the examples.
@@ -113,6 +115,7 @@ test_python() {
     runs 'declarations' bindings/declarations.py "$built/python"
     export PYTHONPATH=$built/python
     runs 'the tests in Python' python3 -W error bindings/python/tests/test_unixvol.py
+    runs 'the tests of looks in Python' python3 -W error bindings/python/tests/test_looks.py
     python3 bindings/python/examples/lesson.py > "$room/lesson" 2>&1
     runs 'the lesson' diff "$room/lesson" bindings/python/examples/lesson.txt
     python3 bindings/python/examples/list_all.py 7 samples/linux_made.v7 > "$room/all" 2>&1
@@ -120,8 +123,9 @@ test_python() {
     if [ -x "$program" ]; then
         runs 'saves of Python and of the program' python3 bindings/python/tests/beside_program.py "$program" "$room"
         runs 'volumes of packs as the program finds them' python3 bindings/python/tests/packs_beside_program.py "$program" "$room"
+        runs 'looks as the program prints them' python3 bindings/python/tests/looks_beside_program.py "$program" "$room"
     else
-        skips "$program is not built: saves of Python and of the program, and the volumes that both find"
+        skips "$program is not built: saves of Python and of the program, the volumes that both find, and what both show"
     fi
     unset PYTHONPATH
     if python3 -m pip --version > "$room/output" 2>&1; then
@@ -139,6 +143,8 @@ test_rust() {
     "$room/rust/debug/examples/look" 7 samples/linux_made.v7 /usr > "$room/found" 2>&1
     runs 'look' grep -q '^   95 0755      688 games$' "$room/found"
     runs 'the report in Rust' grep -q '^missing 0$' "$room/found"
+    runs 'the differences in Rust' grep -q '^A /note$' "$room/found"
+    runs 'an i-node in Rust' grep -q '^{"addr":\[.*"size":15,.*}$' "$room/found"
     fails 1 'look at an image that is none' "$room/rust/debug/examples/look" 7 README.md
 }
 

@@ -67,13 +67,15 @@ enum unixvol_number {
     UNIXVOL_NOT_REGULAR = 102,   /* it is a special file */
     UNIXVOL_NO_INODE = 103,      /* no i-number above the root's is free */
     UNIXVOL_BAD_ID = 104,        /* a user or group number is above the edition's highest */
+    UNIXVOL_NOT_REPAIRED = 112,  /* a repair would not be sound, or would change a file that is well by itself */
     UNIXVOL_UNSOUND = 200,       /* and a rule, 1 to 12: the least that the bytes break (docs/FORMATS.md) */
     UNIXVOL_IS_CLOSED = 300,     /* the handle holds no volume */
     UNIXVOL_NO_EDITION = 301,    /* the edition is neither 6 nor 7 */
     UNIXVOL_NO_ROOM = 302,       /* the buffer hasn't the image's size, or no room for the text */
     UNIXVOL_BOUNDS = 303,        /* the sizes aren't those of a volume */
     UNIXVOL_TOO_MANY = 304,      /* the journal can't be cut: its records' numbers would reach 2^64 */
-    UNIXVOL_NO_REPORT = 305      /* the letter is not i, d or n */
+    UNIXVOL_NO_REPORT = 305,     /* the letter is not i, d or n */
+    UNIXVOL_NO_LOOK = 306        /* there is no such look or comparison, or a path isn't UTF-8 */
 };
 
 /* Puts the text of such a number into a buffer, as "NoEntry" or "unsound, rule 7"; count is how many bytes it has. 32
@@ -113,6 +115,78 @@ typedef struct unixvol_sizes {
     uint8_t edition;
 } unixvol_sizes;
 
+/* What unixvol_look shows: what the command of that name prints. */
+enum unixvol_look_kind {
+    UNIXVOL_LOOK_INODE = 1, /* an i-node: that at the path, or with the number `inode` if the path is empty */
+    UNIXVOL_LOOK_SUPER = 2, /* the super-block */
+    UNIXVOL_LOOK_DF = 3,    /* how much of the space is used */
+    UNIXVOL_LOOK_FREE = 4,  /* the chain of the free list */
+    UNIXVOL_LOOK_BLOCK = 5, /* all uses of the block `block` */
+    UNIXVOL_LOOK_FIND = 6,  /* the paths below a directory; of last names like the pattern, unless that is empty */
+    UNIXVOL_LOOK_SUMS = 7,  /* attributes and checksums of everything below a directory */
+    UNIXVOL_LOOK_CHECK = 8, /* whether each of the twelve rules holds, and what breaks it */
+    UNIXVOL_LOOK_MAP = 9,   /* the use of each block, or as text of those of the file or directory at the path */
+    UNIXVOL_LOOK_SVG = 10,  /* the same as a picture, in SVG */
+    UNIXVOL_LOOK_SLOTS = 11, /* the slots of a directory, and the names that empty ones keep: ls --slots */
+    UNIXVOL_LOOK_LIST = 12, /* the names in a directory, with attributes: ls -l */
+    UNIXVOL_LOOK_DUMP = 13, /* the bytes of the block `block`, field by field; text only */
+    UNIXVOL_LOOK_DUMP_NODE = 14 /* the bytes of an i-node, which is named as for UNIXVOL_LOOK_INODE; text only */
+};
+
+/* A look. All that isn't said is 0 or false. */
+typedef struct unixvol_view {
+    uint32_t block;
+    uint16_t inode;
+    uint8_t kind; /* one of unixvol_look_kind */
+    bool json;    /* true for what the command prints with --json (docs/JSON.md), false for lines of text */
+    bool lost;    /* true for i-nodes without an entry too, in UNIXVOL_LOOK_FIND and UNIXVOL_LOOK_SUMS */
+} unixvol_view;
+
+/* How unixvol_compare compares: diff, diff --times, diff --fields, diff --fields --all. */
+enum unixvol_comparison {
+    UNIXVOL_BY_TREE = 1,
+    UNIXVOL_BY_ALL_TIMES = 2,
+    UNIXVOL_BY_FIELDS = 3,
+    UNIXVOL_BY_ALL_FIELDS = 4
+};
+
+/* What unixvol_rescue takes. */
+typedef struct unixvol_rescue_view {
+    uint32_t at;  /* the block of 512 bytes that the volume begins at in the file that the map is of */
+    bool has_map; /* true if there is a map */
+    bool lost;    /* true for i-nodes without an entry too */
+    bool damaged; /* true for damaged files too, with zeros for the bytes that are lost */
+} unixvol_rescue_view;
+
+/* What was put into a buffer: so many bytes of text, and after them so many of lines; and the command's status. */
+typedef struct unixvol_seen {
+    size_t text;
+    size_t lines;
+    uint8_t status;
+} unixvol_seen;
+
+/* The kinds of lines of a repair. */
+enum unixvol_repair_kind {
+    UNIXVOL_CLEARED = 1, /* the i-node was allocated, and is free now */
+    UNIXVOL_MADE = 2,    /* the i-node was free or of another kind, and is a new one now */
+    UNIXVOL_SIZE = 3,    /* its size, before and after */
+    UNIXVOL_CHANGED = 4, /* its blocks, its bytes or other fields */
+    UNIXVOL_LINKS = 5,   /* its link count, before and after */
+    UNIXVOL_ENTRY = 6,   /* the slot of the directory: its i-number and name, before and after; 0 is an empty slot */
+    UNIXVOL_FREE_LIST = 7 /* the free list was made anew; the i-number is 0 */
+};
+
+/* Something that a repair changed. Names have zeros after them if they have fewer than 14 bytes. */
+typedef struct unixvol_repaired {
+    uint32_t before;
+    uint32_t after;
+    uint32_t slot;
+    uint16_t inode;
+    uint8_t kind; /* one of unixvol_repair_kind */
+    uint8_t name_before[14];
+    uint8_t name_after[14];
+} unixvol_repaired;
+
 /* ---- Opening and closing. What the handle held before is freed if this returns 0, and kept if not. */
 
 /* Opens a handle on a copy of a volume's bytes. They must be a sound volume. */
@@ -145,6 +219,34 @@ int32_t unixvol_explain(uint8_t edition, const void *bytes, size_t bytes_count, 
 /* Makes the free list of an image anew, in place, if nothing else is wrong with it. The image is sound then, and all
  * files and directories are as they were. */
 int32_t unixvol_salvage(uint8_t edition, void *bytes, size_t bytes_count);
+
+/* ---- What commands show of any bytes, sound or not. The buffer gets the text that the command prints, and after it the
+ * lines that it prints on standard error; seen gets the numbers of their bytes, and the command's status (docs/JSON.md,
+ * and the manual page of the command): nothing else is said in silence. If the buffer has no room for both,
+ * UNIXVOL_NO_ROOM is returned, and seen is set all the same: ask again with text + lines bytes. A path is UTF-8 here. */
+
+/* Shows part of an image. A path is for those looks that name one, a pattern for UNIXVOL_LOOK_FIND; both may be empty. */
+int32_t unixvol_look(uint8_t edition, const void *bytes, size_t bytes_count, const unixvol_view *view, const void *path,
+                     size_t path_count, const void *pattern, size_t pattern_count, void *into, size_t room,
+                     unixvol_seen *seen);
+
+/* Shows how two images differ. The status is 0 if they don't, 1 if they do. Lines name them old and new. */
+int32_t unixvol_compare(uint8_t edition, const void *before, size_t before_count, const void *after,
+                        size_t after_count, uint8_t by, void *into, size_t room, unixvol_seen *seen);
+
+/* Shows the whole files below a directory as a tar archive, of an image with lost blocks, as export --cut does: blocks are
+ * lost that the image is too short for. With a map of GNU ddrescue, as export --bad does: those that weren't read. The
+ * lines say what is damaged, and where. Whatever the lost blocks held, a file is in the archive only if it is right. */
+int32_t unixvol_rescue(uint8_t edition, const void *bytes, size_t bytes_count, const unixvol_rescue_view *view,
+                       const void *path, size_t path_count, const void *map, size_t map_count, void *into, size_t room,
+                       unixvol_seen *seen);
+
+/* Repairs an image in place: it is sound then, and files that were well by themselves are as they were. count is the
+ * number of all lines, which tell what was changed; if there is room for fewer, UNIXVOL_NO_ROOM is returned, and
+ * nothing is changed but count. New i-nodes get the time now. UNIXVOL_NO_SPACE is returned if there are no blocks or
+ * i-nodes for what is needed, 201 or 202 if the sizes of the volume aren't known. */
+int32_t unixvol_repair(uint8_t edition, void *bytes, size_t bytes_count, uint32_t now, unixvol_repaired *into,
+                       size_t room, size_t *count);
 
 /* ---- Queries. None changes the volume, nor its times. */
 
@@ -224,6 +326,10 @@ _Static_assert(sizeof(unixvol) == 2 * sizeof(void *), "unixvol");
 _Static_assert(sizeof(unixvol_node) == 28, "unixvol_node");
 _Static_assert(sizeof(unixvol_entry) == 16, "unixvol_entry");
 _Static_assert(sizeof(unixvol_sizes) == 16, "unixvol_sizes");
+_Static_assert(sizeof(unixvol_view) == 12, "unixvol_view");
+_Static_assert(sizeof(unixvol_rescue_view) == 8, "unixvol_rescue_view");
+_Static_assert(sizeof(unixvol_seen) == 3 * sizeof(size_t), "unixvol_seen");
+_Static_assert(sizeof(unixvol_repaired) == 44, "unixvol_repaired");
 #endif
 
 #ifdef __cplusplus

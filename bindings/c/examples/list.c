@@ -1,4 +1,5 @@
-/* list EDITION IMAGE [DIRECTORY]: lists the names in a directory with attributes, as an emulator would show them. */
+/* list EDITION IMAGE [DIRECTORY]: lists the names in a directory with attributes, as an emulator would show them. Of an image
+ * that isn't sound it shows what `unixvol check` does. */
 #include "unixvol.h"
 
 #include <stdio.h>
@@ -69,6 +70,16 @@ static void tell(int32_t number)
         fprintf(stderr, "list: %.*s\n", (int)count, text);
 }
 
+/* Prints which of the twelve rules an image breaks, and what breaks them. */
+static void check(uint8_t edition, const void *bytes, size_t size)
+{
+    unixvol_view view = {.kind = UNIXVOL_LOOK_CHECK};
+    unixvol_seen seen;
+    char text[4096];
+    if (unixvol_look(edition, bytes, size, &view, NULL, 0, NULL, 0, text, sizeof text, &seen) == UNIXVOL_DONE)
+        fwrite(text, 1, seen.text + seen.lines, stderr);
+}
+
 int main(int argc, char **argv)
 {
     if (argc < 3 || (argc > 3 && strlen(argv[3]) > 1000)) {
@@ -83,7 +94,10 @@ int main(int argc, char **argv)
         perror(argv[2]);
         return 1;
     }
-    int32_t number = unixvol_open(&volume, (uint8_t)atoi(argv[1]), bytes, size);
+    uint8_t edition = (uint8_t)atoi(argv[1]);
+    int32_t number = unixvol_open(&volume, edition, bytes, size);
+    if (number > UNIXVOL_UNSOUND && number <= UNIXVOL_UNSOUND + 12)
+        check(edition, bytes, size);
     free(bytes);
     unixvol_entry *entries = NULL;
     if (number == UNIXVOL_DONE)

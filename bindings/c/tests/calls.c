@@ -250,6 +250,103 @@ static void test_repairs(void)
     unixvol_close(&volume);
 }
 
+/* Looks at an image as a command does, and compares its text, its lines and its status. */
+static void looks(const char *what, const uint8_t *image, size_t size, unixvol_view view, const char *path, const char *text,
+                  const char *lines, int status)
+{
+    char into[1024];
+    unixvol_seen seen = {9, 9, 9};
+    has(what, UNIXVOL_DONE, unixvol_look(7, image, size, &view, path, strlen(path), "", 0, into, sizeof into, &seen));
+    has(what, (long)strlen(text), (long)seen.text);
+    has(what, (long)strlen(lines), (long)seen.lines);
+    has(what, status, seen.status);
+    same(what, text, into, strlen(text));
+    same(what, lines, into + seen.text, strlen(lines));
+}
+
+static void test_looks(void)
+{
+    unixvol volume = UNIXVOL_CLOSED;
+    make(&volume);
+    static uint8_t image[SIZE], after[SIZE];
+    has("image", UNIXVOL_DONE, unixvol_image(&volume, image, SIZE));
+    has("unlink", UNIXVOL_DONE, unixvol_unlink(&volume, 0, 0, MOMENT + 3, UNIXVOL_TEXT("/motd")));
+    has("image", UNIXVOL_DONE, unixvol_image(&volume, after, SIZE));
+    unixvol_close(&volume);
+    unixvol_view find = {.kind = UNIXVOL_LOOK_FIND, .json = true};
+    looks("find --json", image, SIZE, find, "/etc", "{\"entries\":[{\"ino\":95,\"path\":\"/etc/motd\"}],\"format\":1}\n", "", 0);
+    find.json = false;
+    looks("find", image, SIZE, find, "/", "/etc\n/etc/motd\n/motd\n", "", 0);
+    looks("find of nothing", image, SIZE, find, "/x", "", "unixvol: 2 NoEntry\n", 1);
+    looks("find in a short image", image, 1023, find, "/", "", "unixvol: unsound, rule 1\n", 1);
+    unixvol_view block = {.kind = UNIXVOL_LOOK_BLOCK, .block = 16, .json = true};
+    looks("block --json", image, SIZE, block, "",
+          "{\"block\":16,\"format\":1,\"uses\":[{\"ino\":95,\"level\":0,\"logical\":0,\"use\":\"i-node\"}]}\n", "", 0);
+    unixvol_view check = {.kind = UNIXVOL_LOOK_CHECK};
+    char into[1024];
+    unixvol_seen seen;
+    has("check", UNIXVOL_NO_ROOM, unixvol_look(7, image, SIZE, &check, "", 0, "", 0, into, 9, &seen));
+    has("bytes of no lines", 0, (long)seen.lines);
+    has("check", UNIXVOL_DONE, unixvol_look(7, image, SIZE, &check, "", 0, "", 0, into, seen.text, &seen));
+    has("the rules", 12, lines_of(into, seen.text));
+    has("no such look", UNIXVOL_NO_LOOK, unixvol_look(7, image, SIZE, &(unixvol_view){.kind = 99}, "", 0, "", 0, into, 9, &seen));
+    unixvol_view map = {.kind = UNIXVOL_LOOK_MAP, .json = true};
+    has("no JSON of one file's map", UNIXVOL_NO_LOOK, unixvol_look(7, image, SIZE, &map, "/motd", 5, "", 0, into, 9, &seen));
+    map.json = false;
+    looks("map of nothing", image, SIZE, map, "/x", "", "unixvol: 2 NoEntry\n", 1);
+    has("no UTF-8", UNIXVOL_NO_LOOK, unixvol_look(7, image, SIZE, &find, "\xff", 1, "", 0, into, 9, &seen));
+    has("no edition", UNIXVOL_NO_EDITION, unixvol_look(5, image, SIZE, &find, "/", 1, "", 0, into, 9, &seen));
+    has("compare", UNIXVOL_DONE, unixvol_compare(7, image, SIZE, after, SIZE, UNIXVOL_BY_TREE, into, sizeof into, &seen));
+    has("they differ", 1, seen.status);
+    has("the differences", 3, lines_of(into, seen.text));
+    same("the last of them", "D /motd\n", into + seen.text - 8, 8);
+    has("compare with itself", UNIXVOL_DONE, unixvol_compare(7, image, SIZE, image, SIZE, UNIXVOL_BY_FIELDS, NULL, 0, &seen));
+    has("nothing", 0, (long)(seen.text + seen.lines + seen.status));
+    has("no such comparison", UNIXVOL_NO_LOOK, unixvol_compare(7, image, SIZE, image, SIZE, 5, NULL, 0, &seen));
+}
+
+static void test_damage(void)
+{
+    unixvol volume = UNIXVOL_CLOSED;
+    make(&volume);
+    static uint8_t image[SIZE], copy[SIZE];
+    static char into[10240];
+    unixvol_seen seen;
+    has("image", UNIXVOL_DONE, unixvol_image(&volume, image, SIZE));
+    unixvol_close(&volume);
+    unixvol_rescue_view view = {0};
+    has("rescue", UNIXVOL_DONE, unixvol_rescue(7, image, 512 * 17, &view, "/etc", 4, NULL, 0, into, sizeof into, &seen));
+    has("one line, about how many blocks are lost", 1, lines_of(into + seen.text, seen.lines));
+    has("its status", 1, seen.status);
+    same("the file in the archive", "motd\0", into, 5);
+    same("its bytes", "welcome\n\0", into + 512, 9);
+    has("rescue without the file's block", UNIXVOL_DONE,
+        unixvol_rescue(7, image, 512 * 16, &view, "/etc", 4, NULL, 0, into, sizeof into, &seen));
+    has("the status of a damaged file", 5, seen.status);
+    has("an empty archive", 1024, (long)seen.text);
+    view.has_map = true;
+    has("a map of nothing", UNIXVOL_DONE, unixvol_rescue(7, image, SIZE, &view, "/etc", 4, "x", 1, into, sizeof into, &seen));
+    has("its status", 3, seen.status);
+    same("its line", "unixvol: map: line 1: ", into, 22);
+    unixvol_repaired lines[9];
+    size_t count = 9;
+    memcpy(copy, image, SIZE);
+    has("repair of a sound image", UNIXVOL_DONE, unixvol_repair(7, copy, SIZE, MOMENT, NULL, 0, &count));
+    has("no lines", 0, (long)count);
+    same("the same image", image, copy, SIZE);
+    copy[1024 + 64 + 2] ^= 1; /* the link count of the root */
+    has("no room for a line", UNIXVOL_NO_ROOM, unixvol_repair(7, copy, SIZE, MOMENT, NULL, 0, &count));
+    has("a line", 1, (long)count);
+    has("repair", UNIXVOL_DONE, unixvol_repair(7, copy, SIZE, MOMENT, lines, 9, &count));
+    has("a line", 1, (long)count);
+    has("its kind", UNIXVOL_LINKS, lines[0].kind);
+    has("its i-number", 2, lines[0].inode);
+    has("the links before", 2, (long)lines[0].before);
+    has("the links after", 3, (long)lines[0].after);
+    same("the image as it was before", image, copy, SIZE);
+    has("too short to repair", UNIXVOL_UNSOUND + 1, unixvol_repair(7, copy, 1023, MOMENT, lines, 9, &count));
+}
+
 static void *test_all(void *unused)
 {
     test_queries();
@@ -260,6 +357,8 @@ static void *test_all(void *unused)
     test_closed();
     test_answers();
     test_repairs();
+    test_looks();
+    test_damage();
     return unused;
 }
 

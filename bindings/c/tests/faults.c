@@ -95,6 +95,45 @@ static int32_t call_salvage(unixvol *volume, outcome *made)
     made->count = memcmp(image, broken, SIZE) != 0;
     return number;
 }
+/* Sums up what was seen, if it was handed out. */
+static int32_t seen_as(outcome *made, int32_t number, unixvol_seen seen)
+{
+    if (number == UNIXVOL_DONE)
+        made->count = 8 * (seen.text + seen.lines) + seen.status;
+    return number;
+}
+static int32_t call_look(unixvol *volume, outcome *made)
+{
+    unixvol_view view = {.kind = UNIXVOL_LOOK_SUMS, .json = true, .lost = true};
+    unixvol_seen seen = {0};
+    (void)volume;
+    return seen_as(made, unixvol_look(7, broken, SIZE, &view, "/", 1, NULL, 0, made->bytes, sizeof made->bytes, &seen), seen);
+}
+static int32_t call_compare(unixvol *volume, outcome *made)
+{
+    unixvol_seen seen = {0};
+    (void)volume;
+    return seen_as(made, unixvol_compare(7, begun, SIZE, broken, SIZE, UNIXVOL_BY_FIELDS, made->bytes, sizeof made->bytes, &seen),
+                   seen);
+}
+static int32_t call_rescue(unixvol *volume, outcome *made)
+{
+    unixvol_rescue_view view = {.has_map = true};
+    unixvol_seen seen = {0};
+    const char map[] = "0x0 +\n0x0 0x32000 +\n";
+    (void)volume;
+    return seen_as(made, unixvol_rescue(7, begun, SIZE, &view, "/etc", 4, map, sizeof map - 1, made->bytes, sizeof made->bytes, &seen),
+                   seen);
+}
+static int32_t call_repair(unixvol *volume, outcome *made)
+{
+    static uint8_t image[SIZE];
+    (void)volume;
+    memcpy(image, broken, SIZE);
+    int32_t number = unixvol_repair(7, image, SIZE, MOMENT, (unixvol_repaired *)(void *)made->bytes, 9, &made->count);
+    made->count += (size_t)(memcmp(image, broken, SIZE) != 0);
+    return number;
+}
 static int32_t call_stat(unixvol *volume, outcome *made)
 {
     return unixvol_stat(volume, 0, 0, PATH, (unixvol_node *)(void *)made->bytes);
@@ -203,6 +242,10 @@ static const struct {
     {"size", call_size, false},
     {"explain", call_explain, true},
     {"salvage", call_salvage, true},
+    {"look", call_look, true},
+    {"compare", call_compare, true},
+    {"rescue", call_rescue, true},
+    {"repair", call_repair, true},
     {"stat", call_stat, true},
     {"read", call_read, true},
     {"list", call_list, true},

@@ -10,7 +10,8 @@
 
 A `Volume` is in memory, and is sound after each call; `save` writes its bytes to a file, whole or not at all, and
 raises `Changed` if another program has changed the file meanwhile. Its paths work like those of `pathlib`. `volumes`
-finds the volumes of a disk pack. A refusal raises an exception that is named for it and has its `number`; it is also
+finds the volumes of a disk pack. `look` shows any image, sound or not, as the program's commands do, as values; `repair`
+and `rescue` are for damaged ones. A refusal raises an exception that is named for it and has its `number`; it is also
 Python's own, if Python has one with that meaning: `NoEntry` is a `FileNotFoundError`.
 
 Any number of volumes may be used by any number of threads. Each takes up to two and a third times the memory of its
@@ -30,6 +31,7 @@ from ._faults import (
     NoEdition,
     NoEntry,
     NoInode,
+    NoLook,
     NoMemory,
     NoReport,
     NoSpace,
@@ -37,6 +39,8 @@ from ._faults import (
     NotEmpty,
     NotOwner,
     NotRegular,
+    NotRepaired,
+    NotShown,
     Refusal,
     TooBig,
     TooMany,
@@ -44,23 +48,55 @@ from ._faults import (
     UnixvolError,
     Unsound,
 )
+from ._looks import Image, Repair, RepairLine, Rescued, look, repair, rescue
 from ._paths import Stat, VolumePath
+from ._values import (
+    BlockMap,
+    Extent,
+    Findings,
+    FoundPath,
+    FreeChain,
+    FreeFault,
+    FreeLink,
+    Inode,
+    Listing,
+    Member,
+    Place,
+    Rule,
+    Run,
+    Slot,
+    Space,
+    SuperBlock,
+    Use,
+)
 from ._volume import About, PackVolume, Volume, explain, judge, mkfs, open, salvage, volumes
 
 __all__ = [
     "About",
     "Access",
     "BadId",
+    "BlockMap",
     "Bounds",
     "Changed",
     "Closed",
     "Exists",
+    "Extent",
+    "Findings",
+    "FoundPath",
+    "FreeChain",
+    "FreeFault",
+    "FreeLink",
+    "Image",
+    "Inode",
     "Invalid",
     "IsDirectory",
+    "Listing",
     "Locked",
+    "Member",
     "NoEdition",
     "NoEntry",
     "NoInode",
+    "NoLook",
     "NoMemory",
     "NoReport",
     "NoSpace",
@@ -68,20 +104,35 @@ __all__ = [
     "NotEmpty",
     "NotOwner",
     "NotRegular",
+    "NotRepaired",
+    "NotShown",
     "PackVolume",
+    "Place",
     "Refusal",
+    "Repair",
+    "RepairLine",
+    "Rescued",
+    "Rule",
+    "Run",
+    "Slot",
+    "Space",
     "Stat",
+    "SuperBlock",
     "TooBig",
     "TooMany",
     "TooManyLinks",
     "UnixvolError",
     "Unsound",
+    "Use",
     "Volume",
     "VolumePath",
     "explain",
     "judge",
+    "look",
     "mkfs",
     "open",
+    "repair",
+    "rescue",
     "salvage",
     "volumes",
 ]

@@ -3,6 +3,7 @@
 from __future__ import annotations
 
 import errno
+import re
 from typing import ClassVar
 
 from ._library import text_of
@@ -117,6 +118,12 @@ class BadId(Refusal):
     number, code = 104, errno.EINVAL
 
 
+class NotRepaired(Refusal):
+    """An image can't be repaired: the result would not be sound, or a file that was well by itself would be changed."""
+
+    number, code = 112, errno.EIO
+
+
 class Unsound(UnixvolError, ValueError):
     """The bytes aren't a sound volume. `rule` is the first of the twelve rules that they break."""
 
@@ -159,6 +166,22 @@ class NoReport(UnixvolError, ValueError):
     number = 305
 
 
+class NoLook(UnixvolError, ValueError):
+    """A path or a pattern isn't UTF-8, which the commands that show something want."""
+
+    number = 306
+
+
+class NotShown(UnixvolError, ValueError):
+    """A command shows nothing, for another reason than those above. Its `lines` say why."""
+
+    number = 0
+
+    def __init__(self, lines: str):
+        super().__init__(lines)
+        self.lines = lines
+
+
 class FileFault(UnixvolError, OSError):
     """A volume can't be saved in a file, or a file can't be locked. The file is as it was."""
 
@@ -186,7 +209,7 @@ class Locked(FileFault, BlockingIOError):
 
 
 _REFUSALS = {kind.number: kind for kind in Refusal.__subclasses__()}
-_OTHERS: dict[int, type[UnixvolError]] = {kind.number: kind for kind in (Closed, NoEdition, Bounds, TooMany, NoReport)}
+_OTHERS: dict[int, type[UnixvolError]] = {kind.number: kind for kind in (Closed, NoEdition, Bounds, TooMany, NoReport, NoLook)}
 
 
 def check(number: int, path: str | None = None) -> None:
@@ -198,3 +221,14 @@ def check(number: int, path: str | None = None) -> None:
     if 201 <= number <= 212:
         raise Unsound(number - 200)
     raise _OTHERS[number](text_of(number))
+
+
+def check_lines(lines: str, path: str | None = None) -> None:
+    """Raises the exception for the lines of a command that shows nothing."""
+    found = re.match(r"unixvol: (?:(\d+) |unsound, rule (\d+))", lines)
+    number, rule = found.groups() if found else (None, None)
+    if number is not None and int(number) in _REFUSALS:
+        raise _REFUSALS[int(number)](path)
+    if rule is not None:
+        raise Unsound(int(rule))
+    raise NotShown(lines)

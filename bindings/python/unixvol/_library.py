@@ -7,6 +7,7 @@ import os
 import time
 from ctypes import POINTER, Structure, c_bool, c_char_p, c_int32, c_size_t, c_uint8, c_uint16, c_uint32, c_void_p
 from datetime import datetime
+from enum import IntEnum
 from typing import Any
 
 # A moment: with its time zone, in seconds since the beginning of 1970, or None for that of the clock.
@@ -55,11 +56,72 @@ class Sizes(Structure):
     ]
 
 
+class View(Structure):
+    """The part of an image to show, and its form."""
+
+    _fields_ = [("block", c_uint32), ("inode", c_uint16), ("kind", c_uint8), ("json", c_bool), ("lost", c_bool)]
+
+
+class RescueView(Structure):
+    """What is rescued of an image with lost blocks."""
+
+    _fields_ = [("at", c_uint32), ("has_map", c_bool), ("lost", c_bool), ("damaged", c_bool)]
+
+
+class Seen(Structure):
+    """The sizes of what a command printed, and its status."""
+
+    _fields_ = [("text", c_size_t), ("lines", c_size_t), ("status", c_uint8)]
+
+
+class Repaired(Structure):
+    """Something that a repair changed."""
+
+    _fields_ = [
+        ("before", c_uint32),
+        ("after", c_uint32),
+        ("slot", c_uint32),
+        ("inode", c_uint16),
+        ("kind", c_uint8),
+        ("name_before", c_uint8 * 14),
+        ("name_after", c_uint8 * 14),
+    ]
+
+
+class Look(IntEnum):
+    """What is shown of an image."""
+
+    INODE = 1
+    SUPER = 2
+    DF = 3
+    FREE = 4
+    BLOCK = 5
+    FIND = 6
+    SUMS = 7
+    CHECK = 8
+    MAP = 9
+    SVG = 10
+    SLOTS = 11
+    LIST = 12
+    DUMP = 13
+    DUMP_NODE = 14
+
+
+class By(IntEnum):
+    """How two images are compared."""
+
+    TREE = 1
+    ALL_TIMES = 2
+    FIELDS = 3
+    ALL_FIELDS = 4
+
+
 _handle = POINTER(Handle)
 _given = [c_char_p, c_size_t]
 _into = [c_void_p, c_size_t]
 _count = POINTER(c_size_t)
 _query = [_handle, c_uint16, c_uint16, *_given]
+_seen = [*_into, POINTER(Seen)]
 _call = [_handle, c_uint16, c_uint16, c_uint32, *_given]
 
 # What each function takes.
@@ -72,6 +134,10 @@ FUNCTIONS: dict[str, list[Any]] = {
     "image": [_handle, *_into],
     "explain": [c_uint8, *_given, *_into, _count],
     "salvage": [c_uint8, *_into],
+    "look": [c_uint8, *_given, POINTER(View), *_given, *_given, *_seen],
+    "compare": [c_uint8, *_given, *_given, c_uint8, *_seen],
+    "rescue": [c_uint8, *_given, POINTER(RescueView), *_given, *_given, *_seen],
+    "repair": [c_uint8, *_into, c_uint32, POINTER(Repaired), c_size_t, _count],
     "stat": [*_query, POINTER(Node)],
     "read": [*_query, c_uint32, *_into, _count],
     "list": [*_query, POINTER(Entry), c_size_t, _count],

@@ -202,7 +202,7 @@ def open(source: Source, edition: int, *, at: int | None = None, lock: bool = Fa
     if not isinstance(source, (str, os.PathLike)):
         if lock:
             raise ValueError("bytes can't be locked, only a file")
-        return Volume(_opened(_data(source, edition, at), edition))
+        return Volume(_opened(data_of(source, edition, at), edition))
     data, file = read_image(os.path.abspath(source), lock, _part(at, edition))
     try:
         return Volume(_opened(data, edition), file)
@@ -233,7 +233,7 @@ def mkfs(edition: int, blocks: int, list_blocks: int, *, uid: int = 0, gid: int 
 def judge(source: Source, edition: int, *, at: int | None = None) -> int | None:
     """Returns the least of the twelve rules that a file or bytes break, or None for a sound volume. `at` is its block in
     a pack, as for `open`."""
-    data = _data(source, edition, at)
+    data = data_of(source, edition, at)
     try:
         check(function("judge")(word(edition, 8, "edition"), data, len(data)))
     except Unsound as fault:
@@ -258,7 +258,7 @@ def volumes(source: Source) -> list[PackVolume]:
 def explain(source: Source, edition: int, *, at: int | None = None) -> str:
     """Returns what is found of each of the twelve rules in a file or bytes, a line for each. `at` is the volume's block
     in a pack, as for `open`."""
-    data, into, count = _data(source, edition, at), room(4096), ctypes.c_size_t()
+    data, into, count = data_of(source, edition, at), room(4096), ctypes.c_size_t()
     check(function("explain")(word(edition, 8, "edition"), data, len(data), into, len(into), count))
     return os.fsdecode(into.raw[: count.value])
 
@@ -269,7 +269,7 @@ def salvage(source: Source, edition: int, *, at: int | None = None) -> bytes:
 
     It is sound then, and all files and directories are as they were. If anything else is wrong with it, `Unsound` is
     raised."""
-    data = bytearray(_data(source, edition, at))
+    data = bytearray(data_of(source, edition, at))
     view = (ctypes.c_char * len(data)).from_buffer(data)
     check(function("salvage")(word(edition, 8, "edition"), view, len(data)))
     return bytes(data)
@@ -296,7 +296,7 @@ def _part(at: int | None, edition: int) -> Part | None:
     return None if at is None else Part(word(at, 32, "at"), edition)
 
 
-def _data(source: Source, edition: int, at: int | None) -> bytes:
+def data_of(source: Source, edition: int, at: int | None) -> bytes:
     part = _part(at, edition)
     if isinstance(source, (str, os.PathLike)):
         return read_image(os.path.abspath(source), part=part)[0]

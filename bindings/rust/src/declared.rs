@@ -45,6 +45,58 @@ pub struct About {
     pub edition: u8,
 }
 
+/// The part of an image to show, and its form.
+#[repr(C)]
+#[derive(Clone, Copy, Debug, Default, PartialEq, Eq)]
+pub struct View {
+    /// The number of a block, for a look at one.
+    pub block: u32,
+    /// An i-number, for a look at an i-node without a path.
+    pub inode: u16,
+    /// What is shown, a `Look`.
+    pub kind: u8,
+    /// True for what the command prints with `--json`, false for lines of text.
+    pub json: bool,
+    /// True for i-nodes without an entry too.
+    pub lost: bool,
+}
+
+/// What is rescued of an image with lost blocks.
+#[repr(C)]
+#[derive(Clone, Copy, Debug, Default, PartialEq, Eq)]
+pub struct RescueView {
+    /// The block that the volume begins at in the file that the map is of.
+    pub at: u32,
+    /// True if there is a map; `rescue` sets it.
+    pub has_map: bool,
+    /// True for i-nodes without an entry too.
+    pub lost: bool,
+    /// True for damaged files too, with zeros for the bytes that are lost.
+    pub damaged: bool,
+}
+
+/// The sizes of what a command printed, and its status.
+#[repr(C)]
+#[derive(Clone, Copy, Debug, Default, PartialEq, Eq)]
+pub struct Seen {
+    pub text: usize,
+    pub lines: usize,
+    pub status: u8,
+}
+
+/// Something that a repair changed, by its kind in `unixvol.h`. Names have zeros after them if they have fewer than 14 bytes.
+#[repr(C)]
+#[derive(Clone, Copy, Debug, Default, PartialEq, Eq)]
+pub struct Repaired {
+    pub before: u32,
+    pub after: u32,
+    pub slot: u32,
+    pub inode: u16,
+    pub kind: u8,
+    pub name_before: [u8; 14],
+    pub name_after: [u8; 14],
+}
+
 #[rustfmt::skip]
 extern "C" {
     pub fn unixvol_open(volume: &mut Handle, edition: u8, bytes: *const u8, bytes_count: usize) -> i32;
@@ -55,6 +107,10 @@ extern "C" {
     pub fn unixvol_image(volume: &mut Handle, into: *mut u8, room: usize) -> i32;
     pub fn unixvol_explain(edition: u8, bytes: *const u8, bytes_count: usize, into: *mut u8, room: usize, count: &mut usize) -> i32;
     pub fn unixvol_salvage(edition: u8, bytes: *mut u8, bytes_count: usize) -> i32;
+    pub fn unixvol_look(edition: u8, bytes: *const u8, bytes_count: usize, view: &View, path: *const u8, path_count: usize, pattern: *const u8, pattern_count: usize, into: *mut u8, room: usize, seen: &mut Seen) -> i32;
+    pub fn unixvol_compare(edition: u8, before: *const u8, before_count: usize, after: *const u8, after_count: usize, by: u8, into: *mut u8, room: usize, seen: &mut Seen) -> i32;
+    pub fn unixvol_rescue(edition: u8, bytes: *const u8, bytes_count: usize, view: &RescueView, path: *const u8, path_count: usize, map: *const u8, map_count: usize, into: *mut u8, room: usize, seen: &mut Seen) -> i32;
+    pub fn unixvol_repair(edition: u8, bytes: *mut u8, bytes_count: usize, now: u32, into: *mut Repaired, room: usize, count: &mut usize) -> i32;
     pub fn unixvol_stat(volume: &mut Handle, uid: u16, gid: u16, path: *const u8, path_count: usize, node: &mut Node) -> i32;
     pub fn unixvol_read(volume: &mut Handle, uid: u16, gid: u16, path: *const u8, path_count: usize, offset: u32, into: *mut u8, room: usize, count: &mut usize) -> i32;
     pub fn unixvol_list(volume: &mut Handle, uid: u16, gid: u16, path: *const u8, path_count: usize, into: *mut Entry, room: usize, count: &mut usize) -> i32;

@@ -6,11 +6,11 @@
 mod declared;
 
 use declared::*;
-pub use declared::{About, Entry, Node};
+pub use declared::{About, Entry, Node, Repaired, RescueView, View};
 use std::fmt;
 
-/// Why something was refused, by the number of `unixvol.h`: 1 to 104 a refusal, 200 and a rule no sound volume, 301 to
-/// 305 a wrong argument. Nothing has changed.
+/// Why something was refused, by the number of `unixvol.h`: 1 to 112 a refusal, 200 and a rule no sound volume, 301 to
+/// 306 a wrong argument. Nothing has changed.
 #[derive(Clone, Copy, Debug, PartialEq, Eq)]
 pub struct Error(pub i32);
 
@@ -83,6 +83,104 @@ pub fn explain(edition: u8, bytes: &[u8]) -> Result<Vec<u8>, Error> {
 /// Makes the free list of an image anew, in place, if nothing else is wrong with it.
 pub fn salvage(edition: u8, bytes: &mut [u8]) -> Result<(), Error> {
     done(unsafe { unixvol_salvage(edition, bytes.as_mut_ptr(), bytes.len()) }, ())
+}
+
+/// What [`look`] shows: what the command of that name prints.
+#[repr(u8)]
+#[derive(Clone, Copy, Debug, PartialEq, Eq)]
+pub enum Look {
+    Inode = 1,
+    Super = 2,
+    Df = 3,
+    Free = 4,
+    Block = 5,
+    Find = 6,
+    Sums = 7,
+    Check = 8,
+    Map = 9,
+    Svg = 10,
+    Slots = 11,
+    List = 12,
+    Dump = 13,
+    DumpNode = 14,
+}
+
+/// How [`compare`] compares.
+#[repr(u8)]
+#[derive(Clone, Copy, Debug, PartialEq, Eq)]
+pub enum By {
+    Tree = 1,
+    AllTimes = 2,
+    Fields = 3,
+    AllFields = 4,
+}
+
+/// What a command printed: its text, its lines on standard error, and its status.
+#[derive(Clone, Debug, PartialEq, Eq)]
+pub struct Shown {
+    pub text: Vec<u8>,
+    pub lines: Vec<u8>,
+    pub status: u8,
+}
+
+/// What a command printed, by a call with a buffer, which is made again with a larger one if that is too short.
+fn shown(call: impl Fn(&mut [u8], &mut Seen) -> i32) -> Result<Shown, Error> {
+    const NO_ROOM: i32 = 302;
+    let (mut text, mut seen) = (vec![0; 1 << 16], Seen::default());
+    let mut number = call(&mut text, &mut seen);
+    if number == NO_ROOM {
+        text.resize(seen.text + seen.lines, 0);
+        number = call(&mut text, &mut seen);
+    }
+    done(number, ())?;
+    text.truncate(seen.text + seen.lines);
+    let lines = text.split_off(seen.text);
+    Ok(Shown { text, lines, status: seen.status })
+}
+
+/// What a command shows of an image, which may be any bytes. `path` and `pattern` are for those looks that want them.
+pub fn look(edition: u8, bytes: &[u8], view: &View, path: &[u8], pattern: &[u8]) -> Result<Shown, Error> {
+    shown(|into, seen| unsafe {
+        let (at, count) = (path.as_ptr(), path.len());
+        let (name, length) = (pattern.as_ptr(), pattern.len());
+        let (to, room) = (into.as_mut_ptr(), into.len());
+        unixvol_look(edition, bytes.as_ptr(), bytes.len(), view, at, count, name, length, to, room, seen)
+    })
+}
+
+/// How two images differ. The status is 0 if they don't, 1 if they do.
+pub fn compare(edition: u8, before: &[u8], after: &[u8], by: By) -> Result<Shown, Error> {
+    shown(|into, seen| unsafe {
+        let (old, new) = (before.as_ptr(), after.as_ptr());
+        let (to, room) = (into.as_mut_ptr(), into.len());
+        unixvol_compare(edition, old, before.len(), new, after.len(), by as u8, to, room, seen)
+    })
+}
+
+/// A tar archive of the whole files below a directory, of an image with lost blocks: those that it is too short for, or those
+/// that a map of GNU ddrescue says weren't read. The lines say what is damaged.
+pub fn rescue(edition: u8, bytes: &[u8], view: &RescueView, path: &[u8], map: Option<&[u8]>) -> Result<Shown, Error> {
+    let view = RescueView { has_map: map.is_some(), ..*view };
+    let map = map.unwrap_or_default();
+    shown(|into, seen| unsafe {
+        let (at, count) = (path.as_ptr(), path.len());
+        let (text, length) = (map.as_ptr(), map.len());
+        let (to, room) = (into.as_mut_ptr(), into.len());
+        unixvol_rescue(edition, bytes.as_ptr(), bytes.len(), &view, at, count, text, length, to, room, seen)
+    })
+}
+
+/// Repairs an image in place, and returns all that was changed. New i-nodes get the time `now`.
+pub fn repair(edition: u8, bytes: &mut [u8], now: u32) -> Result<Vec<Repaired>, Error> {
+    let (mut lines, mut count) = (vec![Repaired::default(); 1024], 0);
+    loop {
+        let (into, room) = (lines.as_mut_ptr(), lines.len());
+        let number = unsafe { unixvol_repair(edition, bytes.as_mut_ptr(), bytes.len(), now, into, room, &mut count) };
+        lines.resize(count, Repaired::default());
+        if count <= room {
+            return done(number, lines);
+        }
+    }
 }
 
 impl Volume {

@@ -5,15 +5,15 @@ use Rattle.unixvol.proofs.look_bad.run.Goals as goal
 pub returns-in-Err : goal.returns-in-Err
 returns-in-Err g c errors hears = inl (c.in-Err.ensures.fault, Keeps-refl (g.O.Sink.contents c.args.output.now), refl, hears)
 
-pub returns-in-Err-read_volume : goal.returns-in-Err-read_volume
-returns-in-Err-read_volume g c errors hears = inl (c.in-Err-read_volume.ensures.fault, Keeps-refl (g.O.Sink.contents c.args.output.now), refl, hears)
+pub returns-in-Err-read_known : goal.returns-in-Err-read_known
+returns-in-Err-read_known g c errors hears = inl (c.in-Err-read_known.ensures.fault, Keeps-refl (g.O.Sink.contents c.args.output.now), refl, hears)
 
 pub returns : goal.returns
 returns g c errors hears =
     inr (
-      c.in-Ok-read_volume.bytes.items,
+      c.in-Ok-read_known.bytes.items,
       c.in-Ok.bad,
-      c.in-Ok-read_volume.ensures.given,
+      c.in-Ok-read_known.ensures.given,
       c.in-Ok.ensures.read,
       c.look_bad.ensures errors hears,
     )

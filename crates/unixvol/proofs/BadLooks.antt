@@ -1,5 +1,5 @@
 -- The end of a command that shows part of an image of which some blocks couldn't be read.
-use Rattle.std.proofs.Common.{◌≡◌, ℕ, ◌≤◌, Bool, true, List, Option, inl, inr, arith}
+use Rattle.std.proofs.Common.{ℕ, Bool, true, List, Option, inl, inr, arith}
 use Rattle.std.specs.Prelude.{option_map}
 use Rattle.bad_maps.specs.declared.maps.ReadRange.{ReadRange}
 use Rattle.command_faults.specs.Faults.{no_memory}

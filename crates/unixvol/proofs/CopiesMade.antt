@@ -1,5 +1,5 @@
 -- The end of `salvage -n`, of `salvage -o` and of `repair`.
-use Rattle.std.proofs.Common.{◌≡◌, ℕ, ◌≤◌, true, List, Option, None, Some, inl, inr, sym, subst, arith}
+use Rattle.std.proofs.Common.{ℕ, ◌≤◌, true, List, Option, None, Some, inl, inr, sym, subst, arith}
 use Rattle.std.specs.Option.{is_some}
 use Rattle.std.specs.Io.KnownBytes.{Keeps}
 use Rattle.command_faults.proofs.Concluded.{fault_few}

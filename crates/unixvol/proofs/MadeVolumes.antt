@@ -1,5 +1,5 @@
 -- The result of a run of `mkfs`, from the volume that was made and whether it was saved.
-use Rattle.std.proofs.Common.{◌≡◌, ◌≢◌, ◌↔◌, ◌⊎◌, ◌∙◌, ℕ, zero, suc, ◌≤◌, Bool, true≢false, true, false, List, [], Option, None, Some, IsSome, IfSome, inl, inr, refl, sym, subst, arith}
+use Rattle.std.proofs.Common.{◌≡◌, ◌≢◌, ◌↔◌, ◌⊎◌, ◌∙◌, ℕ, zero, suc, ◌≤◌, true≢false, true, false, List, [], Option, None, Some, IsSome, IfSome, inl, inr, refl, sym, subst, arith}
 use Rattle.std.specs.Io.KnownBytes.{Keeps}
 use Rattle.vol_mkfs.specs.Blank.{Blank, blank_of, IsMade}
 use Rattle.vol_mkfs.specs.Mkfs.{is_size}

@@ -1,5 +1,5 @@
 -- The result of copying several files between the host and a volume.
-use Rattle.std.specs.Prelude.{All, ◌≡◌, ◌⊎◌, ℕ, List, [], map, Option, Some, IsSome, IfSome, Result, Ok, Err, Bool, true, false, unwrap_or}
+use Rattle.std.specs.Prelude.{All, ◌≡◌, ◌⊎◌, ℕ, List, [], map, Option, Some, IfSome, Result, Ok, Err, Bool, true, false, unwrap_or}
 use Rattle.std.specs.Global.{Vec}
 use Rattle.std.specs.Borrow.{Bor}
 use Rattle.std.specs.Io.KnownBytes.{Keeps}

@@ -1,5 +1,5 @@
 -- The edition of a volume for the word `any`.
-use Rattle.std.specs.Prelude.{◌≡◌, ◌⊎◌, ◌≤◌, ℕ, true, false, List, Option, None, Some, Result, Ok, Err}
+use Rattle.std.specs.Prelude.{◌≡◌, ◌⊎◌, ℕ, true, false, List, Option, None, Some, Result, Ok, Err}
 use Rattle.clap.specs.declared.error.Error.{Error}
 use Rattle.command_line.specs.CommandLine.{IsRead, IsRefused}
 use Rattle.command_words.specs.Invocations.{volume_of, with_volume}

@@ -1,7 +1,5 @@
 use Rattle.command_changes.specs.Repair.{IsRepairReported, IsUnrepaired}
 use Rattle.command_changes.specs.Salvage.{IsReported, IsUnsalvaged}
-use Rattle.command_faults.specs.Streams.{streams}
-use Rattle.unixvol.specs.Runs.{host_files}
 use Rattle.unixvol.proofs.CopiesMade.{ends_copying}
 use Rattle.unixvol.proofs.commands.carry_out.Goals as goal
 

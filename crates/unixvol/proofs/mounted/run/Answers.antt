@@ -1,5 +1,5 @@
 -- The run of a mounted server, with its saves written to a file.
-use Rattle.std.proofs.Common.{◌≡◌, ℕ, Ok, inl, inr, refl, rules}
+use Rattle.std.proofs.Common.{ℕ, Ok, inl, inr, refl, rules}
 use Rattle.command_faults.proofs.Lines.{gets_nothing}
 use Rattle.unixvol.specs.Runs.{IsStored, IsUnread}
 use Rattle.unixvol.proofs.Saved.{saved_by}

@@ -5,7 +5,7 @@ use Rattle.command_changes.specs.Resize.{of_resize}
 use Rattle.command_faults.proofs.Concluded.{among, concluded}
 use Rattle.unixvol.proofs.Concluded.{ends_concluded, ends_unread}
 use Rattle.pack_files.specs.PackFiles.{blocks_in}
-use Rattle.unixvol.specs.Runs.{EndsSaved, SavesResized, growth_of, host_files}
+use Rattle.unixvol.specs.Runs.{EndsSaved, SavesResized, host_files}
 use Rattle.unixvol.proofs.resize.run_resize.Goals as goal
 
 pub returns-in-Err-clause-runs : goal.returns-in-Err-clause-runs

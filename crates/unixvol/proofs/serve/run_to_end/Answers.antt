@@ -1,6 +1,5 @@
 -- A server's run, from the contents of standard error.
 use Rattle.std.proofs.Common.{ℕ, List, Option, None, sym, subst}
-use Rattle.std.specs.Process.{exit_status}
 use Rattle.pdp_words.specs.Adapters.{writer_in, has_write_failed}
 use Rattle.command_faults.specs.Streams.{Gets}
 use Rattle.unixvol.specs.Runs.{host_files}

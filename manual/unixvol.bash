@@ -28,15 +28,15 @@ _unixvol() {
     while [[ ${before[0]:-} == -* ]]; do before=("${before[@]:1}"); done
     command=${before[0]:-}
     if [ -z "$command" ]; then
-        mapfile -t COMPREPLY < <(compgen -W 'cat ls get find export sums inode super free block dump diff df map check icheck dcheck ncheck mkfs put import rm rmdir mkdir ln mv chmod chown touch salvage resize play migrate serve identify help --explain -h --help -V --version' -- "$current")
+        mapfile -t COMPREPLY < <(compgen -W 'cat ls get find export sums inode super free block dump diff df map check icheck dcheck ncheck mkfs put import rm rmdir mkdir ln mv chmod chown touch salvage repair resize play migrate serve identify help --explain -h --help -V --version' -- "$current")
         return
     fi
     case $command in
         cat) kinds='edition file any' options='--at --explain -h --help' valued='--at=any' others='' ;;
         ls) kinds='edition file path' options='--at -l --long -R --recursive -d --directory --json --slots --explain -h --help' valued='--at=any' others='' ;;
         get) kinds='edition file path any...' options='--at -o --output -p --preserve --explain -h --help' valued='--at=any -o=file --output=file' others='edition file path...' ;;
-        find) kinds='edition file path' options='--at -g --name --lost --json --explain -h --help' valued='--at=any -g=any --name=any' others='' ;;
-        export) kinds='edition file path' options='--at --lost --cut --bad --damaged --status --explain -h --help' valued='--at=any --bad=file' others='' ;;
+        find) kinds='edition file path' options='--at -g --name --lost --cut --bad --bad-blocks --sizes --like --json --explain -h --help' valued='--at=any -g=any --name=any --bad=file --bad-blocks=any --like=any' others='' ;;
+        export) kinds='edition file path' options='--at --lost --cut --bad --bad-blocks --sizes --like --damaged --status --explain -h --help' valued='--at=any --bad=file --bad-blocks=any --like=any' others='' ;;
         sums) kinds='edition file path' options='--at --lost --json --explain -h --help' valued='--at=any' others='' ;;
         inode) kinds='edition file any' options='--at --json --explain -h --help' valued='--at=any' others='' ;;
         super) kinds='edition file' options='--at --json --explain -h --help' valued='--at=any' others='' ;;
@@ -45,14 +45,14 @@ _unixvol() {
         dump) kinds='edition file any' options='--at -i --inode --octal --explain -h --help' valued='--at=any' others='' ;;
         diff) kinds='edition file any' options='--at --times --fields --all --explain -h --help' valued='--at=any' others='' ;;
         df) kinds='edition file' options='--at --json --explain -h --help' valued='--at=any' others='' ;;
-        map) kinds='edition file' options='--at --svg --json --explain -h --help' valued='--at=any' others='' ;;
+        map) kinds='edition file' options='--at --svg --json --file --explain -h --help' valued='--at=any --file=path' others='' ;;
         check) kinds='edition file' options='--at --status --json --explain -h --help' valued='--at=any' others='' ;;
         icheck) kinds='edition file any' options='--at --json --explain -h --help' valued='--at=any' others='' ;;
         dcheck) kinds='edition file any' options='--at --json --explain -h --help' valued='--at=any' others='' ;;
         ncheck) kinds='edition file any' options='--at --json --explain -h --help' valued='--at=any' others='' ;;
         mkfs) kinds='new_edition file any any any any any' options='--new --at --explain -h --help' valued='--at=any' others='' ;;
         put) kinds='edition file path file any any...' options='--at -t --target-directory -p --preserve -x --executable --trace --explain -h --help' valued='--at=any -t=path --target-directory=path' others='edition file file...' ;;
-        import) kinds='edition file path any' options='--at --skip-special -o --owner --explain -h --help' valued='--at=any -o=any --owner=any' others='' ;;
+        import) kinds='edition file path any' options='--at --skip-special -o --owner --trace --explain -h --help' valued='--at=any -o=any --owner=any' others='' ;;
         rm) kinds='edition file path any' options='--at -r --recursive --trace --explain -h --help' valued='--at=any' others='' ;;
         rmdir) kinds='edition file path any' options='--at --trace --explain -h --help' valued='--at=any' others='' ;;
         mkdir) kinds='edition file path any' options='--at -p --parents --trace --explain -h --help' valued='--at=any' others='' ;;
@@ -62,6 +62,7 @@ _unixvol() {
         chown) kinds='edition file path any any any' options='--at --trace --explain -h --help' valued='--at=any' others='' ;;
         touch) kinds='edition file path any' options='--at --trace --explain -h --help' valued='--at=any' others='' ;;
         salvage) kinds='edition file' options='--at -o --output -n --dry-run --explain -h --help' valued='--at=any -o=file --output=file' others='' ;;
+        repair) kinds='edition file file any' options='--at --new -n --dry-run --blocks --explain -h --help' valued='--at=any --blocks=any' others='' ;;
         resize) kinds='edition file any' options='--at -n --dry-run --explain -h --help' valued='--at=any' others='' ;;
         play) kinds='edition file file...' options='--at --journal --trace --explain -h --help' valued='--at=any' others='' ;;
         migrate) kinds='file file any any any' options='--new --at --explain -h --help' valued='--at=any' others='' ;;

@@ -300,7 +300,7 @@ if [ -n "$(command -v script)" ]; then
 fi
 # The blocks of one file are those of its extents, its indirect blocks too; all others are dots, and in the legend they are one number.
 runs map --file /long 7 deep.v7
-sed -n '3,/^$/s/^.\{8\}//p' output | tr -d '\n' > cells
+sed -n '3,/^$/s/^.\{8\}//p' output | tr -d '\n' > shown
 sed '1,2d' output | sed '1,/^$/d; s/^ *//' > counted
 "$program" inode --json 7 deep.v7 "$number" > extents
 has 'the blocks of one file' "$(python3 -c '
@@ -308,10 +308,10 @@ import json, sys
 letters = ["."] * 400
 for it in json.load(sys.stdin)["extents"]:
     for block in range(it["block"], it["block"] + it["count"]): letters[block] = "p" if it["level"] else "f"
-print("".join(letters))' < extents)" "$(cat cells)"
-has 'the numbers of the blocks of one file' "$(tr -cd f < cells | wc -c) f file
-$(tr -cd p < cells | wc -c) p pointer
-$(tr -cd . < cells | wc -c) . other blocks" "$(cat counted)"
+print("".join(letters))' < extents)" "$(cat shown)"
+has 'the numbers of the blocks of one file' "$(tr -cd f < shown | wc -c) f file
+$(tr -cd p < shown | wc -c) p pointer
+$(tr -cd . < shown | wc -c) . other blocks" "$(cat counted)"
 runs map --svg --file / 7 deep.v7
 has 'the squares of the blocks of a directory' 1 "$(grep -c ': directory</title></path>$' output)"
 has 'the other squares' 399 "$(grep -c ": other blocks</title></path>$" output)"

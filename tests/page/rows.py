@@ -652,7 +652,7 @@ def check_quiet(page, _):
 
 ROWS = [
     check_packed, check_open, check_views, check_lessons, check_ten_steps, check_changes, check_scripts, check_play, check_new, check_bytes, check_damaged,
-    check_several, check_pack, check_keys, check_narrow, check_hostile, check_bounds, check_large, check_quiet,
+    check_rescue, check_repair, check_several, check_pack, check_keys, check_narrow, check_hostile, check_bounds, check_large, check_quiet,
 ]
 
 

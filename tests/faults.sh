@@ -44,6 +44,11 @@ printf 'view\n6 0 0 stat /d1\n7 0 0 list /d1\n' > watcher
 "$program" export 7 wanted/old /d1 > archive || exit 1
 "$program" mkdir 7 wanted/old /d7/new 4 || exit 1
 
+# A pack: the same volume from block 100 on, and other bytes around it. And a volume whose links are wrong.
+{ head -c 51200 /dev/zero && cat wanted/old && head -c 25600 /dev/urandom; } > wanted/pack
+cp wanted/old wanted/broken
+printf '\7' | dd of=wanted/broken bs=1 seek=$((1024 + 64 + 2)) conv=notrunc status=none
+
 # commands: the words of each command; `image` is a copy of the volume that its label names before the colon
 commands=(
     'old: ls 7 image /d1'
@@ -71,6 +76,11 @@ commands=(
     'old: mv 7 image /d5/file /d1/moved 5'
     'old: rm -r 7 image /d6 5'
     'damaged: salvage 7 image'
+    'pack: ls 7 image /d1 --at 100'
+    'pack: put 7 image /d1/more body 5 --at 100'
+    'pack: rm -r 7 image /d6 5 --at 100'
+    'broken: repair 7 image -n'
+    'broken: repair 7 image copy 5'
 )
 for optional in 'old: dcheck 7 image 2' 'old: ncheck 7 image 2' 'old: play 7 image script' 'old: play 7 image script watcher' 'old_six: migrate six image 9000 200 5'; do
     read -r _ name _ <<< "$optional"

@@ -64,13 +64,14 @@ export async function renew() {
 /** Returns words as a shell takes them. */
 export const shellWords = (words) => words.map((it) => (/^[\w./:+,@%=-]+$/.test(it) ? it : `'${it.replaceAll("'", "'\\''")}'`)).join(' ');
 
-/** Runs a command of `unixvol`. `into` names the file that its output is saved as, and `from` the one that it reads. */
-export async function runs(args, { stdin, limit, asBlob, into, from } = {}) {
+/** Runs a command of `unixvol`. `into` names the file that its output is saved as, and `from` the one that it reads. If `isPlain`, faults have no second
+  line that explains them. */
+export async function runs(args, { stdin, limit, asBlob, into, from, isPlain } = {}) {
   const line = `unixvol ${shellWords(args)}${from ? ` < ${shellWords([from])}` : ''}${into ? ` > ${shellWords([into])}` : ''}`;
   const entry = { line, status: 'runs', ms: 0 };
   log.push(entry);
   try {
-    const ended = await ask('run', { args, stdin, limit, asBlob }, line);
+    const ended = await ask('run', { args, stdin, limit, asBlob, isPlain }, line);
     Object.assign(entry, { status: ended.cut ? 'cut off' : ended.status, ms: ended.ms });
     ended.text = ended.output && new TextDecoder().decode(ended.output);
     return ended;

@@ -49,8 +49,8 @@ async function runStep(list, place) {
   const out = el('pre', { className: 'came', 'aria-live': 'polite' });
   place.replaceChildren(button('Run this again', () => runStep(list, place), { className: 'run' }), out);
   for (const { line, prints } of list) {
-    const ended = await runLine(line);
-    const came = ended.text + ended.error.split('\n').filter((it, k) => k === 0).map((it) => (it ? `${it}\n` : '')).join('');
+    const ended = await runLine(line, { isPlain: true });
+    const came = ended.text + ended.error;
     const isSame = came === prints;
     out.append(el('b', {}, `$ ${line}\n`), came, isSame ? el('span', { className: 'good' }, '✓ as the lesson has it\n')
       : el('span', { className: 'bad' }, '✗ the lesson has something else: begin again at step 1\n'));

@@ -125,22 +125,22 @@ const TOOLS = {
 
 const NONE = new Uint8Array(0);
 
-async function stage({ words, from }, input, line) {
+async function stage({ words, from }, input, line, isPlain) {
   const given = from === undefined ? input : await readFile(from);
   if (Object.hasOwn(TOOLS, words[0])) return { status: 0, output: await TOOLS[words[0]](words.slice(1), given, line), error: '' };
   const args = words[0] === 'unixvol' ? words.slice(1) : words;
-  const ended = await runs(args, { stdin: given, from });
+  const ended = await runs(args, { stdin: given, from, isPlain });
   await note(ended.changes, `unixvol ${shellWords(args)}`);
   return ended;
 }
 
-/** Runs a line. Returns its output as text and bytes, its errors and its status. */
-export async function runLine(line) {
+/** Runs a line. Returns its output as text and bytes, its errors and its status. If `isPlain`, faults have no second line that explains them. */
+export async function runLine(line, { isPlain = false } = {}) {
   let ended = { status: 0, output: NONE, error: '' };
   let error = '';
   try {
     for (const it of readLine(line)) {
-      ended = await stage(it, ended.output ?? NONE, line);
+      ended = await stage(it, ended.output ?? NONE, line, isPlain);
       error += ended.error;
       if (it.into === undefined) continue;
       await writeFile(it.into, ended.output);

@@ -80,15 +80,15 @@ function changes(before) {
   return found;
 }
 
-/** Runs a command; `limit` bounds its output. */
-function runs({ id, args, stdin, limit = Infinity, asBlob = false }) {
+/** Runs a command; `limit` bounds its output. If `isPlain`, its faults have no second line. */
+function runs({ id, args, stdin, limit = Infinity, asBlob = false, isPlain = false }) {
   const before = new Map([...files].map(([name, file]) => [name, { file, bytes: files.bytes(name), mtime: file.mtime }]));
   const output = new Output(id, limit);
   const begun = performance.now();
   let status = null;
   let cut = false;
   try {
-    const ended = run(program, args, files, { stdin, env: { UNIXVOL_EXPLAIN: '1' }, write: (stream, bytes) => output.take(stream, bytes) });
+    const ended = run(program, args, files, { stdin, env: { UNIXVOL_EXPLAIN: isPlain ? '0' : '1' }, write: (stream, bytes) => output.take(stream, bytes) });
     status = ended.status;
   } catch (fault) {
     if (!(fault instanceof TooMuch)) throw fault;

@@ -18,7 +18,7 @@ use Rattle.vol_volume.specs.Verdict.{first_of, of_node, owner_tests, verdict}
 use Rattle.vol_volume.specs.Volume.{reads_as}
 use Rattle.vol_import.proofs.MadeNames.{HasNamesOf, LeadsTo, names_set, path_kept}
 use Rattle.vol_import.proofs.MadePaths.{create_gains, node_found, stat_answered}
-use Rattle.vol_import.proofs.TreeWalks.{passes_first}
+use Rattle.vol_volume.proofs.TreeWalks.{passes_first}
 use Rattle.command_faults.specs.ChangeFaults.{AreLeft, Makes}
 use Rattle.command_changes.specs.Lookup.{found_by}
 use Rattle.command_changes.specs.Touch.{HasTimes, touch_call, touch_found}

@@ -11,10 +11,11 @@ use Rattle.vol_layout.specs.declared.geometry.GeometryFault.{GeometryFault}
 use Rattle.vol_layout.proofs.GeometryLaws.{geometry_is}
 use Rattle.vol_dir.specs.declared.refusal.Refusal.{Refusal}
 use Rattle.vol_losses.specs.CutImages.{IsCompleted, IsCompletedIf, IsFilled, has_size}
-use Rattle.vol_archive.specs.Export.{directory_at, lost_directory_at, lost_start_read, start_in, start_read}
+use Rattle.vol_archive.specs.Export.{lost_directory_at, lost_start_read}
+use Rattle.vol_dir.specs.Directories.{directory_at, found_in as start_in, found_read as start_read}
 use Rattle.vol_archive.specs.Members.{archive_bytes}
-use Rattle.vol_archive.specs.declared.export_tree.ExportStart.{ExportStart}
-use Rattle.vol_archive.specs.declared.export_tree.StartFault.{StartFault}
+use Rattle.vol_dir.specs.declared.directories.FoundDirectory.{FoundDirectory as ExportStart}
+use Rattle.vol_dir.specs.declared.directories.DirectoryFault.{DirectoryFault as StartFault}
 use Rattle.vol_rescue.specs.Damage.{kept_entries}
 use Rattle.vol_rescue.proofs.RightMembers.{cut_archives_right}
 use Rattle.command_reads.specs.Export.{begun}

@@ -5,7 +5,7 @@ use Rattle.vol_losses.specs.CutImages.{IsCompleted, IsIncomplete}
 use Rattle.vol_losses.specs.declared.cut_images.CutFault.{CutFault}
 use Rattle.vol_losses.specs.declared.cut_images.CutFault.TheVariants as cuts
 use Rattle.vol_archive.specs.Members.{archive_bytes}
-use Rattle.vol_archive.specs.declared.export_tree.ExportStart.{ExportStart}
+use Rattle.vol_dir.specs.declared.directories.FoundDirectory.{FoundDirectory as ExportStart}
 use Rattle.vol_archive.specs.declared.met_entries.MetEntry.{MetEntry}
 use Rattle.vol_rescue.specs.Damage.{kept_entries}
 use Rattle.vol_rescue.specs.Lines.{TellsLosses}

@@ -5,9 +5,9 @@ use Rattle.escaped_text.specs.Escape.{escaped}
 use Rattle.serde_json.specs.Data.{Data, array, member, no_members, object, string}
 use Rattle.serde_json.specs.View.{items_of}
 use Rattle.serde_json.specs.Written.{compact_text}
-use Rattle.vol_archive.specs.Export.{start_of}
-use Rattle.vol_archive.specs.declared.export_tree.ExportStart.{ExportStart}
-use Rattle.vol_archive.specs.declared.export_tree.StartFault.{StartFault}
+use Rattle.vol_dir.specs.Directories.{find_directory as start_of}
+use Rattle.vol_dir.specs.declared.directories.FoundDirectory.{FoundDirectory as ExportStart}
+use Rattle.vol_dir.specs.declared.directories.DirectoryFault.{DirectoryFault as StartFault}
 use Rattle.vol_dir.specs.Entries.{slot_count}
 use Rattle.vol_layout.specs.Body.{body}
 use Rattle.vol_layout.specs.Slot.{name_of, slot_at}

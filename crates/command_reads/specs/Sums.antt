@@ -1,7 +1,7 @@
 -- The manifest of a tree.
 use Rattle.std.specs.Prelude.{◌≡◌, ◌⊎◌, ℕ, false, Bool, List, Ok, Err}
-use Rattle.vol_archive.specs.declared.export_tree.ExportStart.{ExportStart}
-use Rattle.vol_archive.specs.declared.export_tree.StartFault.{StartFault}
+use Rattle.vol_dir.specs.declared.directories.FoundDirectory.{FoundDirectory as ExportStart}
+use Rattle.vol_dir.specs.declared.directories.DirectoryFault.{DirectoryFault as StartFault}
 use Rattle.vol_archive.specs.declared.met_entries.MetEntry.{MetEntry}
 use Rattle.vol_dir.specs.Tree.{Tree, tree}
 use Rattle.vol_layout.specs.declared.edition.Edition.{Edition}

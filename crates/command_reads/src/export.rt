@@ -18,11 +18,11 @@ use command_faults::status::{DONE, REFUSED};
 use command_faults::{Ending, Fault};
 use pdp_words::{Image, Sink};
 use std::alloc::{AllocError, Global};
-use vol_archive::{
-    ExportStart, Rescue, StartFault, WriteFault, lost_start_of, put_archive, rescue_below,
-    start_of, walk,
+use vol_archive::{Rescue, WriteFault, lost_start_of, put_archive, rescue_below, walk};
+use vol_dir::{
+    DirectoryFault as StartFault, FoundDirectory as ExportStart, Refusal,
+    find_directory as start_of,
 };
-use vol_dir::Refusal;
 use vol_inspect::lost_inodes;
 use vol_layout::{Edition, Geometry};
 use vol_listing::Screen;

@@ -1,5 +1,6 @@
 pub use Rattle.pdp_words.specs.Devices
 pub use Rattle.vol_layout.specs.Geometry
+pub use Rattle.vol_dir.specs.Directories
 pub use Rattle.vol_dir.specs.Tree
 pub use Rattle.vol_judge.specs.Sound
 pub use Rattle.vol_volume.specs.Answer

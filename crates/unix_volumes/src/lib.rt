@@ -34,12 +34,12 @@
 pub use pdp_words::{
     BLOCK, FromRead, Image, IntoWrite, LoadFault, SaveFault, Sink, Source, load, save, write_all,
 };
-pub use vol_archive::{ExportStart, StartFault, WriteFault, export, start_of};
+pub use vol_archive::{WriteFault, export};
 pub use vol_check::{
     CheckSeat, Checker, Gate, MOST_WORKERS, Open, Piece, SalvageFault, Sweep, dcheck, icheck,
     ncheck, salvage,
 };
-pub use vol_dir::{Cred, Refusal};
+pub use vol_dir::{Cred, DirectoryFault, FoundDirectory, Refusal, find_directory};
 pub use vol_findings as rules;
 pub use vol_import::{ArchiveFault, ImportFault, ImportOptions, Imported, import, import_with};
 pub use vol_layout::{Edition, Geometry, GeometryFault, Kind};

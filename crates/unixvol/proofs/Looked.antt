@@ -1,9 +1,9 @@
 -- The end of a command that shows part of an image.
 use Rattle.std.proofs.Common.{◌≡◌, ℕ, ◌≤◌, ◌==◌, ◌||◌, Bool, true, false, if◌then◌else◌, List, [], ◌∷◌, length, Option, Result, Ok, Err, inl, inr, refl, sym, ap, subst, ◌∙◌, arith}
 use Rattle.std.proofs.lemmas.Bool.{ne_eqb, true≢false}
-use Rattle.vol_archive.specs.declared.export_tree.ExportStart.{ExportStart}
-use Rattle.vol_archive.specs.declared.export_tree.StartFault.{StartFault}
-use Rattle.vol_archive.specs.declared.export_tree.StartFault.TheVariants as starts
+use Rattle.vol_dir.specs.declared.directories.FoundDirectory.{FoundDirectory as ExportStart}
+use Rattle.vol_dir.specs.declared.directories.DirectoryFault.{DirectoryFault as StartFault}
+use Rattle.vol_dir.specs.declared.directories.DirectoryFault.TheVariants as starts
 use Rattle.command_faults.proofs.Concluded.{fault_few}
 use Rattle.command_faults.specs.Faults.{no_memory}
 use Rattle.command_faults.specs.Streams.{Streams}

@@ -10,13 +10,13 @@ use Rattle.vol_check.specs.SweepReports.{IsReport}
 use Rattle.vol_check.specs.declared.checker.Checker.{Checker}
 use Rattle.vol_check.specs.declared.checker.Checker.TheVariants.{Blocks, Entries, Names}
 use Rattle.vol_findings.specs.Reports.{IsReport as IsFindings}
-use Rattle.vol_archive.specs.Export.{start_of}
+use Rattle.vol_dir.specs.Directories.{find_directory}
 use Rattle.vol_archive.specs.Laws.{is_kept}
 use Rattle.vol_archive.specs.Members.{archive_bytes}
 use Rattle.vol_archive.specs.Walk.{IsWalk}
-use Rattle.vol_archive.specs.declared.export_tree.ExportStart.{ExportStart}
-use Rattle.vol_archive.specs.declared.export_tree.StartFault.{StartFault}
-use Rattle.vol_archive.specs.declared.export_tree.StartFault.TheVariants.{Unsound, Refused}
+use Rattle.vol_dir.specs.declared.directories.FoundDirectory.{FoundDirectory}
+use Rattle.vol_dir.specs.declared.directories.DirectoryFault.{DirectoryFault}
+use Rattle.vol_dir.specs.declared.directories.DirectoryFault.TheVariants.{Unsound, Refused}
 use Rattle.vol_archive.specs.declared.met_entries.MetEntry.{MetEntry}
 use Rattle.unixvol_c.specs.Opened.{Opened}
 
@@ -48,7 +48,7 @@ abbrev pub left_out : List MetEntry → ℕ
 left_out founds = count_by (λ (found : MetEntry). not (is_kept found.role)) founds
 
 -- the bytes are the archive of the entries that the walk found below a starting directory, and `count` of these are left out (POSIX ustar)
-pub record IsArchive (start : ExportStart) (image bytes : List ℕ) (count : ℕ) : Type 0 where
+pub record IsArchive (start : FoundDirectory) (image bytes : List ℕ) (count : ℕ) : Type 0 where
   pub founds : List MetEntry
   pub walked : IsWalk start.geometry image start.inode founds
   pub members : bytes ≡ archive_bytes start.geometry image founds
@@ -56,13 +56,13 @@ pub record IsArchive (start : ExportStart) (image bytes : List ℕ) (count : ℕ
 
 -- the archive of the contents of the directory at a path is stored as the answer, and the volume is unchanged (this project)
 pub record KeepsArchive (path : List ℕ) (count : ℕ) (old new : Opened) : Type 0 where
-  pub start : ExportStart
-  pub begun : start_of old.volume.edition old.volume.image path ≡ Ok start
+  pub start : FoundDirectory
+  pub begun : find_directory old.volume.edition old.volume.image path ≡ Ok start
   pub archive : IsArchive start old.volume.image new.answer count
   pub volume : new.volume ≡ old.volume
 
 -- the number for the reason why there is nothing to export (this project)
-abbrev pub start_number : StartFault → ℕ
+abbrev pub start_number : DirectoryFault → ℕ
 start_number (Unsound Short) = 201
 start_number (Unsound Bounds) = 202
 start_number (Refused refusal) = number_of refusal
@@ -70,7 +70,7 @@ start_number (Refused refusal) = number_of refusal
 -- no export can start at a path, and this is the number for the reason (this project)
 abbrev pub IsNoStart : List ℕ → Opened → ℤ → Type 0
 IsNoStart path held number =
-    (fault : StartFault) × (start_of held.volume.edition held.volume.image path ≡ Err fault) × (number ≡ pos (start_number fault))
+    (fault : DirectoryFault) × (find_directory held.volume.edition held.volume.image path ≡ Err fault) × (number ≡ pos (start_number fault))
 
 -- a text has the findings for the twelve rules (this project)
 pub record Explains (edition : Edition) (image text : List ℕ) : Type 0 where

@@ -14,8 +14,9 @@ use crate::queries::put_bytes;
 use crate::{CLOSED, DONE, NO_MEMORY, NO_REPORT};
 use pdp_words::{Image, IntoWrite};
 use std::alloc::{AllocError, Global};
-use vol_archive::{ExportStart, Role, StartFault, export, start_of};
+use vol_archive::{Role, export};
 use vol_check::{CheckSeat, Checker, Sweep};
+use vol_dir::{DirectoryFault, FoundDirectory, find_directory};
 use vol_layout::{Edition, GeometryFault};
 use vol_reports::Report;
 
@@ -199,7 +200,7 @@ fn keep_archive(alloc: Global, held: &mut OpenVolume, path: &[u8], left_out: &mu
     ensures unchanged { result ≢ DONE → (held.new ≡ held.old) × (left_out.new ≡ left_out.old) }
 {
     let volume = held.volume();
-    let start = match start_of(volume.edition(), volume.image(), path) {
+    let start = match find_directory(volume.edition(), volume.image(), path) {
         Ok(start) => start,
         Err(fault) => return start_number(fault),
     };
@@ -216,7 +217,7 @@ fn keep_archive(alloc: Global, held: &mut OpenVolume, path: &[u8], left_out: &mu
 }
 
 /// Returns the archive of everything below a starting directory.
-fn archive_of(alloc: Global, image: &Image, start: &ExportStart) -> Result<Archive, AllocError>
+fn archive_of(alloc: Global, image: &Image, start: &FoundDirectory) -> Result<Archive, AllocError>
     requires fits { Fits start.now.geometry image.now }
     requires directory { IsDirectory start.now.geometry image.now start.now.inode }
     ensures { IfOk result (λ archive. IsArchive start.now image.now archive.bytes.items archive.left_out) }
@@ -236,13 +237,13 @@ fn archive_of(alloc: Global, image: &Image, start: &ExportStart) -> Result<Archi
 }
 
 /// Returns the number for the reason why there is nothing to export.
-fn start_number(fault: StartFault) -> i32
+fn start_number(fault: DirectoryFault) -> i32
     ensures number { result ≡ pos (start_number fault) }
     ensures few { (result ≢ DONE) × (result ≢ CLOSED) }
 {
     match fault {
-        StartFault::Unsound(GeometryFault::Short) => 201,
-        StartFault::Unsound(GeometryFault::Bounds) => 202,
-        StartFault::Refused(refusal) => refusal.number() as i32,
+        DirectoryFault::Unsound(GeometryFault::Short) => 201,
+        DirectoryFault::Unsound(GeometryFault::Bounds) => 202,
+        DirectoryFault::Refused(refusal) => refusal.number() as i32,
     }
 }

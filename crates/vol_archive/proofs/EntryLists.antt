@@ -15,14 +15,13 @@ use Rattle.vol_layout.specs.Slot.{name_of, slot_at}
 use Rattle.vol_layout.specs.Body.{body}
 use Rattle.vol_layout.specs.declared.geometry.Geometry.{Geometry}
 use Rattle.vol_layout.specs.declared.slot.Slot.{Slot}
-use Rattle.vol_dir.proofs.Components.{one_piece}
 use Rattle.vol_dir.specs.Entries.{entry_in, entry_at, slot_count, slots}
 use Rattle.vol_dir.specs.Names.{Names, get, names_of, is_dots}
-use Rattle.vol_dir.specs.Walk.{is_nil, components}
+use Rattle.vol_dir.specs.Walk.{components, is_plain}
 use Rattle.vol_dir.proofs.NameMaps.{sorted}
-use Rattle.vol_dir.proofs.Components.{components-nil}
+use Rattle.vol_dir.proofs.Components.{components-nil, one_component}
 use Rattle.vol_dir.proofs.PathJoins.{components-join}
-use Rattle.vol_archive.specs.Walk.{is_plain, path_below, entry_below, pending_below, entries_below}
+use Rattle.vol_archive.specs.Walk.{path_below, entry_below, pending_below, entries_below}
 use Rattle.vol_archive.specs.declared.pending.Pending.{Pending}
 use Rattle.vol_archive.proofs.Each.{Each, each_append, each_both}
 
@@ -114,19 +113,6 @@ found_each (e ∷ es) h =
 pub directory_found : (geometry : Geometry) (image : List ℕ) (d : ℕ)
     → Each (λ (e : List ℕ × ℕ). get (names_of (slots geometry image d)) e.0 ≡ Some e.1) (names_of (slots geometry image d))
 directory_found geometry image d = found_each (names_of (slots geometry image d)) (sorted (slots geometry image d))
-
--- a plain name of at most 14 bytes is its only component
-pub one_component : (name : List ℕ) → is_plain name ≡ true → IsShort name → components name ≡ name ∷ []
-unfolding components
-one_component name plain short =
-    let parts = plain_parts (is_nil name) (list_any (λ c. c == 47) name) plain in
-    ap (λ ps. map (take 14) (filter (λ piece. not (is_nil piece)) ps)) (one_piece name parts.1)
-    ∙ (ap (λ b. map (take 14) (cond (not b) (name ∷ []) [])) parts.0 ∙ ap (λ n. n ∷ []) (take_all 14 name short))
-  where
-    plain_parts : (a b : Bool) → (not a && not b) ≡ true → (a ≡ false) × (b ≡ false)
-    plain_parts true b e = absurd (true≢false (sym e))
-    plain_parts false true e = absurd (true≢false (sym e))
-    plain_parts false false e = (refl, refl)
 
 -- the components of a name below a path are the path's components followed by the name
 pub component_below : (path name : List ℕ) → is_plain name ≡ true → IsShort name → components (path_below path name) ≡ components path ++ name ∷ []

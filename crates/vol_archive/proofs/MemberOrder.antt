@@ -10,10 +10,10 @@ use Rattle.std.specs.declared.cmp.Ordering.TheVariants.{Less, Equal, Greater}
 use Rattle.vol_layout.specs.declared.geometry.Geometry.{Geometry}
 use Rattle.vol_dir.specs.Entries.{slots}
 use Rattle.vol_dir.specs.Names.{Names, names_of, is_dots}
-use Rattle.vol_dir.specs.Walk.{components}
+use Rattle.vol_dir.specs.Walk.{components, is_plain}
 use Rattle.vol_dir.proofs.NameMaps.{sorted}
 use Rattle.vol_archive.specs.Laws.{is_kept, members_of, MembersAscend, MembersDiffer}
-use Rattle.vol_archive.specs.Walk.{Walks, is_plain, path_below, pending_below, met, below, entries_below, role_of, first_met, IsWalk}
+use Rattle.vol_archive.specs.Walk.{Walks, path_below, pending_below, met, below, entries_below, role_of, first_met, IsWalk}
 use Rattle.vol_archive.specs.declared.met_entries.MetEntry.{MetEntry}
 use Rattle.vol_archive.specs.declared.met_entries.Role.{Role}
 use Rattle.vol_archive.specs.declared.met_entries.Role.TheVariants as roles

@@ -16,8 +16,9 @@ use Rattle.vol_dir.specs.Entries.{entry_at, slot_count, slots, IsDirectory, HasE
 use Rattle.vol_dir.specs.Names.{Names, get, names_of}
 use Rattle.vol_dir.specs.Tree.{is_number}
 use Rattle.vol_dir.proofs.WalkLaws.{found_in_use}
+use Rattle.vol_dir.specs.Walk.{is_plain}
 use Rattle.vol_archive.specs.Laws.{EntriesHaveNodes}
-use Rattle.vol_archive.specs.Walk.{Walks, is_plain, met, below, entries_below, role_of, node_role, file_role, role_after, has_room, first_met}
+use Rattle.vol_archive.specs.Walk.{Walks, met, below, entries_below, role_of, node_role, file_role, role_after, has_room, first_met}
 use Rattle.vol_archive.specs.declared.met_entries.MetEntry.{MetEntry}
 use Rattle.vol_archive.specs.declared.met_entries.Role.{Role}
 use Rattle.vol_archive.specs.declared.met_entries.Role.TheVariants as roles

@@ -9,8 +9,9 @@ use Rattle.vol_layout.specs.declared.geometry.Geometry.{Geometry}
 use Rattle.vol_file.proofs.PlaceLists.{same_bytes}
 use Rattle.vol_dir.specs.Entries.{slots}
 use Rattle.vol_dir.specs.Names.{Names, get, names_of, is_dots}
+use Rattle.vol_dir.specs.Walk.{is_plain}
 use Rattle.vol_archive.specs.Laws.{HasMet, HasMetAllOf, DirectoriesAreWhole}
-use Rattle.vol_archive.specs.Walk.{Walks, is_plain, path_below, entry_below, pending_below, met, below, entries_below}
+use Rattle.vol_archive.specs.Walk.{Walks, path_below, entry_below, pending_below, met, below, entries_below}
 use Rattle.vol_archive.specs.declared.met_entries.MetEntry.{MetEntry}
 use Rattle.vol_archive.specs.declared.met_entries.Role.TheVariants as roles
 use Rattle.vol_archive.specs.declared.pending.Pending.{Pending}

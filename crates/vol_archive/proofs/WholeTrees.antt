@@ -16,12 +16,12 @@ use Rattle.vol_dir.specs.Entries.{slots, IsDirectory, HasEntries}
 use Rattle.vol_dir.specs.Names.{Names, get, names_of, is_dots}
 use Rattle.vol_dir.specs.Tree.{tree, is_number}
 use Rattle.pdp_words.specs.Steps.{and_then}
-use Rattle.vol_dir.specs.Walk.{search, components, walk_from}
+use Rattle.vol_dir.specs.Walk.{search, components, walk_from, is_plain}
 use Rattle.vol_dir.proofs.WalkLaws.{search-outside, search-directory, search-other}
 use Rattle.vol_dir.specs.declared.refusal.Refusal.TheVariants as refusals
 use Rattle.vol_dir.specs.Access.{user}
 use Rattle.vol_archive.specs.Laws.{is_kept, members_of, HasMetAllOf, MembersAreTheTree}
-use Rattle.vol_archive.specs.Walk.{Walks, is_plain, path_below, first_met}
+use Rattle.vol_archive.specs.Walk.{Walks, path_below, first_met}
 use Rattle.vol_archive.specs.declared.met_entries.MetEntry.{MetEntry}
 use Rattle.vol_archive.specs.declared.met_entries.Role.{Role}
 use Rattle.vol_archive.specs.declared.met_entries.Role.TheVariants as roles

@@ -12,6 +12,7 @@ use Rattle.vol_dir.specs.Names.{Names, get, names_of, is_dots}
 use Rattle.vol_dir.specs.Tree.{Body, Directory, Device, Node, tree}
 use Rattle.vol_dir.specs.Walk.{components, walk_from}
 use Rattle.vol_judge.specs.Directories.{IsTree, root_of}
+use Rattle.vol_layout.specs.Inode.{is_block_type}
 use Rattle.vol_layout.specs.declared.geometry.Geometry.{Geometry}
 use Rattle.vol_dir.specs.Access.{user}
 use Rattle.vol_archive.specs.Export.{is_directory}
@@ -113,10 +114,9 @@ header_for node kind size device = record {
   minor = device % 256;
 }
 
--- the kind of a special file with these type bits, octal 06 or 02; the multiplexor types 07 and 03 count as a block and as a character special file
--- (stat.h; the multiplexor types are this project's)
+-- the kind of a special file with these type bits (stat.h)
 abbrev pub device_kind : ℕ → MemberKind
-device_kind type = if type / 2 % 4 == 3 then members.Block else members.Character
+device_kind type = if is_block_type type then members.Block else members.Character
 
 -- a member for a node with this role has these bytes: for a regular file the header and the bytes of the file, for another name the path of the first
 -- one (POSIX, ustar interchange format)

@@ -7,7 +7,7 @@ use Rattle.vol_file.specs.Rules.{kind_at}
 use Rattle.vol_dir.specs.Entries.{slots}
 use Rattle.vol_dir.specs.Names.{Names, names_of, is_dots}
 use Rattle.vol_dir.specs.Tree.{is_number}
-use Rattle.vol_dir.specs.Walk.{is_nil}
+use Rattle.vol_dir.specs.Walk.{is_nil, is_plain}
 use Rattle.vol_layout.specs.declared.geometry.Geometry.{Geometry}
 use Rattle.vol_layout.specs.declared.mode.Kind.{Kind}
 use Rattle.vol_layout.specs.declared.mode.Kind.TheVariants as kinds
@@ -16,10 +16,6 @@ use Rattle.vol_archive.specs.declared.met_entries.Role.{Role}
 use Rattle.vol_archive.specs.declared.met_entries.Role.TheVariants as roles
 use Rattle.vol_archive.specs.declared.met_entries.Reason.TheVariants as reasons
 use Rattle.vol_archive.specs.declared.pending.Pending.{Pending}
-
--- true if a name is not empty and has no slash (manual section 5, directories; the rule is this project's)
-abbrev pub is_plain : List ℕ → Bool
-is_plain name = not (is_nil name) && not (list_any (λ c. c == 47) name)
 
 -- the path of a name in the directory at a path (this project)
 abbrev pub path_below : List ℕ → List ℕ → List ℕ

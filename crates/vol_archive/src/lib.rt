@@ -12,10 +12,9 @@ pub mod rescue;
 pub mod tree_walk;
 pub mod write;
 
-pub use export_tree::{ExportStart, StartFault, export, is_directory, lost_start_of, start_of};
-pub use members::{device_number, put_archive, special_kind};
+pub use export_tree::{export, is_directory, lost_start_of};
+pub use members::put_archive;
 pub use met_entries::{MetEntry, Reason, Role};
-pub use names::is_plain;
 pub use rescue::{Rescue, rescue_below};
 pub use tree_walk::walk;
 pub use write::WriteFault;

@@ -2,12 +2,12 @@
 ghost use Rattle.std.specs.Prelude.{◌≡◌, ◌++◌, ◌∷◌, [], IfOk, OnOk, map};
 ghost use Rattle.vol_layout.specs.Geometry.{Fits};
 ghost use Rattle.vol_dir.specs.Entries.{IsDirectory};
-ghost use Rattle.vol_archive.specs.Walk.{is_plain, path_below, entry_below, pending_below, entries_below, lost_entry};
+ghost use Rattle.vol_archive.specs.Walk.{path_below, entry_below, pending_below, entries_below, lost_entry};
 
 use crate::pending::Pending;
 use pdp_words::{Bytes, Image};
 use std::alloc::{AllocError, Global};
-use vol_dir::{is_dots, list_names};
+use vol_dir::{is_dots, is_plain, list_names};
 use vol_layout::Geometry;
 
 /// Returns the entries of the directory `dir` at a path, except `.` and `..`, in ascending order of their names. If several entries have the same
@@ -110,11 +110,4 @@ pub(crate) fn slashed(alloc: Global, path: &[u8]) -> Result<Vec<u8>, AllocError>
     let mut slashed = Vec::from_slice(alloc, path)?;
     slashed.push(b'/')?;
     Ok(slashed)
-}
-
-/// True if a name is not empty and has no slash.
-pub fn is_plain(name: &[u8]) -> bool
-    ensures { result ≡ is_plain name.now }
-{
-    !name.is_empty() && !name.contains(&b'/')
 }

@@ -1,10 +1,8 @@
 -- The members of a tree: what each path leads to.
 use Rattle.std.specs.Prelude.{◌≡◌, ℕ, Bool, true, false, not, if◌then◌else◌, List, [], ◌∷◌, map, slice_get}
 use Rattle.std.specs.Option.{option_map_or}
-use Rattle.ustar.specs.declared.header.MemberKind.{MemberKind}
-use Rattle.ustar.specs.declared.header.MemberKind.TheVariants as tars
 use Rattle.vol_layout.specs.Body.{body}
-use Rattle.vol_layout.specs.Inode.{inode_of, permissions_of}
+use Rattle.vol_layout.specs.Inode.{device_of, inode_of, is_block, permissions_of}
 use Rattle.vol_layout.specs.declared.geometry.Geometry.{Geometry}
 use Rattle.vol_layout.specs.declared.i_node.Inode.{Inode}
 use Rattle.vol_layout.specs.declared.mode.Kind.{Kind}
@@ -13,7 +11,6 @@ use Rattle.vol_file.specs.Rules.{kind_at}
 use Rattle.vol_dir.specs.Tree.{is_number}
 use Rattle.vol_judge.specs.Directories.{root_of}
 use Rattle.vol_archive.specs.Export.{is_directory}
-use Rattle.vol_archive.specs.Members.{device_of, special_kind}
 use Rattle.vol_archive.specs.Walk.{IsWalk}
 use Rattle.vol_archive.specs.declared.met_entries.MetEntry.{MetEntry}
 use Rattle.vol_archive.specs.declared.met_entries.Reason.{Reason}
@@ -52,12 +49,8 @@ pub record Member : Type 0 where
   pub content : Content
 
 -- the kind of a special file, with its device (stat.h)
-abbrev pub device_kind : MemberKind → ℕ → NodeKind
-device_kind tars.Block device = nodes.Block device
-device_kind tars.Character device = nodes.Character device
-device_kind tars.File device = nodes.Character device
-device_kind tars.Directory device = nodes.Character device
-device_kind tars.Link device = nodes.Character device
+abbrev pub special_kind : Inode → NodeKind
+special_kind node = if is_block node.mode.bits then nodes.Block (device_of node) else nodes.Character (device_of node)
 
 -- a time that is compared, or 0 (this project)
 abbrev pub time_if : Bool → ℕ → ℕ
@@ -81,7 +74,7 @@ facts_of times node kind = record {
 abbrev pub role_content : Bool → Geometry → List ℕ → List MetEntry → ℕ → Inode → Role → Content
 role_content times g image founds i node roles.File = Own (facts_of times node (nodes.File node.size)) (body g image i)
 role_content times g image founds i node roles.Directory = Own (facts_of times node nodes.Directory) []
-role_content times g image founds i node roles.Special = Own (facts_of times node (device_kind (special_kind node) (device_of node))) []
+role_content times g image founds i node roles.Special = Own (facts_of times node (special_kind node)) []
 role_content times g image founds i node (roles.Link k) = option_map_or (λ (first : MetEntry). Further first.path) (slice_get founds k) (LeftOut reasons.NoNode)
 role_content times g image founds i node (roles.Left reason) = LeftOut reason
 

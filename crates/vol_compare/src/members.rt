@@ -3,14 +3,13 @@ ghost use Rattle.std.specs.Prelude.{◌≡◌, ◌≤◌, IfOk};
 ghost use Rattle.vol_layout.specs.Geometry.{Fits};
 ghost use Rattle.vol_layout.specs.declared.mode.Kind.{Kind};
 ghost use Rattle.vol_judge.specs.Directories.{root_of};
-ghost use Rattle.vol_compare.specs.Members.{AreMet, content_at, content_of, facts_of, role_content, root_entry, root_role, device_kind, is_file, time_if};
-ghost use Rattle.vol_archive.specs.Members.{special_kind, device_of};
+ghost use Rattle.vol_compare.specs.Members.{AreMet, content_at, content_of, facts_of, role_content, root_entry, root_role, special_kind, is_file, time_if};
 ghost use Rattle.vol_layout.specs.Inode.{inode_of};
 ghost use Rattle.vol_compare.specs.declared.members.Facts.{Facts};
 
 use pdp_words::{Bytes, Image};
 use std::alloc::{AllocError, Global};
-use vol_archive::{MetEntry, Reason, Role, device_number, is_directory, special_kind, walk};
+use vol_archive::{MetEntry, Reason, Role, is_directory, walk};
 use vol_layout::i_list::kind;
 use vol_layout::{Geometry, Inode, Kind, inode};
 
@@ -189,11 +188,13 @@ fn role_target<'a>(tree: &'a MetTree<'_>, i: u16, role: Role, times: bool) -> Ta
 
 /// Returns the kind of a special file.
 fn special(node: &Inode) -> NodeKind
-    ensures { result ≡ device_kind (special_kind node.now) (device_of node.now) }
+    ensures { result ≡ special_kind node.now }
 {
-    match special_kind(node) {
-        ustar::MemberKind::Block => NodeKind::Block(device_number(node)),
-        _ => NodeKind::Character(device_number(node)),
+    let device = node.device_number();
+    if node.mode.is_block() {
+        NodeKind::Block(device)
+    } else {
+        NodeKind::Character(device)
     }
 }
 

@@ -1,14 +1,14 @@
 -- Lemmas on the components of a path.
 use Rattle.std.proofs.Common.{◌≡◌, ℕ, ◌+◌, ◌<◌, ◌≤◌, ◌-◌, Bool, true, false, cond, eqb, List, [], ◌∷◌, map, take, drop, length, min, refl, suc, zero, Some, None, inl, inr, ap, sym, ◌∙◌, subst, arith}
-use Rattle.std.specs.Prelude.{Option, not, ◌||◌, filter}
+use Rattle.std.specs.Prelude.{Option, not, ◌&&◌, ◌||◌, ◌==◌, filter}
 use Rattle.std.specs.List.{position, position_or_len, list_any}
 use Rattle.std.specs.Option.{unwrap_or}
 use Rattle.std.proofs.Math.Nat.{min_comm}
-use Rattle.std.proofs.lemmas.Bool.{cases_lt, lt-ltb, le-ltb, or_parts}
-use Rattle.std.proofs.lemmas.List.{take_min, nil_from_length, length-take, length-drop}
+use Rattle.std.proofs.lemmas.Bool.{cases_lt, lt-ltb, le-ltb, or_parts, true≢false}
+use Rattle.std.proofs.lemmas.List.{take_all, take_min, nil_from_length, length-take, length-drop}
 use Rattle.std.proofs.lemmas.List.Quantifiers.{position-Some}
 use Rattle.std.proofs.lemmas.List.Sums.{prefix_len-le-length}
-use Rattle.vol_dir.specs.Walk.{onto_first, pieces, is_nil, components, IsComponent}
+use Rattle.vol_dir.specs.Walk.{onto_first, pieces, is_nil, is_plain, components, IsComponent}
 
 -- the pieces that are not empty
 abbrev pub kept : List (List ℕ) → List (List ℕ)
@@ -38,6 +38,19 @@ one_piece [] h = refl
 one_piece (c ∷ name) h =
     let parts = or_parts (eqb c 47) (list_any (λ c. eqb c 47) name) h in
     ap (λ b. cond b ([] ∷ pieces name) (onto_first c (pieces name))) parts.0 ∙ ap (onto_first c) (one_piece name parts.1)
+
+-- a plain name of at most 14 bytes is its only component
+pub one_component : (name : List ℕ) → is_plain name ≡ true → length name ≤ 14 → components name ≡ name ∷ []
+unfolding components
+one_component name plain short =
+    let parts = plain_parts (is_nil name) (list_any (λ c. c == 47) name) plain in
+    ap (λ ps. map (take 14) (filter (λ piece. not (is_nil piece)) ps)) (one_piece name parts.1)
+    ∙ (ap (λ b. map (take 14) (cond (not b) (name ∷ []) [])) parts.0 ∙ ap (λ n. n ∷ []) (take_all 14 name short))
+  where
+    plain_parts : (a b : Bool) → (not a && not b) ≡ true → (a ≡ false) × (b ≡ false)
+    plain_parts true b e = absurd (true≢false (sym e))
+    plain_parts false true e = absurd (true≢false (sym e))
+    plain_parts false false e = (refl, refl)
 
 -- the first piece of a path has its first `n` bytes, and the other non-empty pieces are those of the rest of the path
 pub record HasFirst (path : List ℕ) (n : ℕ) : Type 0 where

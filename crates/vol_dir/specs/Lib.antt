@@ -5,6 +5,7 @@ pub use Rattle.vol_layout.specs.Edition
 pub use Rattle.vol_layout.specs.Geometry
 pub use Rattle.vol_layout.specs.Slot
 pub mod Access
+pub mod Directories
 pub mod DirectoryLaws
 pub mod EntryEdits
 pub mod Entries

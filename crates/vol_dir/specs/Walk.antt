@@ -1,5 +1,5 @@
 -- Looking up paths (Lions on namei).
-use Rattle.std.specs.Prelude.{◌≡◌, ℕ, ◌≤◌, ◌==◌, Bool, true, false, not, if◌then◌else◌, List, [], ◌∷◌, length, map, filter, take, Option, None, Some, Result, Ok, Err}
+use Rattle.std.specs.Prelude.{◌≡◌, ℕ, ◌≤◌, ◌==◌, ◌&&◌, Bool, true, false, not, if◌then◌else◌, List, [], ◌∷◌, length, map, filter, take, Option, None, Some, Result, Ok, Err}
 use Rattle.std.specs.List.{list_any}
 use Rattle.std.specs.Option.{option_map, option_map_or, ok_or, is_some}
 use Rattle.pdp_words.specs.Steps.{and_then}
@@ -43,6 +43,10 @@ pub record IsComponent (name : List ℕ) : Type 0 where
   pub some : 1 ≤ length name
   pub short : length name ≤ 14
   pub plain : list_any (λ c. c == 47) name ≡ false
+
+-- true if a name is not empty and has no slash (manual section 5, directories; the rule is this project's)
+abbrev pub is_plain : List ℕ → Bool
+is_plain name = not (is_nil name) && not (list_any (λ c. c == 47) name)
 
 -- the map of a directory; None for another kind of node (manual section 5, directories)
 abbrev pub map_of : Content → Option Names

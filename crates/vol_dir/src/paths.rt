@@ -1,7 +1,7 @@
 //! The components of a path.
 ghost use Rattle.std.specs.Prelude.{◌≡◌, ◌<◌, ◌≤◌, ◌∷◌, ◌==◌, [], false, not, length, MatchOption, IfSome};
 ghost use Rattle.std.specs.List.{position};
-ghost use Rattle.vol_dir.specs.Walk.{components, has_zero, IsComponent};
+ghost use Rattle.vol_dir.specs.Walk.{components, has_zero, is_plain, IsComponent};
 
 use vol_layout::slot::NAME;
 
@@ -19,6 +19,13 @@ pub fn split_component(path: &[u8]) -> Option<(&[u8], &[u8])>
     let end = first_slash(path).unwrap_or(path.len());
     let (component, rest) = path.split_at(end);
     Some((&component[..component.len().min(NAME)], rest))
+}
+
+/// True if a name is not empty and has no slash.
+pub fn is_plain(name: &[u8]) -> bool
+    ensures { result ≡ is_plain name.now }
+{
+    !name.is_empty() && !name.contains(&b'/')
 }
 
 /// Returns the position of a path's first component: of its first byte that isn't a slash.

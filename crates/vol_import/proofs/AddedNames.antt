@@ -33,7 +33,7 @@ use Rattle.vol_import.proofs.GrownTrees.{ChangesAt, filled, link_grows, write_ch
 use Rattle.vol_import.proofs.MadeNames.{EntersAt, HasNamesOf, HasNoOthers, KeepsNames, found, found_in, names_set, no_names, others_same, set_keeps, walk_kept}
 use Rattle.vol_import.proofs.MadePaths.{create_makes, mkdir_makes, node_found, not_first}
 use Rattle.vol_import.proofs.MemberCalls.{IsRun}
-use Rattle.vol_import.proofs.TreeWalks.{named, passes_first}
+use Rattle.vol_volume.proofs.TreeWalks.{named, passes_first}
 
 -- a path is among `paths`
 abbrev IsAmong : List (List ℕ) → List ℕ → Type 0

@@ -29,7 +29,7 @@ use Rattle.vol_import.proofs.GrownTrees.{LeadsToDirectory, LeadBoth, grown_direc
 use Rattle.vol_import.proofs.MadeCalls.{keeps}
 use Rattle.vol_import.proofs.MadeNames.{LeadsTo, grown_path, told as node_told, owner_told}
 use Rattle.vol_import.proofs.MemberCalls.{run_dots, directory_made, file_made, given_gives}
-use Rattle.vol_import.proofs.TreeWalks.{named, searched}
+use Rattle.vol_volume.proofs.TreeWalks.{named, searched}
 use Rattle.vol_file.proofs.PlaceLists.{bytes_same}
 use Rattle.vol_import.proofs.DraftRuns.{Adds, Follows, Nothing, adds_less, adds_none, adds_then, follows_same, none_given, stands_grown, stands_known, stands_made, stands_there, there_leads, way, with_itself, with_known}
 

@@ -29,7 +29,7 @@ use Rattle.vol_import.specs.Make.{AreMade}
 use Rattle.vol_import.proofs.MadeNames.{LeadsTo, Grows, KeepsOwners, grown_path, owner_told}
 use Rattle.vol_import.proofs.MadePaths.{read_answered, stat_answered}
 use Rattle.vol_import.proofs.MemberCalls.{IsRun}
-use Rattle.vol_import.proofs.TreeWalks.{node_there}
+use Rattle.vol_volume.proofs.TreeWalks.{node_there}
 
 -- the permissions of a node have twelve bits
 abbrev pub AreSmall : Tree → Type 0

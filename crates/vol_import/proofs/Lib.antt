@@ -23,5 +23,4 @@ mod SameTrees
 pub mod SortRuns
 mod SplitPaths
 pub mod Steps
-pub mod TreeWalks
 mod WrittenMembers

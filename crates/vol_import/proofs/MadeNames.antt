@@ -22,7 +22,7 @@ use Rattle.vol_change.specs.Edits.{set_at, change_names, modified, stamped}
 use Rattle.vol_change.specs.Nodes.{no_node}
 use Rattle.vol_change.proofs.SideStates.{set_beside}
 use Rattle.vol_change.proofs.NodeEdits.{set_here}
-use Rattle.vol_import.proofs.TreeWalks.{Reaches, named, searched}
+use Rattle.vol_volume.proofs.TreeWalks.{Reaches, named, searched}
 
 -- a path leads to a node
 pub record LeadsTo (tree : Tree) (path : List ℕ) (node : Node) : Type 0 where

@@ -31,7 +31,7 @@ use Rattle.vol_volume.specs.declared.queries.Query.TheVariants as queries
 use Rattle.vol_volume.specs.declared.queries.Reply.{Reply}
 use Rattle.vol_volume.specs.declared.queries.Reply.TheVariants as replies
 use Rattle.vol_volume.proofs.Accepted.{create_passed, mkdir_passed}
-use Rattle.vol_import.proofs.TreeWalks.{Reaches, passes_first, reaches, parent_found}
+use Rattle.vol_volume.proofs.TreeWalks.{Reaches, passes_first, reaches, parent_found}
 use Rattle.vol_import.specs.MadeMembers.{HasFile}
 use Rattle.vol_import.proofs.MadeNames.{LeadsTo, MakesAt, MakesName, Gains, HasNoOthers, entered, get_insert, searched_names, path_kept, leads_still, name_made, name_linked, gains_made}
 

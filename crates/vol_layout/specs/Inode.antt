@@ -31,6 +31,20 @@ kind_of V7 mode = if mode == 0 then kinds.Free else kind_of_type_v7 (mode / 4096
 abbrev pub permissions_of : ℕ → ℕ
 permissions_of mode = mode % 4096
 
+-- true if the type bits 0170000 of a special file's mode are those of a block special file, not of a character special file: both editions have octal
+-- 060000 and 020000; of the multiplexor types of the seventh edition, 070000 counts as a block and 030000 as a character special file (stat.h; the
+-- multiplexor types are this project's)
+abbrev pub is_block_type : ℕ → Bool
+is_block_type type = type / 2 % 4 == 3
+
+-- true if the mode of a special file is that of a block special file, by the same bits (stat.h; the multiplexor types are this project's)
+abbrev pub is_block : ℕ → Bool
+is_block mode = mode / 8192 % 4 == 3
+
+-- the device number of a special file: the low 16 bits of its first address (ino.h; inode.h of the seventh edition)
+abbrev pub device_of : Inode → ℕ
+device_of node = slice_index node.addresses 0 % 65536
+
 -- true if a mode has the large flag, octal 010000, which only the sixth edition has (manual section 5 of the sixth edition, file system)
 abbrev pub is_large : Edition → ℕ → Bool
 is_large V6 mode = mode / 4096 % 2 == 1

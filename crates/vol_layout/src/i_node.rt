@@ -28,7 +28,7 @@ pub struct Inode {
 }
 
 impl Inode {
-    ghost use Rattle.vol_layout.specs.Inode.{new_inode, raised_inode, IsStorable};
+    ghost use Rattle.vol_layout.specs.Inode.{new_inode, raised_inode, device_of, IsStorable};
 
     /// Returns a new i-node: its size is 0, it has no addresses, and all its times are `now`, in seconds.
     pub fn new(edition: Edition, mode: Mode, links: u16, uid: u16, gid: u16, now: u32) -> Inode
@@ -48,6 +48,13 @@ impl Inode {
                 Edition::V7 => Some(now),
             },
         }
+    }
+
+    /// Returns the device number of a special file: the major number times 256, plus the minor number.
+    pub fn device_number(&self) -> u16
+        ensures { result ≡ device_of self.now }
+    {
+        (self.addresses[0] % 0x1_0000) as u16
     }
 
     /// Converts this allocated i-node of the sixth edition to the seventh: removes the addresses, clears the large flag, and sets the time of the

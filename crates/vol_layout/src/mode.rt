@@ -41,7 +41,7 @@ const SEVENTH_TYPE: u16 = 0o170000;
 const PERMISSIONS: u16 = 0o7777;
 
 impl Mode {
-    ghost use Rattle.vol_layout.specs.Inode.{kind_of, permissions_of, is_large, with_large, raised_mode};
+    ghost use Rattle.vol_layout.specs.Inode.{kind_of, permissions_of, is_block, is_large, with_large, raised_mode};
 
     /// Returns the kind of an i-node with this mode.
     #[tactic(auto, using(crate::proofs::BitLaws::type_v6, crate::proofs::BitLaws::allocated_bit), unfolding(crate::specs::Inode::kind_of))]
@@ -72,6 +72,14 @@ impl Mode {
         ensures { result ≡ permissions_of self.bits }
     {
         self.bits & PERMISSIONS
+    }
+
+    /// True if this mode of a special file is that of a block special file, false if it is that of a character special file. Of the seventh edition's
+    /// multiplexor types, 070000 counts as a block and 030000 as a character special file.
+    pub fn is_block(self) -> bool
+        ensures { result ≡ is_block self.bits }
+    {
+        self.bits / 0o20000 % 4 == 3
     }
 
     /// True if the sixth edition's large flag is set; false in the seventh edition.

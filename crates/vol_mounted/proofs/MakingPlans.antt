@@ -12,7 +12,7 @@ use Rattle.fuse_words.specs.declared.operation.Operation.{Operation}
 use Rattle.fuse_words.specs.declared.operation.Operation.TheVariants as operations
 use Rattle.fuse_words.specs.declared.request.Header.{Header}
 use Rattle.pdp_words.specs.Steps.{and_then}
-use Rattle.vol_archive.specs.Walk.{is_plain}
+use Rattle.vol_dir.specs.Walk.{is_plain}
 use Rattle.vol_dir.specs.Access.{user}
 use Rattle.vol_dir.specs.Tree.{Node, tree}
 use Rattle.vol_dir.specs.Walk.{walk}

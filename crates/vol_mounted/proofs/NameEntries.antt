@@ -15,8 +15,8 @@ use Rattle.vol_dir.specs.declared.refusal.Refusal.{Refusal}
 use Rattle.vol_dir.specs.declared.refusal.Refusal.TheVariants as refusals
 use Rattle.vol_dir.proofs.NameMaps.{get_remove}
 use Rattle.vol_dir.proofs.PathJoins.{components-join, walk-onward}
-use Rattle.vol_archive.specs.Walk.{is_plain}
-use Rattle.vol_archive.proofs.EntryLists.{one_component}
+use Rattle.vol_dir.specs.Walk.{is_plain}
+use Rattle.vol_dir.proofs.Components.{one_component}
 use Rattle.vol_judge.specs.Sound.{IsSound}
 use Rattle.vol_judge.proofs.Parts.{sound_entries, sound_files}
 use Rattle.vol_change.specs.Edits.{add_link, at_time, change_names, drop_link, modified, release, remove_entry, remove_node, set_at, stamped}
@@ -31,7 +31,7 @@ use Rattle.vol_volume.specs.declared.calls.Call.TheVariants as calls
 use Rattle.vol_volume.specs.declared.calls.Done.{Done}
 use Rattle.vol_volume.proofs.Accepted.{link_passed, unlink_passed}
 use Rattle.vol_import.proofs.MadeNames.{entered, entered_found, found, found_in, get_insert, linked, path_kept}
-use Rattle.vol_import.proofs.TreeWalks.{named, names_lead, searched}
+use Rattle.vol_volume.proofs.TreeWalks.{named, names_lead, searched}
 use Rattle.vol_serve.specs.Nodes.{after_ok, look_up, number_in, number_of}
 use Rattle.vol_serve.specs.declared.nodes.fault.NodeFault.TheVariants as faults
 use Rattle.vol_mounted.proofs.FreeNodes.{reads_next, state_of}

@@ -24,7 +24,7 @@ use Rattle.vol_volume.specs.declared.calls.Done.{Done}
 use Rattle.vol_volume.specs.declared.queries.Stat.{Stat}
 use Rattle.vol_import.specs.Make.{AreMade}
 use Rattle.vol_import.proofs.MadeNames.{linked}
-use Rattle.vol_import.proofs.TreeWalks.{searched}
+use Rattle.vol_volume.proofs.TreeWalks.{searched}
 use Rattle.vol_serve.specs.Nodes.{look_up}
 use Rattle.vol_serve.specs.declared.nodes.fault.NodeFault.{NodeFault}
 use Rattle.vol_serve.specs.declared.nodes.fault.NodeFault.TheVariants as faults

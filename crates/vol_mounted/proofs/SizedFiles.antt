@@ -37,7 +37,7 @@ use Rattle.vol_volume.specs.declared.calls.Call.TheVariants as calls
 use Rattle.vol_volume.specs.declared.calls.Done.{Done}
 use Rattle.vol_import.specs.Make.{AreMade}
 use Rattle.vol_import.proofs.MadeNames.{no_names}
-use Rattle.vol_import.proofs.TreeWalks.{passes_first}
+use Rattle.vol_volume.proofs.TreeWalks.{passes_first}
 use Rattle.vol_serve.specs.Nodes.{special_of}
 use Rattle.vol_mounted.specs.Laws.{content_with}
 use Rattle.vol_mounted.specs.Orphans.{resized}

@@ -7,7 +7,7 @@ use crate::refusal::MountedRefusal;
 use crate::table::NodeTable;
 use pdp_words::Bytes;
 use std::alloc::{AllocError, Global};
-use vol_archive::is_plain;
+use vol_dir::is_plain;
 use vol_dir::{Cred, walk};
 use vol_layout::Geometry;
 use vol_layout::slot::NAME;

@@ -43,7 +43,7 @@ use Rattle.vol_volume.specs.declared.calls.Call.TheVariants.{Unlink, Rmdir}
 use Rattle.vol_volume.specs.declared.calls.Done.{Done}
 use Rattle.vol_volume.proofs.NodeReadings.{node_of_kind}
 use Rattle.vol_import.specs.Make.{AreMade}
-use Rattle.vol_import.proofs.TreeWalks.{passes_first, parent_found}
+use Rattle.vol_volume.proofs.TreeWalks.{passes_first, parent_found}
 use Rattle.vol_removal.specs.FreedNumbers.{IsFreeBlock, FreesBlocks}
 use Rattle.vol_removal.specs.Removal.{call_of}
 use Rattle.vol_removal.proofs.FreedNumbers.{AreTaking, IsTaking, links_of, set_alike, without_links}

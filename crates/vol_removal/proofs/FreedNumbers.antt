@@ -38,7 +38,7 @@ use Rattle.vol_volume.proofs.Journals.{reads_made}
 use Rattle.vol_volume.proofs.NodeReadings.{node_of_kind, links_are}
 use Rattle.vol_import.specs.Make.{AreMade}
 use Rattle.vol_import.proofs.MadeNames.{KeepsNames, found, found_in, path_kept, searched_names}
-use Rattle.vol_import.proofs.TreeWalks.{Reaches, named, searched, passes_first, reaches, parent_found}
+use Rattle.vol_volume.proofs.TreeWalks.{Reaches, named, searched, passes_first, reaches, parent_found}
 use Rattle.vol_removal.specs.FreedNumbers.{own_names, led_to, takes_name, FreesNumbers}
 use Rattle.vol_removal.specs.Removal.{Takes, call_of, names_of}
 use Rattle.vol_removal.proofs.GoneTrees.{Stays, kept_name, root_stays, stays_rmdir, stays_unlink, unlinked, without}

@@ -18,7 +18,7 @@ use Rattle.vol_volume.specs.Verdict.{verdict, of_node, of_parent, unlink_tests, 
 use Rattle.vol_volume.specs.Volume.{Mounted, Accepts}
 use Rattle.vol_removal.specs.Removal.{call_of}
 use Rattle.vol_removal.proofs.GoneNames.{walk_gone}
-use Rattle.vol_import.proofs.TreeWalks.{Reaches, passes_first, reaches, parent_found, names_lead, root_there}
+use Rattle.vol_volume.proofs.TreeWalks.{Reaches, passes_first, reaches, parent_found, names_lead, root_there}
 use Rattle.vol_removal.proofs.GoneTrees.{Stays, without, loses, stays_unlink, stays_rmdir}
 use Rattle.vol_dir.specs.declared.refusal.Refusal.{Refusal}
 use Rattle.vol_dir.specs.declared.refusal.Refusal.TheVariants as refusals

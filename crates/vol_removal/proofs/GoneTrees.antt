@@ -15,7 +15,7 @@ use Rattle.vol_change.specs.Effects.{after_unlink, after_rmdir}
 use Rattle.vol_change.specs.Nodes.{node_at, number_of_name}
 use Rattle.vol_change.proofs.SideStates.{set_beside}
 use Rattle.vol_change.proofs.NodeEdits.{set_here}
-use Rattle.vol_import.proofs.TreeWalks.{named, searched}
+use Rattle.vol_volume.proofs.TreeWalks.{named, searched}
 use Rattle.vol_removal.proofs.GoneNames.{LosesName}
 
 -- each node that still exists existed before, and is searched as before

@@ -11,7 +11,7 @@ use Rattle.ustar.specs.declared.header.MemberKind.TheVariants as members
 use Rattle.vol_dir.specs.Tree.{is_number}
 use Rattle.vol_layout.specs.Body.{body}
 use Rattle.vol_layout.specs.Geometry.{Fits}
-use Rattle.vol_layout.specs.Inode.{inode_of}
+use Rattle.vol_layout.specs.Inode.{device_of, inode_of}
 use Rattle.vol_layout.proofs.InodeLaws.{inode_of_kept}
 use Rattle.vol_layout.specs.declared.geometry.Geometry.{Geometry}
 use Rattle.vol_layout.specs.declared.i_node.Inode.{Inode}
@@ -21,7 +21,7 @@ use Rattle.vol_losses.proofs.CutLaws.{completed_agrees}
 use Rattle.vol_losses.proofs.LostPaths.{no_marks}
 use Rattle.vol_losses.proofs.SureFlags.{whole_is, whole_unless}
 use Rattle.vol_archive.specs.Laws.{is_kept}
-use Rattle.vol_archive.specs.Members.{archive_bytes, content_at, device_of, headed, header_of, link_bytes, member_bytes, role_bytes, special_kind}
+use Rattle.vol_archive.specs.Members.{archive_bytes, content_at, headed, header_of, link_bytes, member_bytes, role_bytes, special_kind}
 use Rattle.vol_archive.specs.declared.met_entries.MetEntry.{MetEntry}
 use Rattle.vol_archive.specs.declared.met_entries.Role.{Role}
 use Rattle.vol_archive.specs.declared.met_entries.Role.TheVariants as roles

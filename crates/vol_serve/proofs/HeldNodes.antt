@@ -1,12 +1,11 @@
 -- The node of an i-number, from the kind of its i-node.
-use Rattle.std.proofs.Common.{◌≡◌, ◌≢◌, ℕ, ◌≤◌, ◌<◌, ◌/◌, ◌%◌, ◌==◌, cond, if◌then◌else◌, true, false, List, None, Some, Ok, Err, refl, ap, sym, ◌∙◌, arith}
+use Rattle.std.proofs.Common.{◌≡◌, ◌≢◌, ℕ, ◌≤◌, ◌<◌, ◌/◌, ◌%◌, ◌==◌, cond, true, false, List, None, Some, Ok, Err, refl, ap, sym, ◌∙◌, arith}
 use Rattle.std.specs.Prelude.{Option, slice_index}
 use Rattle.std.specs.Option.{is_some, option_map, option_map_or, ok_or}
 use Rattle.std.proofs.lemmas.Bool.{false≢true}
 use Rattle.std.proofs.lemmas.Bool.Decides.{nat_tests}
-use Rattle.ustar.specs.declared.header.MemberKind.TheVariants as members
 use Rattle.vol_layout.specs.Body.{body}
-use Rattle.vol_layout.specs.Inode.{inode_of, inode_place}
+use Rattle.vol_layout.specs.Inode.{device_of, inode_of, inode_place, is_block}
 use Rattle.vol_layout.specs.BlockPointers.{mode_of}
 use Rattle.vol_layout.proofs.InodeLaws.{inode_mode}
 use Rattle.vol_layout.specs.declared.geometry.Geometry.{Geometry}
@@ -20,8 +19,7 @@ use Rattle.vol_dir.specs.Tree.{Node, content_of, is_number, node_of, node_with, 
 use Rattle.vol_dir.specs.Walk.{map_of}
 use Rattle.vol_dir.proofs.WalkLaws.{node_inside}
 use Rattle.vol_volume.proofs.NodeReadings.{node_of_kind}
-use Rattle.vol_archive.specs.Members.{special_kind}
-use Rattle.vol_serve.specs.Nodes.{stat_in, is_block, special_of, special_in, HasNode, after_ok, names_in, number_in, bytes_of, bytes_in}
+use Rattle.vol_serve.specs.Nodes.{stat_in, special_of, special_in, HasNode, after_ok, names_in, number_in, bytes_of, bytes_in}
 use Rattle.vol_serve.specs.declared.nodes.fault.NodeFault.TheVariants as faults
 use Rattle.vol_volume.specs.Answer.{stat_of}
 use Rattle.vol_volume.specs.declared.queries.Stat.{Stat}
@@ -142,8 +140,8 @@ module _ (geometry : Geometry) (image : List ℕ) where
 
   -- the device of a special file is the one in its i-node
   pub special_is : (i number : ℕ) (node : Inode) → HasNode geometry image i kinds.Special → node ≡ inode_of geometry.edition image i
-      → number ≡ slice_index node.addresses 0 % 65536
-      → special_in (tree geometry image) i ≡ Some (record { is_block = is_block (special_kind node); major = number / 256; minor = number % 256 })
+      → number ≡ device_of node
+      → special_in (tree geometry image) i ≡ Some (record { is_block = is_block node.mode.bits; major = number / 256; minor = number % 256 })
   special_is i number node has node_is number_is =
       let mode = mode_of geometry image i in
       let stored = inode_of geometry.edition image i in
@@ -151,7 +149,7 @@ module _ (geometry : Geometry) (image : List ℕ) where
       rw (number_is, node_is)
       (ap (λ (node : Option Node). option_map_or (λ (n : Node). special_of n.content) node None) has.node
       ∙ ap (λ n. Some (record {
-        is_block = is_block (if n % 4 == 3 then members.Block else members.Character);
+        is_block = n % 4 == 3;
         major = slice_index stored.addresses 0 % 65536 / 256;
         minor = slice_index stored.addresses 0 % 65536 % 256;
       })) halved)

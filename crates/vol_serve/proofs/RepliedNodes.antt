@@ -17,7 +17,7 @@ use Rattle.vol_dir.specs.Walk.{IsComponent, components, find_in, has_zero, map_o
 use Rattle.vol_dir.proofs.PathJoins.{walk-onward}
 use Rattle.vol_dir.specs.declared.refusal.Refusal.{Refusal}
 use Rattle.vol_dir.specs.declared.refusal.Refusal.TheVariants as refusals
-use Rattle.vol_archive.proofs.EntryLists.{one_component}
+use Rattle.vol_dir.proofs.Components.{one_component}
 use Rattle.vol_change.specs.Nodes.{no_node, node_at, names_at}
 use Rattle.vol_change.specs.Edits.{body_of}
 use Rattle.vol_volume.specs.Answer.{answer, list_tests, query_refusal, read_bytes, refused_or, reply_at, reply_of, stat_of}
@@ -27,7 +27,7 @@ use Rattle.vol_volume.specs.declared.queries.Query.{Query}
 use Rattle.vol_volume.specs.declared.queries.Query.TheVariants as queries
 use Rattle.vol_volume.specs.declared.queries.Reply.{Reply}
 use Rattle.vol_volume.specs.declared.queries.Reply.TheVariants as replies
-use Rattle.vol_import.proofs.TreeWalks.{names_lead, node_there}
+use Rattle.vol_volume.proofs.TreeWalks.{names_lead, node_there}
 use Rattle.vol_serve.specs.NodeLaws.{LeadsTo, StatsAreReplied, BytesAreReplied, NamesLeadAsWalks, ListingsAreReplied}
 use Rattle.vol_serve.specs.Nodes.{after_ok, bytes_of, look_up, number_in, number_of, read_in}
 use Rattle.vol_serve.specs.declared.nodes.fault.NodeFault.{NodeFault}

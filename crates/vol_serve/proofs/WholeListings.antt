@@ -9,7 +9,7 @@ use Rattle.std.proofs.lemmas.List.{length-take}
 use Rattle.fuse_words.specs.Replies.{data_message, dirent_bytes, dirent_size, padding}
 use Rattle.fuse_words.specs.declared.directory.EntryKind.{EntryKind}
 use Rattle.fuse_words.specs.declared.operation.Operation.TheVariants as operations
-use Rattle.vol_archive.specs.Walk.{is_plain}
+use Rattle.vol_dir.specs.Walk.{is_plain, is_nil}
 use Rattle.vol_layout.specs.Body.{body}
 use Rattle.vol_layout.specs.Slot.{name_of, slot_at}
 use Rattle.vol_layout.specs.declared.geometry.Geometry.{Geometry}
@@ -17,7 +17,6 @@ use Rattle.vol_layout.specs.declared.slot.Slot.{Slot}
 use Rattle.vol_dir.specs.Entries.{entry_in, entry_at, slot_count}
 use Rattle.vol_dir.specs.Names.{Names}
 use Rattle.vol_dir.specs.Tree.{tree}
-use Rattle.vol_dir.specs.Walk.{is_nil}
 use Rattle.vol_serve.specs.Nodes.{after_ok, names_in}
 use Rattle.vol_serve.specs.declared.nodes.fault.NodeFault.{NodeFault}
 use Rattle.vol_serve.specs.declared.nodes.fault.NodeFault.TheVariants as faults

@@ -5,12 +5,11 @@ use Rattle.fuse_words.specs.Replies.{data_message, dirent_bytes}
 use Rattle.fuse_words.specs.declared.directory.EntryKind.{EntryKind}
 use Rattle.fuse_words.specs.declared.operation.Operation.TheVariants as operations
 use Rattle.fuse_words.specs.declared.request.Header.{Header}
-use Rattle.vol_archive.specs.Walk.{is_plain}
+use Rattle.vol_dir.specs.Walk.{is_plain, is_nil}
 use Rattle.vol_layout.specs.declared.geometry.Geometry.{Geometry}
 use Rattle.vol_dir.specs.Entries.{entry_at, slot_count}
 use Rattle.vol_dir.specs.Names.{Names}
 use Rattle.vol_dir.specs.Tree.{tree}
-use Rattle.vol_dir.specs.Walk.{is_nil}
 use Rattle.vol_serve.specs.Nodes.{names_in}
 use Rattle.vol_serve.specs.Answers.{operation_reply}
 use Rattle.vol_serve.specs.Attributes.{entry_kind_in}

@@ -2,7 +2,7 @@
 use Rattle.std.specs.Prelude.{ℕ, zero, suc, ◌+◌, ◌-◌, nat_le, if◌then◌else◌, List, [], ◌++◌, Option, None, Some, Result, Ok}
 use Rattle.fuse_words.specs.Replies.{dirent_bytes, dirent_size}
 use Rattle.fuse_words.specs.declared.directory.EntryKind.{EntryKind}
-use Rattle.vol_archive.specs.Walk.{is_plain}
+use Rattle.vol_dir.specs.Walk.{is_plain}
 use Rattle.vol_layout.specs.declared.geometry.Geometry.{Geometry}
 use Rattle.vol_dir.specs.Entries.{entry_at, slot_count}
 use Rattle.vol_dir.specs.Tree.{tree}

@@ -1,16 +1,13 @@
 -- Requests for the nodes of a tree by i-number.
-use Rattle.std.specs.Prelude.{◌≡◌, ℕ, ◌≤◌, ◌/◌, ◌%◌, nat_lt, Bool, true, false, if◌then◌else◌, List, ◌++◌, length, drop, slice_index, Option, None, Some, Result, Ok, Err}
+use Rattle.std.specs.Prelude.{◌≡◌, ℕ, ◌≤◌, ◌/◌, ◌%◌, nat_lt, true, if◌then◌else◌, List, ◌++◌, length, drop, slice_index, Option, None, Some, Result, Ok, Err}
 use Rattle.std.specs.Option.{is_some, option_map, option_map_or, ok_or}
-use Rattle.ustar.specs.declared.header.MemberKind.{MemberKind}
-use Rattle.ustar.specs.declared.header.MemberKind.TheVariants as members
-use Rattle.vol_layout.specs.Inode.{inode_of}
+use Rattle.vol_layout.specs.Inode.{inode_of, is_block_type}
 use Rattle.vol_layout.specs.declared.geometry.Geometry.{Geometry}
 use Rattle.vol_layout.specs.declared.mode.Kind.{Kind}
 use Rattle.vol_file.specs.Rules.{kind_at}
 use Rattle.vol_dir.specs.Names.{Names, get}
 use Rattle.vol_dir.specs.Tree.{Content, Body, Directory, Device, Node, Tree, content_of, node_with, tree}
 use Rattle.vol_dir.specs.Walk.{map_of}
-use Rattle.vol_archive.specs.Laws.{device_kind}
 use Rattle.vol_volume.specs.Answer.{stat_of, read_bytes}
 use Rattle.vol_volume.specs.declared.queries.Stat.{Stat}
 use Rattle.vol_serve.specs.declared.nodes.fault.NodeFault.{NodeFault}
@@ -21,18 +18,13 @@ use Rattle.vol_serve.specs.declared.nodes.stats.SpecialFile.{SpecialFile}
 abbrev pub stat_in : Tree → ℕ → Option Stat
 stat_in tree i = option_map (stat_of i) (tree.nodes i)
 
--- true for a block special file (stat.h)
-abbrev pub is_block : MemberKind → Bool
-is_block members.Block = true
-is_block other = false
-
 -- the device of a special file: its kind from the type bits of its mode, and the major and minor numbers in the low 16 bits of its first address
 -- (stat.h; ino.h; inode.h of the seventh edition)
 abbrev pub special_of : Content → Option SpecialFile
 special_of (Body bytes) = None
 special_of (Directory names) = None
 special_of (Device type addresses) =
-    Some (record { is_block = is_block (device_kind type); major = slice_index addresses 0 % 65536 / 256; minor = slice_index addresses 0 % 65536 % 256 })
+    Some (record { is_block = is_block_type type; major = slice_index addresses 0 % 65536 / 256; minor = slice_index addresses 0 % 65536 % 256 })
 
 -- the device of node `i`, if it is a special file (manual section 5, file system)
 abbrev pub special_in : Tree → ℕ → Option SpecialFile

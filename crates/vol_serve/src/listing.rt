@@ -10,7 +10,7 @@ use crate::attributes::entry_kind;
 use crate::nodes::{NodeFault, next_name};
 use fuse_words::push_entry;
 use pdp_words::Image;
-use vol_archive::is_plain;
+use vol_dir::is_plain;
 use vol_layout::{Geometry, Slot};
 
 /// Puts the entries of directory `dir` into `out`, starting at slot `from`, as many as fit in `size` bytes. The offset of each entry is the number of

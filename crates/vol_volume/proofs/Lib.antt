@@ -13,4 +13,5 @@ pub mod PerformedCalls
 mod QueriedNodes
 pub mod Refusals
 pub mod StandingImages
+pub mod TreeWalks
 pub mod TwoPaths

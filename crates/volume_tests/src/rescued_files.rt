@@ -6,7 +6,8 @@ use crate::fixtures::{Piece, new_bytes, put_all};
 use crate::lost_blocks::FILE;
 use std::alloc::Global;
 use std::process::Abort;
-use vol_archive::{ExportStart, Role, start_of, walk};
+use vol_archive::{Role, walk};
+use vol_dir::{FoundDirectory, find_directory};
 use vol_layout::Edition;
 use vol_losses::{CutImage, completed};
 use vol_rescue::{tell_losses, without_damaged};
@@ -22,7 +23,7 @@ const ROOT: [Piece; 3] = [
 ];
 
 /// Returns the volume with the file, cut off inside block 25.
-fn cut_volume(rt: &impl Abort, alloc: Global) -> (CutImage, ExportStart)
+fn cut_volume(rt: &impl Abort, alloc: Global) -> (CutImage, FoundDirectory)
     ensures fits { Fits result.1.geometry result.0.image }
     ensures directory { IsDirectory result.1.geometry result.0.image result.1.inode }
 {
@@ -33,7 +34,7 @@ fn cut_volume(rt: &impl Abort, alloc: Global) -> (CutImage, ExportStart)
     let Ok(cut) = completed(alloc, Edition::V7, bytes) else {
         panic!(rt; "not completed")
     };
-    let Ok(start) = start_of(Edition::V7, &cut.image, b"") else {
+    let Ok(start) = find_directory(Edition::V7, &cut.image, b"") else {
         panic!(rt; "no directory")
     };
     (cut, start)
@@ -44,7 +45,7 @@ fn is_kept(
     rt: &impl Abort,
     alloc: Global,
     cut: &CutImage,
-    start: ExportStart,
+    start: FoundDirectory,
     damaged: bool,
 ) -> bool
     requires fits { Fits start.geometry cut.now.image }

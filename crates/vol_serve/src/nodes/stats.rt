@@ -5,8 +5,6 @@ ghost use Rattle.vol_dir.specs.Tree.{tree};
 ghost use Rattle.vol_serve.specs.Nodes.{stat_in, special_in, HasNode};
 
 use pdp_words::Image;
-use ustar::MemberKind;
-use vol_archive::{device_number, special_kind};
 use vol_layout::i_list::kind;
 use vol_layout::{Geometry, Kind, inode};
 use vol_volume::Stat;
@@ -78,9 +76,9 @@ fn device_at(image: &Image, geometry: &Geometry, i: u16) -> SpecialFile
     ensures { special_in (tree geometry.now image.now) i ≡ Some result }
 {
     let node = inode(image, geometry, i);
-    let number = device_number(&node);
+    let number = node.device_number();
     SpecialFile {
-        is_block: matches!(special_kind(&node), MemberKind::Block),
+        is_block: node.mode.is_block(),
         major: (number / 256) as u8,
         minor: (number % 256) as u8,
     }

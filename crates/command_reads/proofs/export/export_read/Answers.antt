@@ -1,7 +1,7 @@
 use Rattle.std.proofs.Common.{Result, refl, subst, ◌∙◌, ap}
 use Rattle.std.proofs.KnownBytes.{Keeps-refl}
-use Rattle.vol_archive.specs.declared.export_tree.ExportStart.{ExportStart}
-use Rattle.vol_archive.specs.declared.export_tree.StartFault.{StartFault}
+use Rattle.vol_dir.specs.declared.directories.FoundDirectory.{FoundDirectory as ExportStart}
+use Rattle.vol_dir.specs.declared.directories.DirectoryFault.{DirectoryFault as StartFault}
 use Rattle.command_faults.specs.Faults.{fault_line}
 use Rattle.command_faults.specs.Streams.{Streams, streams}
 use Rattle.command_faults.specs.declared.fault.Fault.{Fault}

@@ -1,7 +1,7 @@
 use Rattle.std.proofs.Common.{[], inl, inr, refl, sym, ap, ◌∙◌}
 use Rattle.std.proofs.KnownBytes.{Keeps-refl}
 use Rattle.command_faults.specs.Streams.{streams}
-use Rattle.vol_archive.specs.Export.{start_of}
+use Rattle.vol_dir.specs.Directories.{find_directory as start_of}
 use Rattle.command_reads.proofs.Printed.{in_pieces, told_only}
 use Rattle.command_reads.proofs.slots.show_slots.Goals as goal
 

@@ -9,7 +9,7 @@ use Rattle.vol_volume.specs.Journal.{IsLegal, after}
 use Rattle.vol_volume.specs.Step.{step}
 use Rattle.vol_volume.specs.Volume.{Mounted, Accepts, reads_as}
 use Rattle.vol_volume.proofs.Journals.{reads_made}
-use Rattle.vol_import.specs.Make.{AreMade, AreStopped}
+use Rattle.vol_batch.specs.Batch.{AreMade, AreStopped}
 use Rattle.command_faults.specs.ChangeFaults.{AreLeft, Makes, AreRefused, IsReason}
 use Rattle.vol_layout.specs.declared.edition.Edition.{Edition}
 use Rattle.vol_layout.specs.declared.geometry.Geometry.{Geometry}

@@ -16,8 +16,8 @@ use Rattle.vol_volume.specs.Journal.{MayAnswer, IsLegal, after}
 use Rattle.vol_volume.specs.Step.{changed_by, on_node, step}
 use Rattle.vol_volume.specs.Verdict.{first_of, of_node, owner_tests, verdict}
 use Rattle.vol_volume.specs.Volume.{reads_as}
-use Rattle.vol_import.proofs.MadeNames.{HasNamesOf, LeadsTo, names_set, path_kept}
-use Rattle.vol_import.proofs.MadePaths.{create_gains, node_found, stat_answered}
+use Rattle.vol_batch.proofs.MadeNames.{HasNamesOf, LeadsTo, names_set, path_kept}
+use Rattle.vol_batch.proofs.MadePaths.{create_gains, node_found, stat_answered}
 use Rattle.vol_volume.proofs.TreeWalks.{passes_first}
 use Rattle.command_faults.specs.ChangeFaults.{AreLeft, Makes}
 use Rattle.command_changes.specs.Lookup.{found_by}

@@ -3,7 +3,7 @@ use Rattle.std.proofs.Common.{◌≡◌, ℕ, Bool, List, [], Option, Result, Ok
 use Rattle.std.specs.Global.{Vec}
 use Rattle.vol_import.specs.declared.make.ImportFault.{ImportFault}
 use Rattle.vol_import.specs.declared.make.ImportFault.TheVariants as imports
-use Rattle.vol_removal.specs.Remove.{RemovesTo}
+use Rattle.vol_batch.specs.Remove.{RemovesTo}
 use Rattle.vol_volume.specs.Volume.{Mounted}
 use Rattle.vol_layout.specs.declared.edition.Edition.{Edition}
 use Rattle.vol_volume.specs.declared.calls.Call.{Call}

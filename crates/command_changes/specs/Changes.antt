@@ -9,8 +9,9 @@ use Rattle.vol_volume.specs.declared.calls.Call.{Call}
 use Rattle.vol_volume.specs.declared.calls.Call.TheVariants as calls
 use Rattle.vol_check.specs.SalvagedImages.{IsSalvaged}
 use Rattle.vol_import.specs.Make.{Imports}
-use Rattle.vol_removal.specs.Remove.{Removes}
-use Rattle.vol_import.specs.MadeMembers.{HasArchive, HasDirectory}
+use Rattle.vol_batch.specs.Remove.{Removes}
+use Rattle.vol_batch.specs.Paths.{HasDirectory}
+use Rattle.vol_import.specs.MadeMembers.{HasArchive}
 use Rattle.vol_import.specs.Members.{members}
 use Rattle.vol_import.specs.Options.{calls_with, chosen_members, left_out}
 use Rattle.vol_import.specs.declared.import_options.ImportOptions.{ImportOptions}

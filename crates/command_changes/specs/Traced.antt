@@ -4,7 +4,8 @@ use Rattle.std.specs.Global.{Vec}
 use Rattle.vol_layout.specs.declared.edition.Edition.{Edition}
 use Rattle.vol_volume.specs.Volume.{Mounted, mounted}
 use Rattle.vol_volume.specs.declared.calls.Call.{Call}
-use Rattle.vol_import.specs.Make.{AreMade, Imports}
+use Rattle.vol_batch.specs.Batch.{AreMade}
+use Rattle.vol_import.specs.Make.{Imports}
 use Rattle.vol_import.specs.declared.make.ImportFault.{ImportFault}
 use Rattle.vol_trace.specs.Trace.{IsTrace}
 use Rattle.command_faults.specs.ChangeFaults.{Makes}

@@ -21,7 +21,8 @@ use Rattle.vol_volume.specs.declared.calls.Call.TheVariants as calls
 use Rattle.vol_volume.specs.declared.calls.Done.{Done}
 use Rattle.vol_volume.specs.declared.queries.Query.TheVariants as queries
 use Rattle.vol_import.specs.MadeMembers.{EndsIn, made_paths, way_paths}
-use Rattle.vol_import.specs.Plan.{Drafted, and_next, base_permissions, below, check, closed, closing_calls, directory_calls, given_calls, is_crowded, is_directory as says_directory, is_known, is_missing, is_there, joined, made_as, moment_of, onto, permissions_given, permissions_of, plan, plan_onto, steps_of, time_calls, times, way_call, way_of, with_made, with_way, with_way_directory, write_calls}
+use Rattle.vol_batch.specs.Paths.{below}
+use Rattle.vol_import.specs.Plan.{Drafted, and_next, base_permissions, check, closed, closing_calls, directory_calls, given_calls, is_crowded, is_directory as says_directory, is_known, is_missing, is_there, joined, made_as, moment_of, onto, permissions_given, permissions_of, plan, plan_onto, steps_of, time_calls, times, way_call, way_of, with_made, with_way, with_way_directory, write_calls}
 use Rattle.vol_import.specs.declared.member_check.MadeAs.{MadeAs}
 use Rattle.vol_import.specs.declared.member_check.MadeAs.TheVariants.{File, Directory, Link}
 use Rattle.vol_import.specs.declared.member_check.MemberFault.{MemberFault}
@@ -30,8 +31,8 @@ use Rattle.vol_import.specs.declared.import_plan.PlanFault.{PlanFault}
 use Rattle.vol_import.specs.declared.import_plan.PlanFault.TheVariants as plans
 use Rattle.vol_import.specs.declared.archive_members.Member.{Member}
 use Rattle.vol_import.proofs.GrownTrees.{ChangesAt, filled, link_grows, write_changes}
-use Rattle.vol_import.proofs.MadeNames.{EntersAt, HasNamesOf, HasNoOthers, KeepsNames, found, found_in, names_set, no_names, others_same, set_keeps, walk_kept}
-use Rattle.vol_import.proofs.MadePaths.{create_makes, mkdir_makes, node_found, not_first}
+use Rattle.vol_batch.proofs.MadeNames.{EntersAt, HasNamesOf, HasNoOthers, KeepsNames, found, found_in, names_set, no_names, others_same, set_keeps, walk_kept}
+use Rattle.vol_batch.proofs.MadePaths.{create_makes, mkdir_makes, node_found, not_first}
 use Rattle.vol_import.proofs.MemberCalls.{IsRun}
 use Rattle.vol_volume.proofs.TreeWalks.{named, passes_first}
 

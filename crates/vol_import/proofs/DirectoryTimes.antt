@@ -13,7 +13,8 @@ use Rattle.vol_volume.specs.Step.{step}
 use Rattle.vol_volume.specs.declared.calls.Call.TheVariants as calls
 use Rattle.vol_volume.specs.declared.queries.Query.TheVariants as queries
 use Rattle.vol_import.specs.MadeMembers.{is_among, is_for}
-use Rattle.vol_import.specs.Plan.{below, check, is_directory as says_directory, is_directory_kind, is_known, is_long, is_there, joined, made_as, moment_of, names_of, steps_of, time_calls, times}
+use Rattle.vol_batch.specs.Paths.{below}
+use Rattle.vol_import.specs.Plan.{check, is_directory as says_directory, is_directory_kind, is_known, is_long, is_there, joined, made_as, moment_of, names_of, steps_of, time_calls, times}
 use Rattle.vol_import.specs.declared.member_check.MadeAs.{MadeAs}
 use Rattle.vol_import.specs.declared.member_check.MadeAs.TheVariants.{File, Directory, Link}
 use Rattle.vol_import.specs.declared.member_check.MemberFault.{MemberFault}
@@ -23,8 +24,8 @@ use Rattle.vol_import.proofs.DraftRuns.{Follows, Stands, follows_kept, follows_l
 use Rattle.vol_import.proofs.DraftedMembers.{AreMadeAs, IsMadeAs, dotted, for_itself, made_as_kept}
 use Rattle.vol_import.proofs.GrownTrees.{directory_given, node_beside, node_changed, times_changes}
 use Rattle.vol_import.proofs.KeptNodes.{directory_kind}
-use Rattle.vol_import.proofs.MadeNames.{grown_path, owner_told}
-use Rattle.vol_import.proofs.MadePaths.{stat_answered}
+use Rattle.vol_batch.proofs.MadeNames.{grown_path, owner_told}
+use Rattle.vol_batch.proofs.MadePaths.{stat_answered}
 use Rattle.vol_import.proofs.MemberCalls.{IsRun, run_parts}
 
 -- if a Stat of a path finds no directory, neither does one of the path of its steps

@@ -31,7 +31,8 @@ use Rattle.vol_judge.proofs.PassedEntries.{entry_within}
 use Rattle.vol_change.specs.Ready.{Rules1To12}
 use Rattle.vol_change.proofs.EntryStates.{names_once}
 use Rattle.vol_change.proofs.ReadyLaws.{ready_entries}
-use Rattle.vol_import.specs.Plan.{below, is_long, is_step, steps_of, joined, names_of as parts_of}
+use Rattle.vol_batch.specs.Paths.{below}
+use Rattle.vol_import.specs.Plan.{is_long, is_step, steps_of, joined, names_of as parts_of}
 use Rattle.vol_volume.proofs.TreeWalks.{searched_slots}
 
 -- the `.` of each directory leads to itself

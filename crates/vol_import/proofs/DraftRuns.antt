@@ -25,8 +25,8 @@ use Rattle.vol_volume.specs.declared.queries.Reply.TheVariants as replies
 use Rattle.vol_import.specs.Plan.{Drafted, is_directory as says_directory, is_directory_kind, is_known, is_there, way_call, with_path, with_way, with_way_directory}
 use Rattle.vol_import.proofs.DotWalks.{DotsLead}
 use Rattle.vol_import.proofs.GrownTrees.{Gives, LeadsToDirectory, grown_directory}
-use Rattle.vol_import.proofs.MadeNames.{Grows, KeepsOwner, Stays, grows_same, grows_then, grown_path, owner_same, owner_then, owner_told}
-use Rattle.vol_import.proofs.MadePaths.{mkdir_gains}
+use Rattle.vol_batch.proofs.MadeNames.{Grows, KeepsOwner, Stays, grows_same, grows_then, grown_path, owner_same, owner_then, owner_told}
+use Rattle.vol_batch.proofs.MadePaths.{mkdir_gains}
 use Rattle.vol_import.proofs.MemberCalls.{IsRun, run_parts}
 
 -- an order passes `is_eq` only if it is `Equal`

@@ -16,7 +16,8 @@ use Rattle.vol_volume.specs.declared.calls.Call.{Call}
 use Rattle.vol_volume.specs.declared.calls.Call.TheVariants as calls
 use Rattle.vol_import.specs.MadeMembers.{is_among, is_for, is_made_at}
 use Rattle.pdp_words.specs.Steps.{and_then}
-use Rattle.vol_import.specs.Plan.{Drafted, and_next, below, check, check_link, check_path, directory_calls, file_calls, given_calls, is_crowded, is_dot_dot, is_known, is_long, is_long_path, is_there, joined, made_as, moment_of, names_of, onto, owner_of, permissions_of, plan_onto, steps_of, way_of, with_made, with_path, with_way}
+use Rattle.vol_batch.specs.Paths.{below}
+use Rattle.vol_import.specs.Plan.{Drafted, and_next, check, check_link, check_path, directory_calls, file_calls, given_calls, is_crowded, is_dot_dot, is_known, is_long, is_long_path, is_there, joined, made_as, moment_of, names_of, onto, owner_of, permissions_of, plan_onto, steps_of, way_of, with_made, with_path, with_way}
 use Rattle.vol_import.specs.declared.member_check.MadeAs.{MadeAs}
 use Rattle.vol_import.specs.declared.member_check.MadeAs.TheVariants.{File, Directory, Link}
 use Rattle.vol_import.specs.declared.member_check.MemberFault.{MemberFault}
@@ -26,8 +27,8 @@ use Rattle.vol_import.specs.declared.import_plan.PlanFault.TheVariants as plans
 use Rattle.vol_import.specs.declared.archive_members.Member.{Member}
 use Rattle.vol_import.proofs.DotWalks.{DotsLead, with_dots, without_dots, zeros_below}
 use Rattle.vol_import.proofs.GrownTrees.{LeadsToDirectory, LeadBoth, grown_directory, grown_both, link_grows}
-use Rattle.vol_import.proofs.MadeCalls.{keeps}
-use Rattle.vol_import.proofs.MadeNames.{LeadsTo, grown_path, told as node_told, owner_told}
+use Rattle.vol_batch.proofs.MadeCalls.{keeps}
+use Rattle.vol_batch.proofs.MadeNames.{LeadsTo, grown_path, told as node_told, owner_told}
 use Rattle.vol_import.proofs.MemberCalls.{run_dots, directory_made, file_made, given_gives}
 use Rattle.vol_volume.proofs.TreeWalks.{named, searched}
 use Rattle.vol_file.proofs.PlaceLists.{bytes_same}

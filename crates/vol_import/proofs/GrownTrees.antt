@@ -20,8 +20,8 @@ use Rattle.vol_volume.specs.Verdict.{verdict, link_refusal, link_tests, of_node}
 use Rattle.vol_volume.specs.declared.calls.Call.TheVariants.{Chmod, Chown, Link, Times, Write}
 use Rattle.vol_volume.specs.declared.calls.Done.{Done}
 use Rattle.vol_volume.proofs.Accepted.{link_passed}
-use Rattle.vol_import.proofs.MadeNames.{LeadsTo, HasNamesOf, Keeps, HasNoOthers, EntersAt, enters_between, keeps_none, keeps_then, linked_others, nodes_set, others_same, set_keeps, KeepsOwner, KeepsOwners, owner_none, owner_same, owner_then, owner_told, owners_set, EntersName, Grows, Gains, linked, linked_keeps, linked_owner, searched_names, name_entered, grown_path, path_kept, path_made}
-use Rattle.vol_import.proofs.MadePaths.{node_found, not_first}
+use Rattle.vol_batch.proofs.MadeNames.{LeadsTo, HasNamesOf, Keeps, HasNoOthers, EntersAt, enters_between, keeps_none, keeps_then, linked_others, nodes_set, others_same, set_keeps, KeepsOwner, KeepsOwners, owner_none, owner_same, owner_then, owner_told, owners_set, EntersName, Grows, Gains, linked, linked_keeps, linked_owner, searched_names, name_entered, grown_path, path_kept, path_made}
+use Rattle.vol_batch.proofs.MadePaths.{node_found, not_first}
 use Rattle.vol_volume.proofs.TreeWalks.{passes_paths, parent_found, reaches, searched}
 
 -- node `i` of a tree is changed

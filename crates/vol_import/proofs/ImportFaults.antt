@@ -12,8 +12,9 @@ use Rattle.vol_import.specs.Entries.{block_at}
 use Rattle.vol_import.specs.Members.{members as read_members}
 use Rattle.vol_import.specs.Options.{calls_with, chosen, chosen_members, left_out}
 use Rattle.vol_import.specs.Plan.{plan}
-use Rattle.vol_import.specs.Make.{AreMade, AreStopped, TakesMemory, unmounted, unheaded, unread, unplanned, told, planned, Tells, IsUnmounted, IsStop, Imports, IsReason}
-use Rattle.vol_import.proofs.MadeCalls.{imported}
+use Rattle.vol_batch.specs.Batch.{AreMade, AreStopped}
+use Rattle.vol_import.specs.Make.{TakesMemory, unmounted, unheaded, unread, unplanned, told, planned, Tells, IsUnmounted, IsStop, Imports, IsReason}
+use Rattle.vol_batch.proofs.MadeCalls.{made_calls}
 use Rattle.vol_dir.specs.declared.refusal.Refusal.{Refusal}
 use Rattle.vol_layout.specs.declared.edition.Edition.{Edition}
 use Rattle.vol_volume.specs.declared.calls.Call.{Call}
@@ -129,7 +130,7 @@ all_made options edition image archive base bytes now old new calls sound is wan
     let here : calls_with options (reads_as edition image).tree archive base now ≡ Ok calls =
     subst (λ (v : Mounted). calls_with options (reads_as v.edition v.image).tree archive base now ≡ Ok calls) is wanted in
     subst (λ (w : Result (List Call) ImportFault). Imports edition image w bytes) (sym here)
-    (imported edition image bytes calls new sound (subst (λ (v : Mounted). AreMade v calls new) is made) consistent left)
+    (made_calls edition image bytes calls new sound (subst (λ (v : Mounted). AreMade v calls new) is made) consistent left)
 
 -- a fault of the plan is reported as an import fault
 pub plan_told : (wanted : Result (List Call) PlanFault) (why : PlanFault) (fault : ImportFault) → (why ≢ plans.NoMemory → wanted ≡ Err why)

@@ -25,9 +25,9 @@ use Rattle.vol_volume.specs.declared.queries.Query.TheVariants as queries
 use Rattle.vol_volume.specs.declared.queries.Reply.TheVariants as replies
 use Rattle.vol_volume.specs.declared.queries.Stat.{Stat}
 use Rattle.vol_import.specs.MadeMembers.{KeepsNode, KeepsNodes}
-use Rattle.vol_import.specs.Make.{AreMade}
-use Rattle.vol_import.proofs.MadeNames.{LeadsTo, Grows, KeepsOwners, grown_path, owner_told}
-use Rattle.vol_import.proofs.MadePaths.{read_answered, stat_answered}
+use Rattle.vol_batch.specs.Batch.{AreMade}
+use Rattle.vol_batch.proofs.MadeNames.{LeadsTo, Grows, KeepsOwners, grown_path, owner_told}
+use Rattle.vol_batch.proofs.MadePaths.{read_answered, stat_answered}
 use Rattle.vol_import.proofs.MemberCalls.{IsRun}
 use Rattle.vol_volume.proofs.TreeWalks.{node_there}
 

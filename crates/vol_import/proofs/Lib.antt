@@ -9,10 +9,7 @@ mod ExportedMembers
 mod GrownTrees
 pub mod ImportFaults
 mod KeptNodes
-pub mod MadeCalls
 pub mod MadeMembers
-pub mod MadeNames
-pub mod MadePaths
 mod MemberCalls
 pub mod MemberRuns
 mod NodeNumbers

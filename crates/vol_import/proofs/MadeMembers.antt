@@ -26,11 +26,13 @@ use Rattle.vol_volume.specs.declared.queries.Reply.{Reply}
 use Rattle.vol_volume.specs.declared.queries.Reply.TheVariants as replies
 use Rattle.vol_volume.proofs.Journals.{reads_made}
 use Rattle.vol_import.specs.MadeMembers.{AddsNames, EndsIn, HasMember, HasMembers, HasArchive, KeepsNodes, is_among, is_for, is_made_at, made_paths}
-use Rattle.vol_import.specs.Make.{AreMade, Imports, ImportsCalls, calls_to_make, planned, told}
+use Rattle.vol_batch.specs.Batch.{AreMade, MakesCalls}
+use Rattle.vol_import.specs.Make.{Imports, calls_to_make, planned, told}
 use Rattle.vol_import.specs.Options.{calls_with, chosen_members}
 use Rattle.vol_import.specs.declared.import_options.ImportOptions.{ImportOptions}
 use Rattle.vol_import.specs.Members.{members}
-use Rattle.vol_import.specs.Plan.{and_next, base_permissions, below, check, closed, closing_calls, is_base, is_directory as says_directory, is_directory_at, is_directory_kind, is_there, joined, made_as, moment_of, permissions_given, permissions_of, permissions_told, plan, plan_onto, steps_of, times}
+use Rattle.vol_batch.specs.Paths.{below}
+use Rattle.vol_import.specs.Plan.{and_next, base_permissions, check, closed, closing_calls, is_base, is_directory as says_directory, is_directory_at, is_directory_kind, is_there, joined, made_as, moment_of, permissions_given, permissions_of, permissions_told, plan, plan_onto, steps_of, times}
 use Rattle.vol_import.specs.declared.member_check.MadeAs.{MadeAs}
 use Rattle.vol_import.specs.declared.member_check.MadeAs.TheVariants.{File, Directory, Link}
 use Rattle.vol_import.specs.declared.member_check.MemberFault.{MemberFault}
@@ -41,9 +43,9 @@ use Rattle.vol_archive.proofs.Each.{has_any}
 use Rattle.vol_import.proofs.AddedNames.{plan_after}
 use Rattle.vol_import.proofs.DotWalks.{DotsLead, dots_ready, dots_sound}
 use Rattle.vol_import.proofs.GrownTrees.{Gives, LeadsToDirectory, grown_directory}
-use Rattle.vol_import.proofs.MadeCalls.{keeps}
-use Rattle.vol_import.proofs.MadeNames.{Grows, grows_same, KeepsOwners, owner_none}
-use Rattle.vol_import.proofs.MadePaths.{Holds, holds_file, stat_answered, walk_answered}
+use Rattle.vol_batch.proofs.MadeCalls.{keeps}
+use Rattle.vol_batch.proofs.MadeNames.{Grows, grows_same, KeepsOwners, owner_none}
+use Rattle.vol_batch.proofs.MadePaths.{Holds, holds_file, stat_answered, walk_answered}
 use Rattle.vol_import.proofs.MemberCalls.{IsRun, run_parts, chmod_gives}
 use Rattle.std.specs.Str.{bytes_eq}
 use Rattle.vol_import.proofs.DraftRuns.{Follows, Stands, follows_kept, follows_same, follows_then, none_given, one_number, there_leads}
@@ -398,7 +400,7 @@ members_left edition image archive base bytes now = by
         × KeepsNodes (reads_as edition image).tree (reads_as edition bytes).tree
         × AddsNames (reads_as edition image).tree (reads_as edition bytes).tree (flat_map (made_paths base) all)
 
-    made : (all : List Member) (calls : List Call) → plan (reads_as edition image).tree base now all ≡ Ok calls → ImportsCalls edition image calls bytes
+    made : (all : List Member) (calls : List Call) → plan (reads_as edition image).tree base now all ≡ Ok calls → MakesCalls edition image calls bytes
         → Has all
     made all calls is imports =
         let volume = imports.volume in

@@ -19,8 +19,8 @@ use Rattle.vol_volume.specs.declared.calls.Done.{Done}
 use Rattle.vol_import.specs.Plan.{file_calls, write_calls, owner_calls, directory_calls, given_calls}
 use Rattle.vol_import.proofs.DotWalks.{DotsLead}
 use Rattle.vol_import.proofs.GrownTrees.{Gives, LeadsToDirectory, filled, write_changes, chown_changes, chmod_changes, gains_changed, directory_given}
-use Rattle.vol_import.proofs.MadeNames.{Gains, Stays, grown_path, grows_then, no_names, owner_then, told}
-use Rattle.vol_import.proofs.MadePaths.{create_gains, mkdir_gains, spliced_all}
+use Rattle.vol_batch.proofs.MadeNames.{Gains, Stays, grown_path, grows_then, no_names, owner_then, told}
+use Rattle.vol_batch.proofs.MadePaths.{create_gains, mkdir_gains, spliced_all}
 use Rattle.vol_volume.proofs.TreeWalks.{passes_first}
 
 -- a state leads to another by accepted calls, and in each state on the way `.` leads to its own directory

@@ -1,5 +1,7 @@
 pub use Rattle.ustar.specs.Numbers
 pub use Rattle.ustar.specs.Read
+pub use Rattle.vol_batch.specs.Batch
+pub use Rattle.vol_batch.specs.Paths
 pub use Rattle.vol_dir.specs.Access
 pub use Rattle.vol_judge.specs.Sound
 pub use Rattle.vol_volume.specs.Answer

@@ -1,5 +1,5 @@
 -- The members of an archive after an import.
-use Rattle.std.specs.Prelude.{◌≡◌, ◌≢◌, ◌⊎◌, ℕ, Bool, false, List, [], ◌∷◌, ◌++◌, Any, Result, Ok, Err, length}
+use Rattle.std.specs.Prelude.{◌≡◌, ◌≢◌, ◌⊎◌, ℕ, Bool, false, List, [], ◌∷◌, ◌++◌, Any, Result, Ok, Err}
 use Rattle.std.specs.List.{flat_map, list_any}
 use Rattle.std.specs.Str.{bytes_eq}
 use Rattle.vol_dir.specs.Access.{user}
@@ -7,25 +7,17 @@ use Rattle.vol_dir.specs.Names.{is_dots}
 use Rattle.vol_dir.specs.Tree.{Tree}
 use Rattle.vol_dir.specs.Walk.{components, find_in, root, walk_from}
 use Rattle.vol_layout.specs.declared.mode.Kind.TheVariants as kinds
-use Rattle.vol_volume.specs.Answer.{answer, read_bytes}
+use Rattle.vol_volume.specs.Answer.{answer}
 use Rattle.vol_volume.specs.declared.queries.Query.TheVariants as queries
 use Rattle.vol_volume.specs.declared.queries.Reply.TheVariants as replies
 use Rattle.vol_volume.specs.declared.queries.Stat.{Stat}
-use Rattle.vol_import.specs.Plan.{below, is_directory, joined, made_as, moment_of, permissions_of, steps_of, way_of}
+use Rattle.vol_batch.specs.Paths.{HasDirectory, HasFile, below}
+use Rattle.vol_import.specs.Plan.{is_directory, joined, made_as, moment_of, permissions_of, steps_of, way_of}
 use Rattle.vol_import.specs.declared.member_check.MadeAs.{MadeAs}
 use Rattle.vol_import.specs.declared.member_check.MadeAs.TheVariants.{File, Directory, Link}
 use Rattle.vol_import.specs.declared.member_check.MemberFault.{MemberFault}
 use Rattle.vol_import.specs.declared.faults.ArchiveFault.{ArchiveFault}
 use Rattle.vol_import.specs.declared.archive_members.Member.{Member}
-
--- a path leads to a regular file with these bytes: a Stat says that it is a regular file, and a Read from any offset returns the bytes after the
--- offset (stat, read)
-pub record HasFile (tree : Tree) (path bytes : List ℕ) : Type 0 where
-  pub stat : Stat
-  pub found : answer tree (queries.Stat user path) ≡ Ok (replies.Stat stat)
-  pub kind : stat.kind ≡ kinds.Regular
-  pub size : stat.size ≡ length bytes
-  pub read : (offset len : ℕ) → answer tree (queries.Read user path offset len) ≡ Ok (replies.Bytes (read_bytes bytes offset len))
 
 -- a Stat returns the permissions, owner and group of a member, and the time of its last change (POSIX, ustar interchange format)
 pub record IsGiven (stat : Stat) (now : ℕ) (member : Member) : Type 0 where
@@ -45,12 +37,6 @@ pub record HasLink (tree : Tree) (source target : List ℕ) : Type 0 where
   pub stat : Stat
   pub at_source : answer tree (queries.Stat user source) ≡ Ok (replies.Stat stat)
   pub at_target : answer tree (queries.Stat user target) ≡ Ok (replies.Stat stat)
-
--- a path leads to a directory (stat)
-pub record HasDirectory (tree : Tree) (path : List ℕ) : Type 0 where
-  pub stat : Stat
-  pub found : answer tree (queries.Stat user path) ≡ Ok (replies.Stat stat)
-  pub kind : stat.kind ≡ kinds.Directory
 
 -- a path leads to a directory; if there was none before and no later member is for it, it has the permissions, owner, group and time of its member (POSIX, ustar interchange format)
 pub record HasMemberDirectory (old tree : Tree) (path : List ℕ) (now : ℕ) (member : Member) (again : Bool) : Type 0 where

@@ -1,23 +1,19 @@
--- Making calls on a volume, all or nothing.
-use Rattle.std.specs.Prelude.{◌≡◌, ◌≢◌, ◌⊎◌, ℕ, ◌+◌, nat_le, if◌then◌else◌, List, [], ◌∷◌, length, true, map, Result, Ok, Err}
+-- The calls of an import made on a volume, all or nothing.
+use Rattle.std.specs.Prelude.{◌≡◌, ◌≢◌, ℕ, ◌+◌, nat_le, if◌then◌else◌, List, length, true, Result, Ok, Err}
 use Rattle.ustar.specs.Read.{path_of}
 use Rattle.ustar.specs.declared.read.HeaderFault.{HeaderFault}
 use Rattle.ustar.specs.declared.read.HeaderFault.TheVariants as headers
-use Rattle.vol_layout.specs.Geometry.{geometry_of}
 use Rattle.vol_dir.specs.Tree.{Tree}
 use Rattle.vol_judge.specs.Sound.{IsSound, IsLeastBroken}
-use Rattle.vol_change.specs.Whole.{StaysAround}
 use Rattle.vol_volume.specs.Faults.{IsFaultOf}
-use Rattle.vol_volume.specs.Journal.{Refuses, IsLegal, after}
-use Rattle.vol_volume.specs.Volume.{Mounted, Accepts, mounted, reads_as}
+use Rattle.vol_volume.specs.Volume.{Mounted, mounted}
+use Rattle.vol_batch.specs.Batch.{AreStopped, MakesCalls}
 use Rattle.vol_import.specs.Entries.{block_at}
 use Rattle.vol_import.specs.Members.{members as read_members}
 use Rattle.vol_import.specs.Plan.{plan}
 use Rattle.vol_dir.specs.declared.refusal.Refusal.{Refusal}
 use Rattle.vol_layout.specs.declared.edition.Edition.{Edition}
 use Rattle.vol_volume.specs.declared.calls.Call.{Call}
-use Rattle.vol_volume.specs.declared.calls.Done.{Done}
-use Rattle.vol_volume.specs.declared.calls.Record.{Record}
 use Rattle.vol_import.specs.declared.member_check.MemberFault.TheVariants as members
 use Rattle.vol_import.specs.declared.faults.ArchiveFault.{ArchiveFault}
 use Rattle.vol_volume.specs.declared.volume.MountFault.{MountFault}
@@ -28,18 +24,6 @@ use Rattle.vol_import.specs.declared.make.ImportFault.TheVariants as faults
 use Rattle.vol_import.specs.declared.import_plan.PlanFault.{PlanFault}
 use Rattle.vol_import.specs.declared.import_plan.PlanFault.TheVariants as plans
 use Rattle.vol_import.specs.declared.archive_members.Member.{Member}
-
--- a volume accepts all calls in order, and becomes another one (this project)
-unfoldable pub AreMade : Mounted → List Call → Mounted → Type 0
-AreMade old [] new = new ≡ old
-AreMade old (call ∷ calls) new = (between : Mounted) × (done : Done) × Accepts old between call done × AreMade between calls new
-
--- a volume accepts the first of the calls in order, and then refuses this one, which changes nothing (this project)
-unfoldable pub AreStopped : Mounted → List Call → Mounted → Refusal → Call → Type 0
-AreStopped old [] new refusal stopped = ⊥
-AreStopped old (call ∷ calls) new refusal stopped =
-    ((stopped ≡ call) × Refuses (reads_as old.edition old.image) call refusal × (new ≡ old))
-    ⊎ ((between : Mounted) × (done : Done) × Accepts old between call done × AreStopped between calls new refusal stopped)
 
 -- the import fault of a volume that isn't mounted for this reason (this project)
 abbrev pub unmounted : MountFault → ImportFault
@@ -104,23 +88,9 @@ IsStop old calls new (faults.Unsound rule) = ⊥
 IsStop old calls new (faults.Archive fault) = ⊥
 IsStop old calls new (faults.Member path cause) = ⊥
 
--- the bytes are a sound image that reads as the tree of the old image, which is sound, after the calls, all accepted in order; only bytes that the
--- calls change are changed (this project)
-pub record ImportsCalls (edition : Edition) (image : List ℕ) (calls : List Call) (bytes : List ℕ) : Type 0 where
-  pub mounts : IsSound edition image
-  pub journal : List Record
-  pub asked : map (λ (entry : Record). entry.call) journal ≡ calls
-  pub legal : IsLegal (reads_as edition image) journal
-  pub reads : reads_as edition bytes ≡ after (reads_as edition image) journal
-  pub sound : IsSound edition bytes
-  pub around : StaysAround (geometry_of edition image) image bytes
-  pub volume : Mounted
-  pub made : AreMade (mounted edition image) calls volume
-  pub left : volume.image ≡ bytes
-
 -- the bytes are the result of making all these calls on a sound image (this project)
 unfoldable pub Imports : Edition → List ℕ → Result (List Call) ImportFault → List ℕ → Type 0
-Imports edition image (Ok calls) bytes = ImportsCalls edition image calls bytes
+Imports edition image (Ok calls) bytes = MakesCalls edition image calls bytes
 Imports edition image (Err fault) bytes = ⊥
 
 -- one of these calls on a sound image is refused, after the calls before it were accepted (this project)

@@ -27,6 +27,7 @@ use Rattle.vol_volume.specs.declared.calls.Call.TheVariants as calls
 use Rattle.vol_volume.specs.declared.queries.Query.TheVariants as queries
 use Rattle.vol_volume.specs.declared.queries.Reply.{Reply}
 use Rattle.vol_volume.specs.declared.queries.Reply.TheVariants as replies
+use Rattle.vol_batch.specs.Paths.{below}
 use Rattle.vol_import.specs.declared.member_check.MadeAs.{MadeAs}
 use Rattle.vol_import.specs.declared.member_check.MadeAs.TheVariants.{File, Directory, Link}
 use Rattle.vol_import.specs.declared.member_check.MemberFault.{MemberFault}
@@ -105,10 +106,6 @@ check edition member =
     and_then (check_path member.path) (λ _.
     and_then (check_link made member.link) (λ _.
     and_then (owner_of edition member.header) (λ owner. Ok (made, owner)))))
-
--- the path of a member below another path (this project)
-abbrev pub below : List ℕ → List ℕ → List ℕ
-below base path = base ++ 47 ∷ path
 
 -- the permission bits of a member (POSIX, ustar interchange format)
 abbrev pub permissions_of : ReadHeader → ℕ

@@ -10,9 +10,10 @@ ghost use Rattle.vol_import.specs.Plan.{is_base, permissions_given, permissions_
 
 use crate::archive_members::Member;
 use crate::draft::{first_step, is_directory, is_directory_kind};
-use crate::import_plan::{below, moment_of, permissions_of};
+use crate::import_plan::{moment_of, permissions_of};
 use crate::member_check::{MadeAs, made_as};
 use std::alloc::{AllocError, Global};
+use vol_batch::below;
 use vol_dir::Cred;
 use vol_layout::Kind;
 use vol_volume::{Bytes, Call, Query, Reply, Volume};

@@ -1,7 +1,8 @@
 //! Plans the calls that make the members of an archive.
 ghost use Rattle.std.specs.Prelude.{◌≡◌, ◌≤◌, [], IfOk, IfErr, OnOk, Ok, length};
 ghost use Rattle.vol_volume.specs.Volume.{reads_as};
-ghost use Rattle.vol_import.specs.Plan.{below, check, permissions_of, moment_of, owner_calls, write_calls, file_calls, directory_calls, given_calls, with_directory, way_length, way_of, steps_of, with_way, with_calls, with_made, drafted, onto, plan, Tells, no_memory};
+ghost use Rattle.vol_batch.specs.Paths.{below};
+ghost use Rattle.vol_import.specs.Plan.{check, permissions_of, moment_of, owner_calls, write_calls, file_calls, directory_calls, given_calls, with_directory, way_length, way_of, steps_of, with_way, with_calls, with_made, drafted, onto, plan, Tells, no_memory};
 
 use crate::archive_members::Member;
 use crate::close::{close, directory_times, permissions_given};
@@ -9,6 +10,7 @@ use crate::draft::{Draft, ends_in_dot, is_there, joined, note_known, push_way, s
 use crate::member_check::{MadeAs, MemberFault, check};
 use std::alloc::{AllocError, Global};
 use ustar::ReadHeader;
+use vol_batch::below;
 use vol_dir::Cred;
 use vol_volume::{Bytes, Call, Volume};
 
@@ -163,16 +165,6 @@ fn push_made(
             target: path,
         }),
     }
-}
-
-/// Returns the path of a member below another path.
-pub fn below(alloc: Global, base: &[u8], path: &[u8]) -> Result<Bytes, AllocError>
-    ensures { IfOk result (λ whole. whole ≡ below base.now path.now) }
-{
-    let mut bytes = Vec::from_slice(alloc, base)?;
-    bytes.push(b'/')?;
-    bytes.extend_from_slice(path)?;
-    Ok(Bytes::from_vec(bytes))
 }
 
 /// Returns the permission bits of a member.

@@ -21,5 +21,5 @@ pub use faults::ArchiveFault;
 pub use import_options::ImportOptions;
 pub use import_plan::{PlanFault, plan};
 pub use long_names::LongNames;
-pub use make::{ImportFault, Imported, Planned, calls_with, import, import_with, make_all};
+pub use make::{ImportFault, Imported, Planned, calls_with, import, import_with};
 pub use member_check::{MOST_PATH_BYTES, MadeAs, MemberFault, check};

@@ -1,9 +1,10 @@
-//! Making calls on a volume, all or nothing.
+//! Making the calls of an import on a volume, all or nothing.
 ghost use Rattle.std.specs.Prelude.{◌≡◌, ◌⊎◌, ◌+◌, IfOk, IfErr, OnOk, Ok, length, nat_le};
 ghost use Rattle.vol_judge.specs.Sound.{IsSound};
 ghost use Rattle.vol_volume.specs.Volume.{mounted, reads_as};
 ghost use Rattle.vol_import.specs.MadeMembers.{HasArchive};
-ghost use Rattle.vol_import.specs.Make.{AreMade, AreStopped, IsUnmounted, TakesMemory, unread, unplanned, told, calls_to_make, IsStop, Tells, Imports, IsReason};
+ghost use Rattle.vol_batch.specs.Batch.{AreMade};
+ghost use Rattle.vol_import.specs.Make.{IsUnmounted, TakesMemory, unread, unplanned, told, calls_to_make, IsStop, Tells, Imports, IsReason};
 ghost use Rattle.vol_import.specs.Members.{members};
 ghost use Rattle.vol_import.specs.Options.{calls_with, chosen, chosen_members, left_out};
 ghost use Rattle.vol_import.specs.Plan.{Tells as PlanTells, plan};
@@ -16,6 +17,7 @@ use crate::import_plan::{PlanFault, plan};
 use crate::member_check::MemberFault;
 use std::alloc::Global;
 use ustar::{HeaderFault, path_of};
+use vol_batch::make_all;
 use vol_dir::Refusal;
 use vol_layout::Edition;
 use vol_volume::{Bytes, Call, MountFault, Volume};
@@ -251,21 +253,4 @@ fn stopped(refusal: Refusal, call: Call) -> ImportFault
         Refusal::NoMemory => ImportFault::NoMemory,
         _ => ImportFault::Refused(refusal, call),
     }
-}
-
-/// Makes calls on a volume in order, up to the first that is refused. That call is handed back with its refusal, and the volume keeps the changes of
-/// the calls before it.
-pub fn make_all(alloc: Global, volume: &mut Volume, calls: Vec<Call>) -> Result<(), (Refusal, Call)>
-    ensures made { OnOk result (AreMade volume.old calls.items volume.new) }
-    ensures refused { IfErr result (λ (refusal, call). AreStopped volume.old calls.items volume.new refusal call) }
-{
-    let mut left = calls;
-    left.reverse();
-    'calls: while let Some(call) = left.pop() {
-        match volume.call(alloc, call) {
-            Ok(_) => {}
-            Err(refused) => return Err(refused),
-        }
-    }
-    Ok(())
 }

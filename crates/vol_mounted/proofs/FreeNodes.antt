@@ -19,7 +19,7 @@ use Rattle.vol_volume.specs.declared.calls.Call.{Call}
 use Rattle.vol_volume.specs.declared.calls.Call.TheVariants.{Create, Mkdir, Link, Unlink, Rmdir, Write, Truncate, Chmod, Chown, Times}
 use Rattle.vol_volume.specs.declared.calls.Done.{Done}
 use Rattle.vol_volume.proofs.Journals.{reads_made}
-use Rattle.vol_import.specs.Make.{AreMade, AreStopped}
+use Rattle.vol_batch.specs.Batch.{AreMade, AreStopped}
 
 -- node x stays free
 abbrev pub StaysFree : ℕ → State → State → Type 0

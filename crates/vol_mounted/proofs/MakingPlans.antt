@@ -12,10 +12,9 @@ use Rattle.fuse_words.specs.declared.operation.Operation.{Operation}
 use Rattle.fuse_words.specs.declared.operation.Operation.TheVariants as operations
 use Rattle.fuse_words.specs.declared.request.Header.{Header}
 use Rattle.pdp_words.specs.Steps.{and_then}
-use Rattle.vol_dir.specs.Walk.{is_plain}
+use Rattle.vol_dir.specs.Walk.{is_plain, walk}
 use Rattle.vol_dir.specs.Access.{user}
 use Rattle.vol_dir.specs.Tree.{Node, tree}
-use Rattle.vol_dir.specs.Walk.{walk}
 use Rattle.vol_dir.specs.declared.cred.Cred.{Cred}
 use Rattle.vol_dir.specs.declared.refusal.Refusal.{Refusal}
 use Rattle.vol_serve.specs.Nodes.{look_up}

@@ -3,7 +3,7 @@ use Rattle.std.proofs.Common.{◌≡◌, ◌∙◌, sym, ap, ℕ, List, [], ◌�
 use Rattle.vol_dir.specs.declared.refusal.Refusal.{Refusal}
 use Rattle.vol_volume.specs.Volume.{Mounted, IsConsistent}
 use Rattle.vol_volume.specs.declared.calls.Call.{Call}
-use Rattle.vol_import.specs.Make.{AreMade, AreStopped}
+use Rattle.vol_batch.specs.Batch.{AreMade, AreStopped}
 
 made_base : (old new : Mounted) (calls : List Call) → AreMade old calls new → new.base ≡ old.base
 unfolding AreMade

@@ -10,12 +10,11 @@ use Rattle.vol_file.proofs.PlaceLists.{bytes_same, other_place}
 use Rattle.vol_dir.specs.Access.{user}
 use Rattle.vol_dir.specs.Names.{Names, get, insert, remove}
 use Rattle.vol_dir.specs.Tree.{Body, Content, Device, Directory, Node, State, Tree}
-use Rattle.vol_dir.specs.Walk.{components, find_in, is_directory, map_of, parent_from, parent_over, root, search, split_last, walk, walk_from, walk_parent}
+use Rattle.vol_dir.specs.Walk.{components, find_in, is_directory, map_of, parent_from, parent_over, root, search, split_last, walk, walk_from, walk_parent, is_plain}
 use Rattle.vol_dir.specs.declared.refusal.Refusal.{Refusal}
 use Rattle.vol_dir.specs.declared.refusal.Refusal.TheVariants as refusals
 use Rattle.vol_dir.proofs.NameMaps.{get_remove}
 use Rattle.vol_dir.proofs.PathJoins.{components-join, walk-onward}
-use Rattle.vol_dir.specs.Walk.{is_plain}
 use Rattle.vol_dir.proofs.Components.{one_component}
 use Rattle.vol_judge.specs.Sound.{IsSound}
 use Rattle.vol_judge.proofs.Parts.{sound_entries, sound_files}
@@ -30,7 +29,7 @@ use Rattle.vol_volume.specs.Volume.{Accepts, Mounted}
 use Rattle.vol_volume.specs.declared.calls.Call.TheVariants as calls
 use Rattle.vol_volume.specs.declared.calls.Done.{Done}
 use Rattle.vol_volume.proofs.Accepted.{link_passed, unlink_passed}
-use Rattle.vol_import.proofs.MadeNames.{entered, entered_found, found, found_in, get_insert, linked, path_kept}
+use Rattle.vol_batch.proofs.MadeNames.{entered, entered_found, found, found_in, get_insert, linked, path_kept}
 use Rattle.vol_volume.proofs.TreeWalks.{named, names_lead, searched}
 use Rattle.vol_serve.specs.Nodes.{after_ok, look_up, number_in, number_of}
 use Rattle.vol_serve.specs.declared.nodes.fault.NodeFault.TheVariants as faults

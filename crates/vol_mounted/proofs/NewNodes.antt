@@ -5,11 +5,10 @@ use Rattle.std.specs.List.{list_any}
 use Rattle.std.specs.Option.{option_map}
 use Rattle.std.proofs.lemmas.Bool.{and_parts, cases_eq, false≢true}
 use Rattle.std.proofs.lemmas.Bool.Decides.{nat_tests}
-use Rattle.vol_dir.specs.Walk.{is_plain}
+use Rattle.vol_dir.specs.Walk.{is_plain, IsComponent, root, walk}
 use Rattle.vol_layout.specs.Geometry.{Fits, geometry_of}
 use Rattle.vol_dir.specs.Access.{user}
 use Rattle.vol_dir.specs.Tree.{Node, State, Tree}
-use Rattle.vol_dir.specs.Walk.{IsComponent, root, walk}
 use Rattle.vol_dir.specs.declared.cred.Cred.{Cred}
 use Rattle.vol_judge.specs.Sound.{IsSound}
 use Rattle.vol_dir.specs.declared.refusal.Refusal.{Refusal}
@@ -25,9 +24,9 @@ use Rattle.vol_volume.specs.declared.calls.Call.{Call}
 use Rattle.vol_volume.specs.declared.calls.Call.TheVariants as calls
 use Rattle.vol_volume.specs.declared.calls.Done.{Done}
 use Rattle.vol_volume.specs.declared.calls.Done.TheVariants.{Made, Wrote, Plain}
-use Rattle.vol_import.specs.Make.{AreMade}
-use Rattle.vol_import.proofs.MadeNames.{Gains, HasNamesOf, KeepsNames, grown_path, names_set, path_kept}
-use Rattle.vol_import.proofs.MadePaths.{create_gains, mkdir_gains}
+use Rattle.vol_batch.specs.Batch.{AreMade}
+use Rattle.vol_batch.proofs.MadeNames.{Gains, HasNamesOf, KeepsNames, grown_path, names_set, path_kept}
+use Rattle.vol_batch.proofs.MadePaths.{create_gains, mkdir_gains}
 use Rattle.vol_mounted.specs.Plans.{given_to}
 use Rattle.vol_mounted.proofs.FreeNodes.{StaysFree, state_of, step_free, reads_next}
 use Rattle.vol_mounted.proofs.MakingPlans.{MakesAt}

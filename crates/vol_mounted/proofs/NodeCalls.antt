@@ -14,8 +14,8 @@ use Rattle.vol_volume.specs.Volume.{Accepts, Mounted}
 use Rattle.vol_volume.specs.declared.calls.Call.{Call}
 use Rattle.vol_volume.specs.declared.calls.Call.TheVariants as calls
 use Rattle.vol_volume.specs.declared.calls.Done.{Done}
-use Rattle.vol_import.specs.Make.{AreMade}
-use Rattle.vol_import.proofs.MadeNames.{HasNamesOf, found, found_in, names_set, path_kept}
+use Rattle.vol_batch.specs.Batch.{AreMade}
+use Rattle.vol_batch.proofs.MadeNames.{HasNamesOf, found, found_in, names_set, path_kept}
 use Rattle.vol_volume.proofs.TreeWalks.{named}
 use Rattle.vol_mounted.proofs.FreeNodes.{reads_next, state_of}
 use Rattle.vol_mounted.proofs.WrittenFiles.{made_one}

@@ -22,7 +22,7 @@ use Rattle.vol_dir.specs.Tree.{State, tree}
 use Rattle.vol_dir.specs.Walk.{root}
 use Rattle.vol_volume.specs.Volume.{Mounted}
 use Rattle.vol_volume.specs.declared.calls.Call.{Call}
-use Rattle.vol_import.specs.Make.{AreMade}
+use Rattle.vol_batch.specs.Batch.{AreMade}
 use Rattle.vol_serve.specs.Nodes.{look_up}
 use Rattle.vol_mounted.specs.Laws.{NumbersStayApart}
 use Rattle.vol_mounted.specs.Numbers.{birth_at, i_number, node_number}

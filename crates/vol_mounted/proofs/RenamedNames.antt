@@ -22,8 +22,8 @@ use Rattle.vol_volume.specs.declared.calls.Call.{Call}
 use Rattle.vol_volume.specs.declared.calls.Call.TheVariants as calls
 use Rattle.vol_volume.specs.declared.calls.Done.{Done}
 use Rattle.vol_volume.specs.declared.queries.Stat.{Stat}
-use Rattle.vol_import.specs.Make.{AreMade}
-use Rattle.vol_import.proofs.MadeNames.{linked}
+use Rattle.vol_batch.specs.Batch.{AreMade}
+use Rattle.vol_batch.proofs.MadeNames.{linked}
 use Rattle.vol_volume.proofs.TreeWalks.{searched}
 use Rattle.vol_serve.specs.Nodes.{look_up}
 use Rattle.vol_serve.specs.declared.nodes.fault.NodeFault.{NodeFault}

@@ -20,7 +20,7 @@ use Rattle.vol_volume.specs.Volume.{IsConsistent, Mounted, reads_as}
 use Rattle.vol_volume.specs.declared.calls.Call.{Call}
 use Rattle.vol_volume.specs.declared.calls.Call.TheVariants as calls
 use Rattle.vol_volume.specs.declared.queries.Stat.{Stat}
-use Rattle.vol_import.specs.Make.{AreMade}
+use Rattle.vol_batch.specs.Batch.{AreMade}
 use Rattle.vol_volume.proofs.TreeWalks.{named}
 use Rattle.vol_serve.specs.Nodes.{special_of}
 use Rattle.vol_serve.specs.declared.nodes.fault.NodeFault.TheVariants as faults

@@ -35,8 +35,8 @@ use Rattle.vol_volume.specs.Volume.{Accepts, Mounted}
 use Rattle.vol_volume.specs.declared.calls.Call.{Call}
 use Rattle.vol_volume.specs.declared.calls.Call.TheVariants as calls
 use Rattle.vol_volume.specs.declared.calls.Done.{Done}
-use Rattle.vol_import.specs.Make.{AreMade}
-use Rattle.vol_import.proofs.MadeNames.{no_names}
+use Rattle.vol_batch.specs.Batch.{AreMade}
+use Rattle.vol_batch.proofs.MadeNames.{no_names}
 use Rattle.vol_volume.proofs.TreeWalks.{passes_first}
 use Rattle.vol_serve.specs.Nodes.{special_of}
 use Rattle.vol_mounted.specs.Laws.{content_with}

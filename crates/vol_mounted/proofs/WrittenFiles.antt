@@ -28,7 +28,7 @@ use Rattle.vol_volume.specs.declared.calls.Call.{Call}
 use Rattle.vol_volume.specs.declared.calls.Call.TheVariants as calls
 use Rattle.vol_volume.specs.declared.calls.Done.{Done}
 use Rattle.vol_volume.proofs.Accepted.{write_passed}
-use Rattle.vol_import.specs.Make.{AreMade}
+use Rattle.vol_batch.specs.Batch.{AreMade}
 use Rattle.vol_volume.proofs.TreeWalks.{node_there}
 use Rattle.vol_serve.specs.Nodes.{after_ok, bytes_in, bytes_of}
 use Rattle.vol_serve.specs.declared.nodes.fault.NodeFault.{NodeFault}

@@ -5,7 +5,7 @@ use Rattle.vol_layout.specs.Geometry.{geometry_of}
 use Rattle.vol_dir.specs.declared.refusal.Refusal.{Refusal}
 use Rattle.vol_volume.specs.Volume.{Mounted}
 use Rattle.vol_volume.specs.declared.calls.Call.{Call}
-use Rattle.vol_import.specs.Make.{AreMade, AreStopped}
+use Rattle.vol_batch.specs.Batch.{AreMade, AreStopped}
 use Rattle.vol_mounted.specs.Orphans.{KeptFile, held_by}
 use Rattle.vol_mounted.specs.Plans.{Sight}
 use Rattle.vol_mounted.specs.declared.known.KnownNode.{KnownNode}

@@ -9,7 +9,7 @@ use crate::refusal::MountedRefusal;
 use crate::scene::Scene;
 use crate::table::NodeTable;
 use std::alloc::{AllocError, Global};
-use vol_import::make::make_all;
+use vol_batch::make_all;
 use vol_volume::Volume;
 
 /// The number of bytes of requests after which the journal is cut.
@@ -36,7 +36,7 @@ impl MountedServer {
     ghost use Rattle.std.specs.Prelude.{ℕ, List, length, IfOk, OnOk, IfErr};
     ghost use Rattle.vol_serve.specs.Messages.{Grows};
     ghost use Rattle.vol_mounted.specs.Turns.{IsSaved, IsCut};
-    ghost use Rattle.vol_import.specs.Make.{AreMade};
+    ghost use Rattle.vol_batch.specs.Batch.{AreMade};
     ghost use Rattle.vol_mounted.specs.Scenes.{sight_of};
     ghost use Rattle.vol_mounted.specs.Servers.{volume_in, owner_in, nodes_in, spare_in, sight_at, IsStopped, IsNoted};
 
@@ -96,7 +96,7 @@ impl MountedServer {
     }
 
     /// Makes calls in order, up to the first that is refused.
-    #[tactic(auto, unfolding(vol_import::specs::Make::AreMade), using(crate::proofs::Makings::made_size, crate::proofs::Makings::stopped_size))]
+    #[tactic(auto, unfolding(vol_batch::specs::Batch::AreMade), using(crate::proofs::Makings::made_size, crate::proofs::Makings::stopped_size))]
     pub(crate) fn make(&mut self, alloc: Global, calls: Calls) -> Result<(), MountedRefusal>
         ensures made { OnOk result (AreMade self.old.volume calls self.new.volume) }
         ensures stopped { IfErr result (IsStopped self.old.volume calls self.new.volume) }

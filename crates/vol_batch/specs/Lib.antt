@@ -1,0 +1,9 @@
+pub use Rattle.vol_judge.specs.Sound
+pub use Rattle.vol_volume.specs.Answer
+pub use Rattle.vol_volume.specs.Volume
+pub mod Batch
+pub mod FreedNumbers
+pub mod Laws
+pub mod Paths
+pub mod Removal
+pub mod Remove

@@ -1,5 +1,0 @@
-use Rattle.vol_removal.proofs.TakenPaths.{takes_once}
-use Rattle.vol_removal.proofs.laws.removals_are_one.Goals as goal
-
-pub returns : goal.returns
-returns c tree path now calls others one other = takes_once tree now _ calls others one.takes other.takes

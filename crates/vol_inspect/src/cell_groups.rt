@@ -110,7 +110,7 @@ fn is_hidden(blocks: &[Option<Use>], best: Use, usage: Use) -> bool
 /// Returns the cell of some blocks: the use of most of them, unless that hides that some are lost or named twice. If several uses have as many
 /// blocks, it is the one with the highest priority.
 ///
-/// Visits the blocks 21 to 23 times.
+/// Visits the blocks 19 to 21 times.
 pub fn cell_of(blocks: &[Option<Use>]) -> Cell
     ensures { result ≡ cell_of blocks.now }
 {

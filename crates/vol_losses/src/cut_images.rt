@@ -47,7 +47,7 @@ pub enum CutFault {
 }
 
 /// The number of bytes up to the end of the super-block.
-const HEAD: usize = 1024;
+pub(crate) const HEAD: usize = 1024;
 
 /// Completes the image of a volume of which only some first bytes are left, as [`filled`] does, up to the last block that its super-block states. A
 /// block that is there in part is lost: zeros take the place of all its bytes, so no entry is read that was cut in two. An image without a super-block,

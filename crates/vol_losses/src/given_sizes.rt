@@ -5,7 +5,7 @@ ghost use Rattle.vol_layout.specs.Geometry.{block_count, first_data_block};
 ghost use Rattle.vol_losses.specs.GivenSizes.{IsSized, IsUnsized, are_sizes, list_word, padded};
 
 use crate::bad_images::RescueFault;
-use crate::cut_images::CutFault;
+use crate::cut_images::{CutFault, HEAD};
 use pdp_words::Image;
 use std::alloc::AllocError;
 use vol_layout::{Edition, Super};
@@ -18,9 +18,6 @@ pub struct VolumeSizes {
     /// The number of blocks of its i-list.
     pub list_blocks: u16,
 }
-
-/// The number of bytes up to the end of the super-block.
-const HEAD: usize = 1024;
 
 /// Writes the sizes into the super-block of an image, if there are any; an image without a super-block gets one.
 pub(crate) fn sized(

@@ -1,6 +1,7 @@
 -- The result of a run of the program, from the contents of its two streams before.
 use Rattle.std.proofs.Common.{◌≡◌, ◌⊎◌, ◌∙◌, Bool, false, ℕ, List, Option, inl, inr, subst}
 use Rattle.command_faults.specs.Streams.{Gets, Streams}
+use Rattle.unixvol.specs.Exits.{Exits, ExitsAfterSaving, ToEnd}
 
 -- the two output streams, before and after
 abbrev pub streams_of : Option (List ℕ) → Option (List ℕ) → Bool → Bool → Option (List ℕ) → Option (List ℕ) → Bool → Streams
@@ -8,7 +9,7 @@ streams_of old new had_failed failed errors told untold = record { old = old; ne
 
 -- a fact about a run that starts with the contents of its two writers, which have not failed, also holds for the contents of the streams that they
 -- write to
-pub begun : (P : Streams → Type 0) (output errors old was : Option (List ℕ)) (had_failed : Bool) (new told : Option (List ℕ)) (failed untold : Bool)
+begun : (P : Streams → Type 0) (output errors old was : Option (List ℕ)) (had_failed : Bool) (new told : Option (List ℕ)) (failed untold : Bool)
     → old ≡ output → was ≡ errors → had_failed ≡ false → P (streams_of old new had_failed failed was told untold)
     → P (streams_of output new false failed errors told untold)
 begun P output errors old was had_failed new told failed untold held heard fresh holds =
@@ -16,12 +17,27 @@ begun P output errors old was had_failed new told failed untold held heard fresh
     (subst (λ e. P (streams_of old new false failed e told untold)) heard
     (subst (λ had. P (streams_of old new had failed was told untold)) fresh holds))
 
+-- a run that starts with the contents of its two writers, which have not failed, and ends, runs to its end
+pub to_end : (runs ends : Streams → ℕ → Type 0) (exits : ℕ → ℕ → Type 0) (output errors old was : Option (List ℕ)) (had_failed : Bool) (new told : Option (List ℕ)) (failed untold : Bool)
+    (status end : ℕ) → old ≡ output → was ≡ errors → had_failed ≡ false → runs (streams_of old new had_failed failed was told untold) status
+    → ends (streams_of old new had_failed failed was told untold) status → exits status end → ToEnd output errors runs ends exits end
+to_end runs ends exits output errors old was had_failed new told failed untold status end held heard fresh ran ended exit = (
+  new,
+  failed,
+  told,
+  untold,
+  status,
+  begun (λ streams. runs streams status) output errors old was had_failed new told failed untold held heard fresh ran,
+  begun (λ streams. ends streams status) output errors old was had_failed new told failed untold held heard fresh ended,
+  exit,
+)
+
 -- if a run ends with the status of `finish_printed`, this is the run's own status or 3
-pub ended_printed : (status finished end : ℕ) → end ≡ finished → (finished ≡ status) ⊎ (finished ≡ 3) → (end ≡ status) ⊎ (end ≡ 3)
+pub ended_printed : (status finished end : ℕ) → end ≡ finished → Exits status finished → Exits status end
 ended_printed status finished end is (inl same) = inl (is ∙ same)
 ended_printed status finished end is (inr file) = inr (is ∙ file)
 
 -- if a run ends with the status of `finish`, this is the run's own status, or 3 instead of 0
-pub ended : (status finished end : ℕ) → end ≡ finished → (finished ≡ status) ⊎ ((status ≡ 0) × (finished ≡ 3)) → (end ≡ status) ⊎ ((status ≡ 0) × (end ≡ 3))
+pub ended : (status finished end : ℕ) → end ≡ finished → ExitsAfterSaving status finished → ExitsAfterSaving status end
 ended status finished end is (inl same) = inl (is ∙ same)
 ended status finished end is (inr kept) = inr (kept.0, is ∙ kept.1)

@@ -1,7 +1,7 @@
 -- `identify -r`: the files and folders that it visits, and the lines that it prints.
 use Rattle.std.specs.Prelude.{◌≡◌, ◌⊎◌, ℕ, zero, suc, max, Bool, false, List, [], ◌∷◌, ◌++◌, reverse, Option, None, Some, string_bytes}
 use Rattle.std.specs.declared.io.Error.{Error}
-use Rattle.command_faults.specs.Streams.{Gets, Streams}
+use Rattle.command_faults.specs.Streams.{Streams}
 use Rattle.command_reads.specs.Print.{IsBrokenOff, IsPrintedWith}
 use Rattle.command_words.specs.declared.invocation.GuessForm.{GuessForm}
 use Rattle.host_files.specs.Folders.{AreStacked}
@@ -11,6 +11,7 @@ use Rattle.host_files.specs.declared.folders.FoundKind.{FoundKind}
 use Rattle.host_files.specs.declared.folders.FoundKind.TheVariants as found_kinds
 use Rattle.host_files.specs.declared.image_file.FileKind.TheVariants as kinds
 use Rattle.host_files.specs.declared.image_file.Stamp.{Stamp}
+use Rattle.unixvol.specs.Exits.{Exits, ToEnd}
 use Rattle.unixvol.specs.Identify.{IsLine, front_of}
 use Rattle.unixvol.specs.Runs.{IsEnd, IsStatusOfFileOrMemory}
 
@@ -76,7 +77,4 @@ RunsBelow remaining stamped stood listed streams form paths status =
 -- `identify -r` runs to its end, as `identify` does (this project)
 abbrev pub IdentifiesBelow : {F : Type 0} → (F → Option (List ℕ)) → (F → Stamp → Type 0) → (Stamp → Type 0) → (List ℕ → FolderListing → Type 0) → Option (List ℕ) → Option (List ℕ) → GuessForm → List (List ℕ) → ℕ → Type 0
 IdentifiesBelow remaining stamped stood listed output errors form paths end =
-    (new : Option (List ℕ)) × (failed : Bool) × (told : Option (List ℕ)) × (untold : Bool) × (status : ℕ)
-    × RunsBelow remaining stamped stood listed (record { old = output; new = new; had_failed = false; failed = failed; said = Gets untold errors told }) form paths status
-    × IsEnd (record { old = output; new = new; had_failed = false; failed = failed; said = Gets untold errors told }) status
-    × ((end ≡ status) ⊎ (end ≡ 3))
+    ToEnd output errors (λ streams status. RunsBelow remaining stamped stood listed streams form paths status) IsEnd Exits end

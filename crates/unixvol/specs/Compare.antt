@@ -1,12 +1,13 @@
 -- `diff`: the files that it reads, and its result.
 use Rattle.std.specs.Prelude.{◌≡◌, ◌⊎◌, ℕ, ◌≤◌, Bool, false, List, [], Option}
-use Rattle.command_faults.specs.Streams.{Gets, Streams}
+use Rattle.command_faults.specs.Streams.{Streams}
 use Rattle.command_reads.specs.Comparison.{ShowsComparison}
 use Rattle.command_reads.specs.TreeDiff.{AreRemarks}
 use Rattle.command_reads.specs.declared.comparison.Comparison.{Comparison}
 use Rattle.command_reads.specs.declared.comparison.Comparison.TheVariants as comparisons
 use Rattle.command_reads.specs.declared.diff.NamedImage.{NamedImage}
 use Rattle.command_words.specs.declared.invocation.VolumeFile.{VolumeFile}
+use Rattle.unixvol.specs.Exits.{Exits, ToEnd}
 use Rattle.unixvol.specs.Runs.{HostFiles, RunsNothing}
 
 -- `diff` runs: nothing is done, as one of the files can't be read; or both images are read, and their differences are shown (this project)
@@ -30,7 +31,5 @@ pub record EndsComparison (volume : VolumeFile) (other : List ℕ) (by : Compari
 -- `diff` runs to its end, as a command that shows part of an image does (this project)
 abbrev pub ComparesToEnd : HostFiles → Option (List ℕ) → Option (List ℕ) → VolumeFile → List ℕ → Comparison → ℕ → Type 0
 ComparesToEnd files output errors volume other by end =
-    (new : Option (List ℕ)) × (failed : Bool) × (told : Option (List ℕ)) × (untold : Bool) × (status : ℕ)
-    × RunsDiff (record { old = output; new = new; had_failed = false; failed = failed; said = Gets untold errors told }) files volume other by status
-    × EndsComparison volume other by (record { old = output; new = new; had_failed = false; failed = failed; said = Gets untold errors told }) status
-    × ((end ≡ status) ⊎ (end ≡ 3))
+    ToEnd output errors (λ streams status. RunsDiff streams files volume other by status) (λ streams status. EndsComparison volume other by streams status)
+    Exits end

@@ -8,7 +8,7 @@ use Rattle.vol_import.specs.Make.{told}
 use Rattle.vol_volume.specs.Volume.{reads_as}
 use Rattle.command_faults.specs.Faults.{fault_line, fault_status}
 use Rattle.command_faults.specs.Outcomes.{IsAmong}
-use Rattle.command_faults.specs.Streams.{Gets, Streams}
+use Rattle.command_faults.specs.Streams.{Streams}
 use Rattle.command_faults.specs.declared.answer.Remarked.{Remarked}
 use Rattle.command_faults.specs.declared.fault.Fault.{Fault}
 use Rattle.vol_layout.specs.declared.edition.Edition.{Edition}
@@ -21,6 +21,7 @@ use Rattle.command_changes.specs.Put.{calls_to_put}
 use Rattle.command_reads.specs.declared.get.FileRead.{FileRead}
 use Rattle.command_changes.specs.declared.kept.Keep.{Keep}
 use Rattle.command_changes.specs.declared.put.NewFile.{NewFile}
+use Rattle.unixvol.specs.Exits.{ExitsAfterSaving, ToEnd}
 use Rattle.unixvol.specs.Runs.{Ends, HostFiles, IsGivenFile, IsStatusOfFileOrMemory, RunsNothing}
 use Rattle.unixvol.specs.Traces.{EndsTraced}
 use Rattle.host_files.specs.declared.image_file.Stamp.{Stamp}
@@ -98,7 +99,5 @@ RunsCopy streams files stands edition (copyings.Get folder paths keeps) status =
 -- a command that copies several files runs to its end, as a plain command does (this project)
 abbrev pub CopiesToEnd : HostFiles → Standing → Option (List ℕ) → Option (List ℕ) → Edition → Copying → ℕ → Type 0
 CopiesToEnd files stands output errors edition copying end =
-    (new : Option (List ℕ)) × (failed : Bool) × (told : Option (List ℕ)) × (untold : Bool) × (status : ℕ)
-    × RunsCopy (record { old = output; new = new; had_failed = false; failed = failed; said = Gets untold errors told }) files stands edition copying status
-    × Ends (record { old = output; new = new; had_failed = false; failed = failed; said = Gets untold errors told }) status
-    × ((end ≡ status) ⊎ ((status ≡ 0) × (end ≡ 3)))
+    ToEnd output errors (λ streams status. RunsCopy streams files stands edition copying status) Ends
+    ExitsAfterSaving end

@@ -1,7 +1,7 @@
 -- `identify`: the part of each file that it reads, and the lines that it prints.
 use Rattle.std.specs.Prelude.{◌≡◌, ◌⊎◌, ℕ, ◌+◌, ◌*◌, ◌==◌, max, Bool, false, if◌then◌else◌, List, [], ◌∷◌, ◌++◌, length, take, Option, None, Some}
 use Rattle.std.specs.List.{flat_map}
-use Rattle.command_faults.specs.Streams.{Gets, Streams}
+use Rattle.command_faults.specs.Streams.{Streams}
 use Rattle.command_reads.specs.Print.{IsBrokenOff, IsPrintedWith}
 use Rattle.command_words.specs.declared.invocation.GuessForm.{GuessForm}
 use Rattle.command_words.specs.declared.invocation.GuessForm.TheVariants as forms
@@ -20,6 +20,7 @@ use Rattle.vol_identify.specs.Front.{blocks_wanted}
 use Rattle.vol_identify.specs.Guesses.{IsJudgedSo, guess_of}
 use Rattle.vol_identify.specs.declared.guess.Identified.{Identified}
 use Rattle.vol_identify.specs.declared.pack_scan.Part.{Part}
+use Rattle.unixvol.specs.Exits.{Exits, ToEnd}
 use Rattle.unixvol.specs.Runs.{IsEnd, IsStatusOfFileOrMemory}
 
 -- the greatest number of bytes of a file that are read for a guess, by its first three blocks: those of the volume that may begin there, and one block
@@ -100,7 +101,5 @@ RunsIdentify remaining stamped stood streams form paths status =
 -- `identify` runs to its end, as a command that shows part of an image does (this project)
 abbrev pub IdentifiesToEnd : {F : Type 0} → (F → Option (List ℕ)) → (F → Stamp → Type 0) → (Stamp → Type 0) → Option (List ℕ) → Option (List ℕ) → GuessForm → List (List ℕ) → ℕ → Type 0
 IdentifiesToEnd remaining stamped stood output errors form paths end =
-    (new : Option (List ℕ)) × (failed : Bool) × (told : Option (List ℕ)) × (untold : Bool) × (status : ℕ)
-    × RunsIdentify remaining stamped stood (record { old = output; new = new; had_failed = false; failed = failed; said = Gets untold errors told }) form paths status
-    × IsEnd (record { old = output; new = new; had_failed = false; failed = failed; said = Gets untold errors told }) status
-    × ((end ≡ status) ⊎ (end ≡ 3))
+    ToEnd output errors (λ streams status. RunsIdentify remaining stamped stood streams form paths status) IsEnd
+    Exits end

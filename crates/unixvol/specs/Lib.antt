@@ -2,6 +2,7 @@ pub mod Below
 pub mod Compare
 pub mod Copies
 pub mod Editions
+pub mod Exits
 pub mod LookBad
 pub mod Identify
 pub mod Reports

@@ -1,6 +1,6 @@
 -- Commands that show part of an image of which some blocks couldn't be read: the files that they read, and their result.
 use Rattle.std.specs.Prelude.{◌≡◌, ◌⊎◌, ◌*◌, ℕ, Bool, false, List, Option, None, Some}
-use Rattle.command_faults.specs.Streams.{Gets, Streams}
+use Rattle.command_faults.specs.Streams.{Streams}
 use Rattle.command_reads.specs.BadLooks.{LooksBad}
 use Rattle.command_reads.specs.declared.bad_looks.BadBlocks.{BadBlocks}
 use Rattle.command_reads.specs.declared.bad_looks.BadBlocks.TheVariants as reads
@@ -11,6 +11,7 @@ use Rattle.command_words.specs.declared.invocation.GivenBad.TheVariants as bads
 use Rattle.command_words.specs.declared.invocation.VolumeFile.{VolumeFile}
 use Rattle.vol_listing.specs.declared.options.Screen.{Screen}
 use Rattle.vol_losses.specs.declared.given_sizes.VolumeSizes.{VolumeSizes}
+use Rattle.unixvol.specs.Exits.{Exits, ToEnd}
 use Rattle.unixvol.specs.Runs.{HostFiles, IsEndWithin, RunsNothing}
 
 -- what says which blocks couldn't be read is read: the map from its file, or the ranges as they are (this project)
@@ -36,7 +37,5 @@ RunsLookBad streams files screen volume image look status =
 -- it runs to its end, as another command that shows part of an image does; its status is at most 6 (this project)
 abbrev pub LooksBadToEnd : HostFiles → Screen → Option (List ℕ) → Option (List ℕ) → VolumeFile → BadImage → BadLook → ℕ → Type 0
 LooksBadToEnd files screen output errors volume image look end =
-    (new : Option (List ℕ)) × (failed : Bool) × (told : Option (List ℕ)) × (untold : Bool) × (status : ℕ)
-    × RunsLookBad (record { old = output; new = new; had_failed = false; failed = failed; said = Gets untold errors told }) files screen volume image look status
-    × IsEndWithin 6 (record { old = output; new = new; had_failed = false; failed = failed; said = Gets untold errors told }) status
-    × ((end ≡ status) ⊎ (end ≡ 3))
+    ToEnd output errors (λ streams status. RunsLookBad streams files screen volume image look status) (λ streams status. IsEndWithin 6 streams status)
+    Exits end

@@ -31,7 +31,7 @@ use Rattle.command_reads.specs.Checkers.{Checks}
 use Rattle.command_reads.specs.Cat.{PrintsNode, IsNoWriters, cat_status}
 use Rattle.command_reads.specs.Node.{number_of}
 use Rattle.command_faults.specs.Outcomes.{Concludes, IsAmong}
-use Rattle.command_faults.specs.Streams.{Gets, Streams}
+use Rattle.command_faults.specs.Streams.{Streams}
 use Rattle.command_changes.specs.Mkfs.{mkfs_line_at}
 use Rattle.command_changes.specs.Migrate.{of_migration}
 use Rattle.command_changes.specs.Repair.{IsRepairReported, IsUnrepaired}
@@ -72,6 +72,7 @@ use Rattle.host_files.specs.declared.image_file.Stamp.{Stamp}
 use Rattle.host_files.specs.declared.saved_files.VolumePart.{VolumePart}
 use Rattle.pack_files.specs.PackFiles.{blocks_in}
 use Rattle.pack_files.specs.declared.other_volumes.Growth.{Growth}
+use Rattle.unixvol.specs.Exits.{Exits, ExitsAfterSaving, ToEnd}
 use Rattle.unixvol.specs.Reports.{IsOneFile, IsReportTold, may_report_read}
 use Rattle.unixvol.specs.Resize.{IsAlone, has_only}
 use Rattle.unixvol.specs.Traces.{EndsTraced}
@@ -520,14 +521,11 @@ abbrev pub but_remarks : Bool → Streams → Streams
 but_remarks true streams = record streams { said = λ bytes. Unit {0} }
 but_remarks false streams = streams
 
--- the program runs to its end, from the contents of its two streams: their contents afterwards, whether they failed, and the status of the run, which
--- is also the exit status unless the run's is 0 and the exit status is 3 (this project)
+-- the program runs to its end (this project)
 abbrev pub RunsToEnd : HostFiles → Option (List ℕ) → Option (List ℕ) → Result Invocation Error → ℕ → Type 0
 RunsToEnd files output errors read end =
-    (new : Option (List ℕ)) × (failed : Bool) × (told : Option (List ℕ)) × (untold : Bool) × (status : ℕ)
-    × RunsRead (record { old = output; new = new; had_failed = false; failed = failed; said = Gets untold errors told }) files status read
-    × Ends (but_remarks (may_report_read read) (record { old = output; new = new; had_failed = false; failed = failed; said = Gets untold errors told })) status
-    × ((end ≡ status) ⊎ ((status ≡ 0) × (end ≡ 3)))
+    ToEnd output errors (λ streams status. RunsRead streams files status read) (λ streams status. Ends (but_remarks (may_report_read read) streams) status)
+    ExitsAfterSaving end
 
 -- a run that may have printed something with any status ends: the status is at most `most`; if it is 0, no output failed and no fault was reported (this project)
 pub record IsEndWithin (most : ℕ) (streams : Streams) (status : ℕ) : Type 0 where
@@ -555,28 +553,22 @@ highest_status looks.Uses = 4
 highest_status (looks.List path listing) = 4
 highest_status (looks.Slots path form) = 4
 
--- work with several threads runs to its end, from the contents of the program's two streams: their contents afterwards, whether they failed, and the
--- status of the run, which is also the exit status unless that is 3 (this project)
+-- work with several threads runs to its end (this project)
 abbrev pub WorksToEnd : HostFiles → Screen → Option (List ℕ) → Option (List ℕ) → Edition → Work → ℕ → Type 0
 WorksToEnd files screen output errors edition work end =
-    (new : Option (List ℕ)) × (failed : Bool) × (told : Option (List ℕ)) × (untold : Bool) × (status : ℕ)
-    × RunsWork (record { old = output; new = new; had_failed = false; failed = failed; said = Gets untold errors told }) files screen edition work status
-    × IsEnd (record { old = output; new = new; had_failed = false; failed = failed; said = Gets untold errors told }) status
-    × ((end ≡ status) ⊎ (end ≡ 3))
+    ToEnd output errors (λ streams status. RunsWork streams files screen edition work status) IsEnd
+    Exits end
 
 -- a command that shows part of an image runs to its end, as work with several threads does (this project)
 abbrev pub LooksToEnd : HostFiles → Screen → Option (List ℕ) → Option (List ℕ) → Edition → Look → ℕ → Type 0
 LooksToEnd files screen output errors edition look end =
-    (new : Option (List ℕ)) × (failed : Bool) × (told : Option (List ℕ)) × (untold : Bool) × (status : ℕ)
-    × RunsLook (record { old = output; new = new; had_failed = false; failed = failed; said = Gets untold errors told }) files screen edition look status
-    × IsEndWithin (highest_status look) (record { old = output; new = new; had_failed = false; failed = failed; said = Gets untold errors told }) status
-    × ((end ≡ status) ⊎ (end ≡ 3))
+    ToEnd output errors (λ streams status. RunsLook streams files screen edition look status) (λ streams status. IsEndWithin (highest_status look) streams status)
+    Exits end
 
 -- a change runs to its end, as a plain command does, except that it reports the lines about the bytes to save: an import, the members left out (this
 -- project)
 abbrev pub ChangesToEnd : HostFiles → HostInput → Bool → Option (List ℕ) → Option (List ℕ) → Edition → Change → Bool → ℕ → Type 0
 ChangesToEnd files input is_terminal output errors edition change trace end =
-    (new : Option (List ℕ)) × (failed : Bool) × (told : Option (List ℕ)) × (untold : Bool) × (lines : List ℕ) × (status : ℕ)
-    × RunsChange (record { old = output; new = new; had_failed = false; failed = failed; said = Gets untold errors told }) files input is_terminal edition change trace lines status
-    × EndsWith lines (record { old = output; new = new; had_failed = false; failed = failed; said = Gets untold errors told }) status
-    × ((end ≡ status) ⊎ ((status ≡ 0) × (end ≡ 3)))
+    (lines : List ℕ)
+    × ToEnd output errors (λ streams status. RunsChange streams files input is_terminal edition change trace lines status)
+    (λ streams status. EndsWith lines streams status) ExitsAfterSaving end

@@ -1,8 +1,9 @@
 use Rattle.std.specs.Process.{exit_status}
 use Rattle.pdp_words.specs.Adapters.{writer_in, has_write_failed}
 use Rattle.command_faults.specs.Streams.{heard}
+use Rattle.unixvol.specs.Exits.{ExitsAfterSaving}
 use Rattle.unixvol.specs.Runs.{RunsChange, EndsWith, host_files, host_input}
-use Rattle.unixvol.proofs.Begun.{begun, ended}
+use Rattle.unixvol.proofs.Begun.{ended, to_end}
 use Rattle.unixvol.proofs.changes.run_to_end.Goals as goal
 
 pub returns : goal.returns
@@ -12,16 +13,10 @@ returns g c =
     let status = c.run-ending.result.status in
     let after = heard (λ sink. g.E.Write.contents (writer_in sink)) has_write_failed c.new-errors.result c.tell_fault.new.errors in
     let ran = c.run-ending.ensures after c.tell_fault.ensures in (
-      _,
-      _,
-      _,
-      _,
       ran.0,
-      status,
-      begun (λ streams. RunsChange streams files input c.args.is_terminal c.args.volume.edition c.args.change c.args.trace ran.0 status)
-          (g.O.Write.contents c.args.output) (g.E.Write.contents c.args.errors) _ _ _ _ _ _ _
-          c.noted_writer-output.ensures.bytes c.new-errors.ensures.bytes c.noted_writer-output.ensures.fresh ran.1,
-      begun (λ streams. EndsWith ran.0 streams status) (g.O.Write.contents c.args.output) (g.E.Write.contents c.args.errors) _ _ _ _ _ _ _
-          c.noted_writer-output.ensures.bytes c.new-errors.ensures.bytes c.noted_writer-output.ensures.fresh ran.2,
-      ended status c.finish.result (exit_status c.from.result) c.from.ensures c.finish.ensures,
+      to_end (λ streams status. RunsChange streams files input c.args.is_terminal c.args.volume.edition c.args.change c.args.trace ran.0 status)
+          (λ streams status. EndsWith ran.0 streams status) ExitsAfterSaving (g.O.Write.contents c.args.output) (g.E.Write.contents c.args.errors) _ _ _ _ _ _ _ status (exit_status c.from.result)
+          c.noted_writer-output.ensures.bytes c.new-errors.ensures.bytes c.noted_writer-output.ensures.fresh ran.1
+          ran.2
+          (ended status c.finish.result (exit_status c.from.result) c.from.ensures c.finish.ensures),
     )

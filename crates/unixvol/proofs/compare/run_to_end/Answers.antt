@@ -1,9 +1,10 @@
 use Rattle.std.specs.Process.{exit_status}
 use Rattle.pdp_words.specs.Adapters.{writer_in, has_write_failed}
 use Rattle.command_faults.specs.Streams.{heard}
+use Rattle.unixvol.specs.Exits.{Exits}
 use Rattle.unixvol.specs.Compare.{EndsComparison, RunsDiff}
 use Rattle.unixvol.specs.Runs.{host_files}
-use Rattle.unixvol.proofs.Begun.{begun, ended_printed}
+use Rattle.unixvol.proofs.Begun.{ended_printed, to_end}
 use Rattle.unixvol.proofs.Compared.{ends_compared}
 use Rattle.unixvol.proofs.compare.run_to_end.Goals as goal
 
@@ -12,16 +13,9 @@ returns g c =
     let files = host_files c.args.volume.at g.R.File.Read.remaining g.R.File.Write.contents g.R.ImageFiles.had g.R.ImageFiles.stood in
     let status = c.run-ending.result.status in
     let after = heard (λ sink. g.E.Write.contents (writer_in sink)) has_write_failed c.new-errors.result c.tell_fault.new.errors in
-    let runs = c.run-ending.ensures after c.tell_fault.ensures in (
-      _,
-      _,
-      _,
-      _,
-      status,
-      begun (λ streams. RunsDiff streams files c.args.volume c.args.other.now c.args.by status) (g.O.Write.contents c.args.output) (g.E.Write.contents c.args.errors) _ _ _ _ _ _ _
-          c.noted_writer-output.ensures.bytes c.new-errors.ensures.bytes c.noted_writer-output.ensures.fresh runs,
-      begun (λ streams. EndsComparison c.args.volume c.args.other.now c.args.by streams status) (g.O.Write.contents c.args.output) (g.E.Write.contents c.args.errors) _ _ _ _ _ _ _
-          c.noted_writer-output.ensures.bytes c.new-errors.ensures.bytes c.noted_writer-output.ensures.fresh
-          (ends_compared c.args.volume.at g.R.File.Read.remaining g.R.File.Write.contents g.R.ImageFiles.had g.R.ImageFiles.stood _ c.args.volume c.args.other.now c.args.by status runs),
-      ended_printed status c.finish_printed.result (exit_status c.from.result) c.from.ensures c.finish_printed.ensures,
-    )
+    let runs = c.run-ending.ensures after c.tell_fault.ensures in
+    to_end (λ streams status. RunsDiff streams files c.args.volume c.args.other.now c.args.by status)
+    (λ streams status. EndsComparison c.args.volume c.args.other.now c.args.by streams status) Exits (g.O.Write.contents c.args.output) (g.E.Write.contents c.args.errors) _ _ _ _ _ _ _ status (exit_status c.from.result)
+    c.noted_writer-output.ensures.bytes c.new-errors.ensures.bytes c.noted_writer-output.ensures.fresh runs
+    (ends_compared c.args.volume.at g.R.File.Read.remaining g.R.File.Write.contents g.R.ImageFiles.had g.R.ImageFiles.stood _ c.args.volume c.args.other.now c.args.by status runs)
+    (ended_printed status c.finish_printed.result (exit_status c.from.result) c.from.ensures c.finish_printed.ensures)

@@ -1,23 +1,18 @@
 use Rattle.std.specs.Process.{exit_status}
 use Rattle.pdp_words.specs.Adapters.{writer_in, has_write_failed}
 use Rattle.command_faults.specs.Streams.{heard}
+use Rattle.unixvol.specs.Exits.{Exits}
 use Rattle.unixvol.specs.Runs.{RunsWork, IsEnd, host_files}
-use Rattle.unixvol.proofs.Begun.{begun, ended_printed}
+use Rattle.unixvol.proofs.Begun.{ended_printed, to_end}
 use Rattle.unixvol.proofs.threads.run_to_end.Goals as goal
 
 pub returns : goal.returns
 returns g c =
     let files = host_files c.args.volume.at g.R.File.Read.remaining g.R.File.Write.contents g.R.ImageFiles.had g.R.ImageFiles.stood in
     let status = c.run-ending.result.status in
-    let after = heard (λ sink. g.E.Write.contents (writer_in sink)) has_write_failed c.new-errors.result c.tell_fault.new.errors in (
-      _,
-      _,
-      _,
-      _,
-      status,
-      begun (λ streams. RunsWork streams files c.args.screen c.args.volume.edition c.args.work status) (g.O.Write.contents c.args.output) (g.E.Write.contents c.args.errors) _ _ _ _ _ _ _
-          c.noted_writer-output.ensures.bytes c.new-errors.ensures.bytes c.noted_writer-output.ensures.fresh (c.run-ending.ensures.runs after c.tell_fault.ensures),
-      begun (λ streams. IsEnd streams status) (g.O.Write.contents c.args.output) (g.E.Write.contents c.args.errors) _ _ _ _ _ _ _
-          c.noted_writer-output.ensures.bytes c.new-errors.ensures.bytes c.noted_writer-output.ensures.fresh (c.run-ending.ensures.ends after c.tell_fault.ensures),
-      ended_printed status c.finish_printed.result (exit_status c.from.result) c.from.ensures c.finish_printed.ensures,
-    )
+    let after = heard (λ sink. g.E.Write.contents (writer_in sink)) has_write_failed c.new-errors.result c.tell_fault.new.errors in
+    to_end (λ streams status. RunsWork streams files c.args.screen c.args.volume.edition c.args.work status)
+    (λ streams status. IsEnd streams status) Exits (g.O.Write.contents c.args.output) (g.E.Write.contents c.args.errors) _ _ _ _ _ _ _ status (exit_status c.from.result)
+    c.noted_writer-output.ensures.bytes c.new-errors.ensures.bytes c.noted_writer-output.ensures.fresh (c.run-ending.ensures.runs after c.tell_fault.ensures)
+    (c.run-ending.ensures.ends after c.tell_fault.ensures)
+    (ended_printed status c.finish_printed.result (exit_status c.from.result) c.from.ensures c.finish_printed.ensures)

@@ -1,11 +1,11 @@
--- The ends of `get`, and of a change whose bytes can't be read.
+-- The ends of `get`, and of a change that lacks what it needs.
 use Rattle.std.proofs.Common.{◌≡◌, ◌≢◌, ◌∙◌, ℕ, zero, suc, ◌≤◌, List, Option, Err, refl, sym, ap, subst, arith}
 use Rattle.std.specs.Io.KnownBytes.{Keeps}
 use Rattle.command_faults.proofs.Concluded.{fault_few}
 use Rattle.command_faults.specs.Faults.{fault_status}
 use Rattle.command_reads.specs.Get.{Asks, Prints}
-use Rattle.command_changes.specs.declared.changes.Change.{Change}
-use Rattle.command_changes.specs.declared.changes.Change.TheVariants as changes
+use Rattle.command_changes.specs.declared.changes.Needs.{Needs}
+use Rattle.command_changes.specs.declared.changes.Needs.TheVariants as needs
 use Rattle.command_faults.specs.Streams.{Streams}
 use Rattle.command_faults.specs.declared.fault.Fault.{Fault}
 use Rattle.command_faults.specs.declared.fault.Fault.TheVariants as faults
@@ -43,19 +43,9 @@ ends_shown edition image query streams status asks = record {
   whole = λ e. let shown = asks.shown e in (shown.0.0, shown.1);
 }
 
--- if the bytes that a change needs can't be read, the run ends as `Ends` requires
-pub ends_ungiven : {F G : Type 0} (remaining : F → Option (List ℕ)) (heard : G → Option (List ℕ)) (streams : Streams) (status : ℕ) (change : Change)
-    → IsUngiven (IsUnread remaining) (IsUnread heard) change status → Keeps streams.old streams.new → Ends streams status
-ends_ungiven remaining heard streams status (changes.Put path file keep now) ungiven kept = ends_unread remaining streams status ungiven kept
-ends_ungiven remaining heard streams status (changes.Import path options now) ungiven kept = ends_unread heard streams status ungiven kept
-ends_ungiven remaining heard streams status (changes.Rm path now) ungiven kept = absurd ungiven
-ends_ungiven remaining heard streams status (changes.RmAll path now) ungiven kept = absurd ungiven
-ends_ungiven remaining heard streams status (changes.Rmdir path now) ungiven kept = absurd ungiven
-ends_ungiven remaining heard streams status (changes.Mkdir path now) ungiven kept = absurd ungiven
-ends_ungiven remaining heard streams status (changes.MkdirAll path now) ungiven kept = absurd ungiven
-ends_ungiven remaining heard streams status (changes.Ln from to now) ungiven kept = absurd ungiven
-ends_ungiven remaining heard streams status (changes.Mv from to now) ungiven kept = absurd ungiven
-ends_ungiven remaining heard streams status (changes.Chmod path perm now) ungiven kept = absurd ungiven
-ends_ungiven remaining heard streams status (changes.Chown path uid gid now) ungiven kept = absurd ungiven
-ends_ungiven remaining heard streams status (changes.Touch path now) ungiven kept = absurd ungiven
-ends_ungiven remaining heard streams status changes.Salvage ungiven kept = absurd ungiven
+-- if what a change needs can't be read, the run ends as `Ends` requires
+pub ends_ungiven : {F G : Type 0} (remaining : F → Option (List ℕ)) (heard : G → Option (List ℕ)) (streams : Streams) (status : ℕ) (wanted : Needs)
+    → IsUngiven (IsUnread remaining) (IsUnread heard) wanted status → Keeps streams.old streams.new → Ends streams status
+ends_ungiven remaining heard streams status (needs.File file keep) ungiven kept = ends_unread remaining streams status ungiven kept
+ends_ungiven remaining heard streams status needs.Archive ungiven kept = ends_unread heard streams status ungiven kept
+ends_ungiven remaining heard streams status needs.Nothing ungiven kept = absurd ungiven

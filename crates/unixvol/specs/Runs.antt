@@ -25,8 +25,10 @@ use Rattle.command_changes.specs.declared.kept.Keep.{Keep}
 use Rattle.command_changes.specs.declared.kept.Keep.TheVariants as keeps
 use Rattle.command_changes.specs.declared.kept.Kept.{Kept}
 use Rattle.command_changes.specs.declared.kept.Kept.TheVariants as kepts
+use Rattle.command_changes.specs.Needs.{needs_of}
 use Rattle.command_changes.specs.declared.changes.Change.{Change}
-use Rattle.command_changes.specs.declared.changes.Change.TheVariants as changes
+use Rattle.command_changes.specs.declared.changes.Needs.{Needs}
+use Rattle.command_changes.specs.declared.changes.Needs.TheVariants as needs
 use Rattle.command_reads.specs.Checkers.{Checks}
 use Rattle.command_reads.specs.Cat.{PrintsNode, IsNoWriters, cat_status}
 use Rattle.command_reads.specs.Node.{number_of}
@@ -367,16 +369,16 @@ pub record HostInput : Type 1 where
 abbrev pub host_input : {F : Type 0} → (F → Option (List ℕ)) → HostInput
 host_input remaining = record { unread = IsUnread remaining; given = GaveArchive remaining }
 
--- the bytes that a change needs, from the file to put or from the archive on standard input, aren't read, with this status (this project)
-abbrev pub IsUngiven : (ℕ → Type 0) → (ℕ → Type 0) → Change → ℕ → Type 0
-IsUngiven unread unheard (changes.Put path file keep now) status = unread status
-IsUngiven unread unheard (changes.Import path options now) status = unheard status
-IsUngiven unread unheard _ status = ⊥
+-- what a change needs, the file to put or the archive on standard input, isn't read, with this status (this project)
+abbrev pub IsUngiven : (ℕ → Type 0) → (ℕ → Type 0) → Needs → ℕ → Type 0
+IsUngiven unread unheard (needs.File file keep) status = unread status
+IsUngiven unread unheard needs.Archive status = unheard status
+IsUngiven unread unheard needs.Nothing status = ⊥
 
--- nothing is done: the bytes that a change needs aren't read, and nothing is printed (this project)
+-- nothing is done: what a change needs isn't read, and nothing is printed (this project)
 abbrev pub TakesNothing : Streams → HostFiles → HostInput → Change → ℕ → Type 0
 TakesNothing streams files input change status =
-    IsUngiven files.unread input.unread change status × Keeps streams.old streams.new × (streams.failed ≡ streams.had_failed) × streams.said []
+    IsUngiven files.unread input.unread (needs_of change) status × Keeps streams.old streams.new × (streams.failed ≡ streams.had_failed) × streams.said []
 
 -- this may be kept of a file, besides its bytes: permissions of 12 bits, or these and a time (this project)
 abbrev pub IsKept : Keep → Kept → Type 0
@@ -391,14 +393,14 @@ IsGivenFile read keep given = read given.bytes.items × IsKept keep given.kept
 
 -- the bytes to put were read from a file, with what is kept of it, and the archive to import from standard input; other changes need no bytes (this
 -- project)
-abbrev pub IsGivenTo : (List ℕ → Type 0) → (List ℕ → Type 0) → Change → GivenFile → Type 0
-IsGivenTo read heard (changes.Put path file keep now) given = IsGivenFile read keep given
-IsGivenTo read heard (changes.Import path options now) given = heard given.bytes.items
-IsGivenTo read heard _ given = Unit {0}
+abbrev pub IsGivenTo : (List ℕ → Type 0) → (List ℕ → Type 0) → Needs → GivenFile → Type 0
+IsGivenTo read heard (needs.File file keep) given = IsGivenFile read keep given
+IsGivenTo read heard needs.Archive given = heard given.bytes.items
+IsGivenTo read heard needs.Nothing given = Unit {0}
 
 -- true if a change imports an archive from standard input, and standard input is a terminal (this project)
-abbrev pub wants_terminal : Bool → Change → Bool
-wants_terminal is_terminal (changes.Import path options now) = is_terminal
+abbrev pub wants_terminal : Bool → Needs → Bool
+wants_terminal is_terminal needs.Archive = is_terminal
 wants_terminal is_terminal _ = false
 
 -- nothing is done or printed, since an archive is needed from a terminal; the status is the one for a file that can't be read (this project)
@@ -412,7 +414,7 @@ abbrev pub ChangesImage : Streams → HostFiles → HostInput → Edition → Ch
 ChangesImage streams files input edition change trace lines status =
     ((lines ≡ []) × (RunsNothing streams files status ⊎ TakesNothing streams files input change status))
     ⊎ ((image : List ℕ) × (stamp : Stamp) × (given : GivenFile) × (outcome : Result Remarked Fault) × files.opened edition image stamp
-    × IsGivenTo (files.put edition) input.given change given × IsAmong (changed edition image given change trace) outcome
+    × IsGivenTo (files.put edition) input.given (needs_of change) given × IsAmong (changed edition image given change trace) outcome
     × (lines ≡ (changed edition image given change trace).lines)
     × EndsTraced (λ saved. files.stored saved × files.stood stamp) outcome streams status)
 
@@ -420,8 +422,8 @@ ChangesImage streams files input edition change trace lines status =
 -- (this project)
 abbrev pub RunsChange : Streams → HostFiles → HostInput → Bool → Edition → Change → Bool → List ℕ → ℕ → Type 0
 RunsChange streams files input is_terminal edition change trace lines status =
-    ((wants_terminal is_terminal change ≡ true) × (lines ≡ []) × LeavesTerminal streams status)
-    ⊎ ((wants_terminal is_terminal change ≡ false) × ChangesImage streams files input edition change trace lines status)
+    ((wants_terminal is_terminal (needs_of change) ≡ true) × (lines ≡ []) × LeavesTerminal streams status)
+    ⊎ ((wants_terminal is_terminal (needs_of change) ≡ false) × ChangesImage streams files input edition change trace lines status)
 
 -- the invocation is a plain command: it doesn't show part of an image, compare two images, guess what images are, change a volume, copy several files or use several threads (this project)
 abbrev pub IsPlainCommand : Invocation → Type 0

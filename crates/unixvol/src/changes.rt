@@ -11,7 +11,7 @@ use crate::read::{Begun, begin, read_given, read_open};
 use crate::save::save_traced;
 use crate::subject::Subject;
 use command_changes::change::perform;
-use command_changes::{Change, GivenFile, Kept};
+use command_changes::{Change, GivenFile, Kept, Needs};
 use command_faults::Ending;
 use command_line::VolumeFile;
 use host_files::{FileKind, ImageFiles, UpTo, noted_writer};
@@ -94,13 +94,14 @@ fn run<R: ImageFiles + Clock + Eprint + AllocGlobal, I: Read + Drop, O: Sink>(
         × RunsChange (streams O.contents O.failed output.old output.new errors) (host_files volume.entry.at R.File.remaining R.File.contents R.had R.stood) (host_input I.remaining) is_terminal volume.entry.edition change.entry trace lines result.status
         × EndsWith lines (streams O.contents O.failed output.old output.new errors) result.status }
 {
-    if wants_terminal(is_terminal, change) {
+    let needs = change.needs();
+    if wants_terminal(is_terminal, needs) {
         return Ending {
             status: explain_unread(host, NamedFile::Input, io::Error::other(TERMINAL)),
             fault: None,
         };
     }
-    let begun = match begin(host, volume, || given_to(host, volume, input, change)) {
+    let begun = match begin(host, volume, || given_to(host, volume, input, needs)) {
         Ok(begun) => begun,
         Err(status) => {
             return Ending {
@@ -122,33 +123,30 @@ fn run<R: ImageFiles + Clock + Eprint + AllocGlobal, I: Read + Drop, O: Sink>(
 }
 
 /// True if an archive is needed from standard input, which is a terminal.
-fn wants_terminal(is_terminal: bool, change: Change<'_>) -> bool
-    ensures { result ≡ wants_terminal is_terminal change.entry }
+fn wants_terminal(is_terminal: bool, needs: Needs<'_>) -> bool
+    ensures { result ≡ wants_terminal is_terminal needs.entry }
 {
-    match change {
-        Change::Import { .. } => is_terminal,
-        _ => false,
-    }
+    matches!(needs, Needs::Archive) && is_terminal
 }
 
-/// Returns the bytes of the file to put, with what is kept of it, or of the archive to import; none for another change.
+/// Returns the bytes that a change needs, with what is kept of their file; none if it needs nothing.
 fn given_to<R: ImageFiles + Eprint + AllocGlobal, I: Read + Drop>(
     host: &Surroundings<'_, R>,
     volume: VolumeFile<'_>,
     input: I,
-    change: Change<'_>,
+    needs: Needs<'_>,
 ) -> Result<GivenFile, u8>
-    ensures given { IfOk result (IsGivenTo (GavePut volume.entry.edition R.File.remaining) (GaveArchive I.remaining) change.entry) }
-    ensures fault { IfErr result (IsUngiven (IsUnread R.File.remaining) (IsUnread I.remaining) change.entry) }
+    ensures given { IfOk result (IsGivenTo (GavePut volume.entry.edition R.File.remaining) (GaveArchive I.remaining) needs.entry) }
+    ensures fault { IfErr result (IsUngiven (IsUnread R.File.remaining) (IsUnread I.remaining) needs.entry) }
 {
-    match change {
-        Change::Put { file, keep, .. } => read_given(host, volume.edition, file, keep),
-        Change::Import { .. } => {
+    match needs {
+        Needs::File { file, keep } => read_given(host, volume.edition, file, keep),
+        Needs::Archive => {
             let blocks = archive_room(host.rt, volume.image);
             let read = read_open(host, NamedFile::Input, UpTo::Archive(blocks), input)?;
             Ok(with_nothing(read.bytes))
         }
-        _ => Ok(with_nothing(Vec::new(host.rt.alloc()))),
+        Needs::Nothing => Ok(with_nothing(Vec::new(host.rt.alloc()))),
     }
 }
 

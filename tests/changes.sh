@@ -276,6 +276,26 @@ stat /one:2 NoEntry
 END
     prints none rm -r "$edition" named.img other 2000
     is_as_before named.img
+
+    # A boot block: the program, and zeros after it; all other bytes stay.
+    "$program" mkfs "$edition" start.img 40 3 0 0 1000
+    put start.img 0 "$(repeated 512 EE)"
+    tail -c +513 start.img > rest
+    prints none boot "$edition" start.img hello
+    { cat hello; head -c 506 /dev/zero; cat rest; } > wanted
+    saves 'a boot block' start.img wanted
+    put whole 0 "$(repeated 512 A7)"
+    prints none boot "$edition" start.img whole
+    cat whole rest > wanted
+    saves 'a boot block that is full' start.img wanted
+    { cat whole; printf x; } > longer
+    refuses 1 'unixvol: 27 TooBig' boot "$edition" start.img longer
+    refuses 3 'unixvol: cannot read missing' boot "$edition" start.img missing
+    changed start.img cut.img 514 '00 00 00 00'
+    refuses 1 'unixvol: unsound, rule 2' boot "$edition" cut.img hello
+    head -c 511 start.img > cut.img
+    refuses 1 'unixvol: unsound, rule 1' boot "$edition" cut.img hello
+    saves 'a volume whose boot block was refused' start.img wanted
 done
 
 echo "$passed passed, $failed failed"

@@ -3,6 +3,7 @@ ghost use Rattle.command_faults.specs.Outcomes.{IsAmong, Concludes};
 ghost use Rattle.command_faults.specs.Streams.{heard, streams};
 ghost use Rattle.command_changes.specs.Changes.{changed};
 
+use crate::boot::boot;
 use crate::changes::Change;
 use crate::chmod::chmod;
 use crate::chown::chown;
@@ -44,7 +45,8 @@ pub fn do_change<O: Sink, E: Sink>(
 }
 
 /// Makes a change of the volume in an image, with calls as user 0, all or none. `given` holds the bytes of the file to put and what it gets besides
-/// them, or the bytes of the archive to import. If `trace` is true, the outcome has the trace of the calls; `salvage` has none.
+/// them, or those of the boot program or of the archive to import. If `trace` is true, the outcome has the trace of the calls; `salvage` and `boot` have
+/// none.
 ///
 /// Takes memory to mount the image and for the calls, costs as much as the calls, and needs no right to wait. For a trace, takes the memory and the time of
 /// [`vol_trace::trace_of`] too.
@@ -64,6 +66,7 @@ pub fn perform(
             return import_archive(alloc, edition, image, bytes, path, options, now, trace);
         }
         Change::Salvage => return unremarked(alloc, salvage(alloc, edition, image)),
+        Change::Boot { .. } => return unremarked(alloc, boot(alloc, edition, image, &bytes)),
         Change::Put { path, now, .. } => {
             let file = GivenFile { bytes, kept };
             put(alloc, edition, image, path, file, now)

@@ -217,6 +217,7 @@ change_verb (changes.Chmod path perm now) = verbs.Chmod
 change_verb (changes.Chown path uid gid now) = verbs.Chown
 change_verb (changes.Touch path now) = verbs.Touch
 change_verb changes.Salvage = verbs.Salvage
+change_verb (changes.Boot file) = verbs.Boot
 
 -- the command that shows part of an image (this project)
 abbrev pub look_verb : Look → Verb
@@ -395,11 +396,13 @@ IsChangeGiven clock given (changes.Chown path uid gid now) = IsPathGiven (given 
     × IsMomentGiven clock (given (codes "NOW")) now
 IsChangeGiven clock given (changes.Touch path now) =
     IsPathGiven (given (codes "PATH")) path.now × IsMomentGiven clock (given (codes "NOW")) now
+IsChangeGiven clock given (changes.Boot file) = file.now ≡ the_word given (codes "FILE")
 IsChangeGiven clock given changes.Salvage = (is_set (given (codes "dry-run")) ≡ false) × IsLeftOut given (codes "output")
 
--- the words ask for the trace of a change if that option is given; `salvage` has none (this project)
+-- the words ask for the trace of a change if that option is given; `salvage` and `boot` have none (this project)
 abbrev pub IsTraceGiven : Words → Change → Bool → Type 0
 IsTraceGiven given changes.Salvage trace = trace ≡ false
+IsTraceGiven given (changes.Boot file) trace = trace ≡ false
 IsTraceGiven given _ trace = trace ≡ is_set (given (codes "trace"))
 
 -- the words choose this format of a report: JSON if its option is given (this project)

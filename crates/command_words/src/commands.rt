@@ -1,6 +1,7 @@
 //! The commands, each in a module of its own: its name, its texts, the words that it takes, and what reads them.
 
 pub(crate) mod block;
+pub(crate) mod boot;
 pub(crate) mod cat;
 pub(crate) mod check;
 pub(crate) mod chmod;

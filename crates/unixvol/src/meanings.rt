@@ -423,6 +423,7 @@ fn invalid(verb: Verb) -> &'static str {
 fn too_big(verb: Verb) -> &'static str {
     match verb {
         Verb::Put | Verb::Import => "the edition has no file, or no directory, of that size",
+        Verb::Boot => "a boot block has 512 bytes, and the program more",
         _ => "the directory for the name has the greatest size of the edition",
     }
 }

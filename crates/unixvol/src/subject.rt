@@ -164,6 +164,7 @@ impl<'a> Subject<'a> {
             Change::Chown { path, .. } => (Verb::Chown, About::Path(path)),
             Change::Touch { path, .. } => (Verb::Touch, About::Path(path)),
             Change::Salvage => (Verb::Salvage, About::Image),
+            Change::Boot { .. } => (Verb::Boot, About::Image),
         };
         Subject::new(volume, verb, about)
     }

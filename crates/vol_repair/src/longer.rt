@@ -27,6 +27,7 @@ pub fn lengthened(edition: Edition, bytes: Vec<u8>, blocks: u32) -> Result<Vec<u
     ensures lengthened { IfOk result (λ longer. IsLengthened edition blocks bytes.items longer.items) }
     ensures few { IfOk result (λ _. blocks ≤ (constants edition).block_limit) }
     ensures fault { IfErr result (λ fault. fault ≡ faults.TooMany → (constants edition).block_limit < blocks) }
+    ensures memory { IfErr result (λ fault. fault ≡ faults.NoMemory → blocks ≤ (constants edition).block_limit) }
 {
     if blocks > edition.constants().block_limit {
         return Err(LengthFault::TooMany);

@@ -17,6 +17,10 @@ pub returns-in-Salvage : goal.returns-in-Salvage
 returns-in-Salvage c = rw c.in-Salvage.is
     (among _ _ _ _ _ refl c.salvage.ensures.salvaged c.salvage.ensures.fault c.unremarked.ensures)
 
+pub returns-in-Boot : goal.returns-in-Boot
+returns-in-Boot c = rw c.in-Boot.is
+    (among _ _ _ _ _ refl c.boot.ensures.booted c.boot.ensures.fault c.unremarked.ensures)
+
 pub returns : goal.returns
 returns c = elim c.match-change.branch [
   | in-Put w ↦

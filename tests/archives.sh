@@ -714,7 +714,7 @@ PYTHON
 done
 for owner in '' : 3 3: :3 3:x x:3 65536:3 3:65536 3:3:3 +3:3 -3:3 3,3 ' 3:3'; do
     "$program" import 7 disk.img "--owner=$owner" < "$archives/ok.tar" > output 2> error
-    has "the owner '$owner' of an import" "2 error: invalid value '$owner' for '<owner>': not two numbers from 0 to 65535 with a colon between them" "$? $(head -n 1 error)"
+    has "the owner '$owner' of an import" "2 error: invalid value '$owner' for '--owner <UID:GID>': not two numbers from 0 to 65535 with a colon between them" "$? $(head -n 1 error)"
 done
 
 # An owner of the seventh edition that the sixth can't have.

@@ -332,7 +332,7 @@ has 'get -o onto a pipe' '3 unixvol: cannot write ./f unixvol: ./f: it is a pipe
 rm f
 refuses 1 'unixvol: fifteen-bytes-n: a name above 14 bytes' put 6 "$image" -t /d fifteen-bytes-n --explain
 touch -d @-1 early
-explains 3 'unixvol: cannot read early' 'unixvol: early: it was modified before 1970 or after 2106, which no volume can say' put 6 "$image" -p /early early
+explains 3 'unixvol: cannot read early' 'unixvol: early: it was modified before 1970 or after 7 February 2106, which no volume can say' put 6 "$image" -p /early early
 explains 3 'unixvol: cannot write hello' 'unixvol: hello: it is there already, and --rescue replaces no file' serve --rescue hello 6 "$image"
 : > 1975
 refuses 2 'unixvol: 1975: a moment, and a file too: write ./1975, or the moment in another form' put 6 "$image" -t /d hello 1975 --explain

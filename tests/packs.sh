@@ -152,6 +152,14 @@ if [ "$(stored full)" -ge 11900 ]; then
 fi
 rm full
 
+# A pack that is all one hole keeps it.
+truncate -s 20M hollow
+if [ "$(stored hollow)" = 0 ]; then
+    prints none mkfs 7 hollow 2000 100 0 0 1 --at 18000
+    has 'the room of a pack that was one hole' yes "$([ "$(stored hollow)" -le 2048 ] && echo yes || stored hollow)"
+fi
+rm hollow
+
 # Places where there is no volume.
 refuses 3 'unixvol: cannot read pack' ls 7 pack --at $((blocks + 1))
 printf '%s\n' 'unixvol: cannot read pack' "unixvol: pack: it ends before block $((blocks + 1))" > line
@@ -212,7 +220,7 @@ has 'a file in which a volume was to be made' no "$([ -e absent ] && echo yes ||
 refuses 3 'unixvol: cannot write /dev/null' mkfs 7 /dev/null 100 --at 0
 refuses 1 'unixvol: bounds' mkfs 7 made 3 --at 4000
 misread "error: the argument '--at' cannot be used with '--new'" mkfs --new 7 made 100 --at 4000
-misread "error: invalid value 'x' for '<at>'" mkfs 7 made 100 --at x
+misread "error: invalid value 'x' for '--at <BLOCK>'" mkfs 7 made 100 --at x
 saves 'a pack after refused words of mkfs' made placed
 rm made placed
 

@@ -313,7 +313,7 @@ exports 5 list.tar 7 cut.img --bad-blocks 860
 has 'blocks that are missing, and one of a list' 'unixvol: 3995 of 4872 blocks are lost' "$(head -n 1 error)"
 refuses 1 'unixvol: unsound, rule 2' export --bad-blocks 1 7 b.img
 while IFS= read -r list; do
-    misread "error: invalid value '$list' for '<bad-blocks>': not numbers and ranges of blocks" export --bad-blocks "$list" 7 b.img
+    misread "error: invalid value '$list' for '--bad-blocks <LIST>': not numbers and ranges of blocks" export --bad-blocks "$list" 7 b.img
 done << END
 
 5-3
@@ -375,9 +375,9 @@ refuses 2 'unixvol: no volume has 65535 blocks with an i-list of 4096' export --
 refuses 2 'unixvol: no volume has 16777217 blocks with an i-list of 9' find --sizes 16777217,9 7 b.img
 refuses 6 'unixvol: the image has 4872 of 16000000 blocks' export --sizes 16000000,100 7 b.img
 for word in '' 240 240,12,3 240,x 240,65536 4294967296,12 240, ,12; do
-    misread "error: invalid value '$word' for '<sizes>': not two decimal numbers" export --sizes "$word" 7 b.img
+    misread "error: invalid value '$word' for '--sizes <FSIZE,IBLOCKS>': not two decimal numbers" export --sizes "$word" 7 b.img
 done
-misread "error: invalid value 'ra81' for '<like>': not rk05" export --like ra81 7 b.img
+misread "error: invalid value 'ra81' for '--like <DISK>': not rk05" export --like ra81 7 b.img
 misread "error: the argument '--like' cannot be used with '--sizes'" export --like rk05 --sizes 4872,100 7 b.img
 
 # `find` prints the paths that can be read without the lost blocks, and the lines of an export.

@@ -36,8 +36,8 @@ saves 'a server without a change' served "$linux"
 
 # The file for a rescue must not exist, and isn't made without need.
 refuses 3 'unixvol: cannot write none' serve --rescue none 7 served
-misread "error: invalid value '' for '<rescue>': it is empty, and names no file" serve --rescue '' 7 served
-misread "error: invalid value '' for '<rescue>': it is empty, and names no file" serve --read-only --rescue '' 7 served
+misread "error: invalid value '' for '--rescue <FILE>': it is empty, and names no file" serve --rescue '' 7 served
+misread "error: invalid value '' for '--rescue <FILE>': it is empty, and names no file" serve --read-only --rescue '' 7 served
 prints none serve --rescue rescued 7 served
 prints none serve --read-only --rescue none 7 served
 has 'a rescue without need' 1 "$([ -e rescued ]; echo $?)"

@@ -10,7 +10,7 @@ ghost use Rattle.command_line.specs.CommandLine.{AsksNothing, IsRead, IsRefused,
 
 use clap::error::ErrorKind;
 use clap::{ArgMatches, Error};
-use command_words::{Said, Verb, WordFault, WrongWord, read_words};
+use command_words::{Need, Said, Verb, WordFault, WrongWord, read_words};
 use std::alloc::{AllocError, Global};
 
 mod builder;
@@ -105,7 +105,7 @@ fn wrong_word(alloc: Global, verb: Verb, word: WrongWord<'_>) -> Result<Error, A
         .bin_name(whole_name.as_str())?;
     let text = match verb.paths() {
         Some(paths) if word.name == "NOW" => more_text(alloc, verb, paths, word)?,
-        _ => wrong_text(alloc, word)?,
+        _ => wrong_text(alloc, verb, word)?,
     };
     command.error(ErrorKind::ValueValidation, text.as_str())
 }
@@ -122,20 +122,35 @@ fn more_text(
     paths: &str,
     word: WrongWord<'_>,
 ) -> Result<String, AllocError> {
-    let text = wrong_text(alloc, word)?;
+    let text = wrong_text(alloc, verb, word)?;
     format!(in alloc; "{text}; {} {paths}", verb.name())
 }
 
-/// Returns the text for a word that isn't valid.
-fn wrong_text(alloc: Global, word: WrongWord<'_>) -> Result<String, AllocError> {
+/// Returns the text for a word of a command that isn't valid.
+fn wrong_text(alloc: Global, verb: Verb, word: WrongWord<'_>) -> Result<String, AllocError> {
     let name = word.name;
     let wanted = word.wanted;
+    let argument = argument_text(alloc, verb, name)?;
     match word.said {
-        Said::Nothing => format!(in alloc; "no value for '<{name}>': {wanted}"),
-        Said::Word(text) => format!(in alloc; "invalid value '{text}' for '<{name}>': {wanted}"),
-        Said::Words(count) => format!(in alloc; "invalid value '{count}' for '<{name}>': {wanted}"),
+        Said::Nothing => format!(in alloc; "no value for '{argument}': {wanted}"),
+        Said::Word(text) => format!(in alloc; "invalid value '{text}' for '{argument}': {wanted}"),
+        Said::Words(count) => format!(in alloc;
+            "invalid value '{count}' for '{argument}': {wanted}"
+        ),
         Said::Option(other) => {
             format!(in alloc; "the argument '--{name}' cannot be used with '--{other}'")
         }
     }
+}
+
+/// Returns an argument of a command as the help shows it: an option that has a value with the name of that.
+fn argument_text(alloc: Global, verb: Verb, name: &str) -> Result<String, AllocError> {
+    for parameter in verb.parameters() {
+        if let Need::Value(_, value) = parameter.need {
+            if parameter.name == name {
+                return format!(in alloc; "--{name} <{}>", value.text());
+            }
+        }
+    }
+    format!(in alloc; "<{name}>")
 }

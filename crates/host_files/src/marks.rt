@@ -15,7 +15,8 @@ const PERMISSIONS: u32 = 0o7777;
 const RIGHTS: u16 = 0o777;
 
 /// The message for a file whose time of last modification doesn't fit in the 32 bits of an i-node.
-const NO_TIME: &str = "it was modified before 1970 or after 2106, which no volume can say";
+const NO_TIME: &str =
+    "it was modified before 1970 or after 7 February 2106, which no volume can say";
 
 /// What a file gets when it is copied from a volume, besides its bytes.
 #[derive(Clone, Copy)]
@@ -34,7 +35,7 @@ pub fn permissions_of<F: OpenFile>(file: &F) -> io::Result<u16>
     Ok((mode & PERMISSIONS) as u16)
 }
 
-/// Returns the time of a file's last modification, in seconds since the beginning of 1970. Fails if it is before 1970 or after 2106.
+/// Returns the time of a file's last modification, in seconds since the beginning of 1970. Fails if it is before 1970 or after 7 February 2106.
 pub fn modified_in(stamp: Stamp) -> io::Result<u32> {
     match u32::try_from(stamp.seconds) {
         Ok(seconds) => Ok(seconds),

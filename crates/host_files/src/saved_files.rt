@@ -64,10 +64,9 @@ pub(crate) struct Replaced {
 }
 
 impl Replaced {
-    /// True if the file stores fewer blocks than its size takes, so that it has holes. If the system counts no blocks, the file counts as one without.
+    /// True if the file stores fewer blocks than its size takes, so that it has holes; if the system counts no blocks, it is one hole.
     pub(crate) fn has_holes(&self) -> bool {
-        let blocks = self.metadata.blocks();
-        0 < blocks && blocks < self.metadata.len() / STORED_BLOCK
+        self.metadata.blocks() < self.metadata.len() / STORED_BLOCK
     }
 }
 

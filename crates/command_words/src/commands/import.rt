@@ -29,7 +29,8 @@ Examples:
 The archive is read from standard input, which can't be a terminal. Its format is ustar, GNU tar, pax or V7's tar.
 Its members are made below PATH: directories and files with their permissions and owners, files with their bytes
 and times of modification, and more names of files. All members are made, or none. If there are any, PATH must
-exist.
+exist, unless a member whose name is empty or a slash makes it. What follows the end of the archive is dropped, a
+second archive too.
 
 If a directory on the way to a member is missing, it is made too, with permissions 0755, user 0 and group 0. A
 directory that the volume already has stays as it is. A name longer than 14 bytes is refused, never cut, and so is

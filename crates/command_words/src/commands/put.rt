@@ -59,7 +59,7 @@ Status:
   2  the command line is wrong; or
      `unixvol: WORD: a moment, and a file too`: WORD is a file and could be NOW; write ./WORD, or another NOW
   3  `unixvol: cannot read IMAGE`, `unixvol: cannot read FILE`, `unixvol: cannot write IMAGE`; with -p, also if
-     FILE was modified before 1970 or after 2106, which no volume can say
+     FILE was modified before 1970 or after 7 February 2106, which no volume can say
      `unixvol: cannot write -`: with --trace, standard output failed, after the volume was saved
   4  `unixvol: 12 NoMemory`";
 

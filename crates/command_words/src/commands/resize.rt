@@ -27,9 +27,10 @@ data blocks are free afterwards: the free list is rebuilt.
 
 IMAGE is written only if everything succeeded: a new file is written beside it and then takes its place. If the volume
 begins at block 0 and the file ends with it, the file ends with the resized volume too, longer or shorter than before.
-Otherwise the file stays as long as it is. Blocks that a smaller volume gave up then keep what they have. A larger
-one takes blocks after it, whatever they have; but none of another volume, which is searched for as `unixvol
-identify` does. With --at, and on a device, it has to end where the file ends, or before.
+Otherwise the file gets no shorter, and blocks that a smaller volume gave up keep what they have. A larger one takes
+what follows it, whatever that is, but no block of another volume, which is searched for as `unixvol identify` does;
+if it ends behind the file's end, the file gets longer. With --at above 0, and on a device, it has to end where the
+file ends, or before.
 
 With -n nothing is written: the status is what it would be, unless writing failed.
 

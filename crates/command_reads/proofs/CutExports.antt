@@ -12,35 +12,35 @@ use Rattle.vol_layout.proofs.GeometryLaws.{geometry_is}
 use Rattle.vol_dir.specs.declared.refusal.Refusal.{Refusal}
 use Rattle.vol_losses.specs.CutImages.{IsCompleted, IsCompletedIf, IsFilled, has_size}
 use Rattle.vol_archive.specs.Export.{lost_directory_at, lost_start_read}
-use Rattle.vol_dir.specs.Directories.{directory_at, found_in as start_in, found_read as start_read}
+use Rattle.vol_dir.specs.Directories.{directory_at, found_in, found_read}
 use Rattle.vol_archive.specs.Members.{archive_bytes}
-use Rattle.vol_dir.specs.declared.directories.FoundDirectory.{FoundDirectory as ExportStart}
-use Rattle.vol_dir.specs.declared.directories.DirectoryFault.{DirectoryFault as StartFault}
+use Rattle.vol_dir.specs.declared.directories.FoundDirectory.{FoundDirectory}
+use Rattle.vol_dir.specs.declared.directories.DirectoryFault.{DirectoryFault}
 use Rattle.vol_rescue.specs.Damage.{kept_entries}
 use Rattle.vol_rescue.proofs.RightMembers.{cut_archives_right}
 use Rattle.command_reads.specs.Export.{begun}
 use Rattle.command_reads.specs.Laws.{CutExportsAreRight}
 
 -- the geometry with which an export starts, or another one if it doesn't start
-abbrev geometry_in : Result ExportStart StartFault → Geometry → Geometry
+abbrev geometry_in : Result FoundDirectory DirectoryFault → Geometry → Geometry
 geometry_in (Ok start) g = start.geometry
 geometry_in (Err fault) g = g
 
-start_kept : (g : Geometry) (found : Result ℕ Refusal) (start : ExportStart) → start_in g found ≡ Ok start → g ≡ start.geometry
-start_kept g (Ok i) start e = ap (λ (r : Result ExportStart StartFault). geometry_in r g) e
+start_kept : (g : Geometry) (found : Result ℕ Refusal) (start : FoundDirectory) → found_in g found ≡ Ok start → g ≡ start.geometry
+start_kept g (Ok i) start e = ap (λ (r : Result FoundDirectory DirectoryFault). geometry_in r g) e
 start_kept g (Err refusal) start e = absurd (cc)
 
 -- an export starts with the geometry that was read
-read_start : (image path : List ℕ) (found : Result Geometry GeometryFault) (start : ExportStart) → start_read image path found ≡ Ok start → found ≡ Ok start.geometry
+read_start : (image path : List ℕ) (found : Result Geometry GeometryFault) (start : FoundDirectory) → found_read image path found ≡ Ok start → found ≡ Ok start.geometry
 read_start image path (Ok g) start e = ap Ok (start_kept g (directory_at g image path) start e)
 read_start image path (Err fault) start e = absurd (cc)
 
-read_lost_start : (image path : List ℕ) (found : Result Geometry GeometryFault) (start : ExportStart) → lost_start_read image path found ≡ Ok start
+read_lost_start : (image path : List ℕ) (found : Result Geometry GeometryFault) (start : FoundDirectory) → lost_start_read image path found ≡ Ok start
     → found ≡ Ok start.geometry
 read_lost_start image path (Ok g) start e = ap Ok (start_kept g (lost_directory_at g image path) start e)
 read_lost_start image path (Err fault) start e = absurd (cc)
 
-read_begun : (lost : Bool) (edition : Edition) (image path : List ℕ) (start : ExportStart) → begun lost edition image path ≡ Ok start
+read_begun : (lost : Bool) (edition : Edition) (image path : List ℕ) (start : FoundDirectory) → begun lost edition image path ≡ Ok start
     → geometry_read edition image ≡ Ok start.geometry
 read_begun true edition image path start e = read_lost_start image path (geometry_read edition image) start e
 read_begun false edition image path start e = read_start image path (geometry_read edition image) start e

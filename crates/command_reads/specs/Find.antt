@@ -4,7 +4,7 @@ use Rattle.std.specs.List.{flat_map}
 use Rattle.serde_json.specs.Data.{Data, member, no_members, object, string}
 use Rattle.escaped_text.specs.Escape.{escaped}
 use Rattle.name_patterns.specs.Like.{is_like, last_name}
-use Rattle.vol_dir.specs.declared.directories.FoundDirectory.{FoundDirectory as ExportStart}
+use Rattle.vol_dir.specs.declared.directories.FoundDirectory.{FoundDirectory}
 use Rattle.vol_archive.specs.declared.met_entries.MetEntry.{MetEntry}
 use Rattle.vol_layout.specs.declared.edition.Edition.{Edition}
 use Rattle.vol_layout.specs.declared.geometry.Geometry.{Geometry}
@@ -57,7 +57,7 @@ TellsFound geometry image (mark ∷ marks) start founds lines short = TellsLosse
 -- the lines about them (find)
 pub record AreFound (edition : Edition) (image : List ℕ) (marks : List Bool) (path : List ℕ) (pattern : Option (List ℕ)) (lost : Bool) (form : OutputForm)
     (screen : Screen) (short : Bool) (text lines : List ℕ) : Type 0 where
-  pub start : ExportStart
+  pub start : FoundDirectory
   pub founds : List MetEntry
   pub begins : begun lost edition image path ≡ Ok start
   pub walk : AreVisited lost start.geometry image start.inode founds

@@ -5,7 +5,7 @@ use Rattle.vol_losses.specs.CutImages.{IsCompleted, IsIncomplete}
 use Rattle.vol_losses.specs.declared.cut_images.CutFault.{CutFault}
 use Rattle.vol_losses.specs.declared.cut_images.CutFault.TheVariants as cuts
 use Rattle.vol_archive.specs.Members.{archive_bytes}
-use Rattle.vol_dir.specs.declared.directories.FoundDirectory.{FoundDirectory as ExportStart}
+use Rattle.vol_dir.specs.declared.directories.FoundDirectory.{FoundDirectory}
 use Rattle.vol_archive.specs.declared.met_entries.MetEntry.{MetEntry}
 use Rattle.vol_rescue.specs.Damage.{kept_entries}
 use Rattle.vol_rescue.specs.Lines.{TellsLosses}
@@ -41,13 +41,13 @@ TellsIncomplete edition bytes streams status =
     ⊎ IsTold streams no_memory status
 
 -- the bytes of the archive of the entries found, without those that are damaged (this project)
-abbrev pub exported_bytes : ExportStart → List ℕ → List Bool → ExportOptions → List MetEntry → List ℕ
+abbrev pub exported_bytes : FoundDirectory → List ℕ → List Bool → ExportOptions → List MetEntry → List ℕ
 exported_bytes start image lost options founds =
     archive_bytes start.geometry image (kept_entries start.geometry image lost options.losses.damaged founds)
 
 -- all remarks on an export, and whether something isn't exported: if there are lost blocks, what is lost, else what is wrong with the volume (this
 -- project)
-abbrev pub TellsExport : Edition → List ℕ → List Bool → ExportStart → List MetEntry → ExportOptions → List ℕ → Bool → Type 0
+abbrev pub TellsExport : Edition → List ℕ → List Bool → FoundDirectory → List MetEntry → ExportOptions → List ℕ → Bool → Type 0
 TellsExport edition image [] start founds options lines short = TellsAll edition image start.geometry founds options lines short
 TellsExport edition image (mark ∷ lost) start founds options lines short = TellsLosses start.geometry image (mark ∷ lost) start.inode founds lines short
 

@@ -5,9 +5,9 @@ use Rattle.escaped_text.specs.Escape.{escaped}
 use Rattle.serde_json.specs.Data.{Data, array, member, no_members, object, string}
 use Rattle.serde_json.specs.View.{items_of}
 use Rattle.serde_json.specs.Written.{compact_text}
-use Rattle.vol_dir.specs.Directories.{find_directory as start_of}
-use Rattle.vol_dir.specs.declared.directories.FoundDirectory.{FoundDirectory as ExportStart}
-use Rattle.vol_dir.specs.declared.directories.DirectoryFault.{DirectoryFault as StartFault}
+use Rattle.vol_dir.specs.Directories.{find_directory}
+use Rattle.vol_dir.specs.declared.directories.FoundDirectory.{FoundDirectory}
+use Rattle.vol_dir.specs.declared.directories.DirectoryFault.{DirectoryFault}
 use Rattle.vol_dir.specs.Entries.{slot_count}
 use Rattle.vol_layout.specs.Body.{body}
 use Rattle.vol_layout.specs.Slot.{name_of, slot_at}
@@ -83,10 +83,10 @@ slots_in geometry image d forms.Json screen = slots_json geometry image d
 
 -- all slots of the directory at a path of an image, in order, in this format (this project)
 pub record IsSlotsText (edition : Edition) (image path : List ℕ) (form : OutputForm) (screen : Screen) (text : List ℕ) : Type 0 where
-  pub start : ExportStart
-  pub begins : start_of edition image path ≡ Ok start
+  pub start : FoundDirectory
+  pub begins : find_directory edition image path ≡ Ok start
   pub lines : text ≡ slots_in start.geometry image start.inode form screen
 
 -- the reason why no slots are shown: the directory can't be reached (this project)
 abbrev pub IsSlotsFault : Edition → List ℕ → List ℕ → Fault → Type 0
-IsSlotsFault edition image path fault = (why : StartFault) × (start_of edition image path ≡ Err why) × (fault ≡ unstarted why)
+IsSlotsFault edition image path fault = (why : DirectoryFault) × (find_directory edition image path ≡ Err why) × (fault ≡ unstarted why)

@@ -1,7 +1,7 @@
 -- The manifest of a tree.
 use Rattle.std.specs.Prelude.{◌≡◌, ◌⊎◌, ℕ, false, Bool, List, Ok, Err}
-use Rattle.vol_dir.specs.declared.directories.FoundDirectory.{FoundDirectory as ExportStart}
-use Rattle.vol_dir.specs.declared.directories.DirectoryFault.{DirectoryFault as StartFault}
+use Rattle.vol_dir.specs.declared.directories.FoundDirectory.{FoundDirectory}
+use Rattle.vol_dir.specs.declared.directories.DirectoryFault.{DirectoryFault}
 use Rattle.vol_archive.specs.declared.met_entries.MetEntry.{MetEntry}
 use Rattle.vol_dir.specs.Tree.{Tree, tree}
 use Rattle.vol_layout.specs.declared.edition.Edition.{Edition}
@@ -27,7 +27,7 @@ sums_in tree top founds forms.Json = sums_json tree top founds
 -- a text is the manifest of the directory at a path, with the same entries as an export, and these lines are the remarks of that export (this
 -- project)
 pub record IsManifest (edition : Edition) (image path : List ℕ) (form : OutputForm) (lost : Bool) (text lines : List ℕ) : Type 0 where
-  pub start : ExportStart
+  pub start : FoundDirectory
   pub begins : begun lost edition image path ≡ Ok start
   pub founds : List MetEntry
   pub walk : AreFound lost start.geometry image start.inode founds
@@ -38,4 +38,4 @@ pub record IsManifest (edition : Edition) (image path : List ℕ) (form : Output
 -- the reason why there is no manifest: memory ran out, or there is nothing to export (this project)
 abbrev pub IsManifestFault : Edition → List ℕ → List ℕ → Bool → Fault → Type 0
 IsManifestFault edition image path lost fault =
-    (fault ≡ no_memory) ⊎ ((why : StartFault) × (begun lost edition image path ≡ Err why) × (fault ≡ unstarted why))
+    (fault ≡ no_memory) ⊎ ((why : DirectoryFault) × (begun lost edition image path ≡ Err why) × (fault ≡ unstarted why))

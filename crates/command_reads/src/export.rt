@@ -20,8 +20,8 @@ use pdp_words::{Image, Sink};
 use std::alloc::{AllocError, Global};
 use vol_archive::{Rescue, WriteFault, lost_start_of, put_archive, rescue_below, walk};
 use vol_dir::{
-    DirectoryFault as StartFault, FoundDirectory as ExportStart, Refusal,
-    find_directory as start_of,
+    DirectoryFault, FoundDirectory, Refusal,
+    find_directory,
 };
 use vol_inspect::lost_inodes;
 use vol_layout::{Edition, Geometry};
@@ -110,7 +110,7 @@ fn export_to<O: Sink>(
     edition: Edition,
     image: &Image,
     lost: &[bool],
-    start: &ExportStart,
+    start: &FoundDirectory,
     options: ExportOptions,
     screen: Screen,
     output: &mut O,
@@ -132,7 +132,7 @@ fn export_below<O: Sink>(
     edition: Edition,
     image: &Image,
     lost: &[bool],
-    start: &ExportStart,
+    start: &FoundDirectory,
     options: ExportOptions,
     output: &mut O,
 ) -> Ending
@@ -153,7 +153,7 @@ fn write_below<O: Sink>(
     edition: Edition,
     image: &Image,
     lost: &[bool],
-    start: &ExportStart,
+    start: &FoundDirectory,
     options: ExportOptions,
     output: &mut O,
 ) -> Result<Remarks, Fault>
@@ -179,7 +179,7 @@ pub(crate) fn begun(
     image: &Image,
     path: &[u8],
     lost: bool,
-) -> Result<ExportStart, StartFault>
+) -> Result<FoundDirectory, DirectoryFault>
     ensures exact { result ≡ begun lost edition image.now path.now }
     ensures fits { IfOk result (λ start. Fits start.geometry image.now) }
     ensures directory { lost ≡ false → IfOk result (λ start. IsDirectory start.geometry image.now start.inode) }
@@ -187,7 +187,7 @@ pub(crate) fn begun(
     if lost {
         lost_start_of(edition, image, path)
     } else {
-        start_of(edition, image, path)
+        find_directory(edition, image, path)
     }
 }
 
@@ -247,22 +247,22 @@ fn told_status(graded: bool, is_short: bool) -> u8
 }
 
 /// Returns the status of an export that can't start for this reason.
-fn unstarted_status(graded: bool, fault: StartFault) -> u8
+fn unstarted_status(graded: bool, fault: DirectoryFault) -> u8
     ensures { result ≡ unstarted_status graded fault }
 {
     match fault {
-        StartFault::Unsound(_) if graded => NO_VOLUME,
+        DirectoryFault::Unsound(_) if graded => NO_VOLUME,
         _ => unstarted(fault).status(),
     }
 }
 
 /// Returns the fault of an export that can't start for this reason.
-pub(crate) fn unstarted(fault: StartFault) -> Fault
+pub(crate) fn unstarted(fault: DirectoryFault) -> Fault
     ensures { result ≡ unstarted fault }
 {
     match fault {
-        StartFault::Unsound(fault) => unmeasured(fault),
-        StartFault::Refused(refusal) => Fault::Refused(refusal),
+        DirectoryFault::Unsound(fault) => unmeasured(fault),
+        DirectoryFault::Refused(refusal) => Fault::Refused(refusal),
     }
 }
 

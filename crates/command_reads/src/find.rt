@@ -20,7 +20,7 @@ use pdp_words::Image;
 use serde_json::{Value, json};
 use std::alloc::{AllocError, Global};
 use vol_archive::MetEntry;
-use vol_dir::FoundDirectory as ExportStart;
+use vol_dir::FoundDirectory;
 use vol_layout::Edition;
 use vol_listing::json::{entries_line, escaped_text};
 use vol_listing::{Screen, joined, push_shown, shown_path};
@@ -91,7 +91,7 @@ fn remarks_on(
     alloc: Global,
     image: &Image,
     lost: &[bool],
-    start: &ExportStart,
+    start: &FoundDirectory,
     founds: &[MetEntry],
 ) -> Result<Remarks, AllocError>
     requires { Fits start.now.geometry image.now }

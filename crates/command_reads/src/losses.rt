@@ -14,7 +14,7 @@ use command_faults::Fault;
 use pdp_words::Image;
 use std::alloc::{AllocError, Global};
 use vol_archive::{MetEntry, Rescue};
-use vol_dir::FoundDirectory as ExportStart;
+use vol_dir::FoundDirectory;
 use vol_layout::Edition;
 use vol_losses::{CutFault, CutImage, completed};
 use vol_rescue::tell_losses;
@@ -68,7 +68,7 @@ pub(crate) fn remarks_on(
     edition: Edition,
     image: &Image,
     lost: &[bool],
-    start: &ExportStart,
+    start: &FoundDirectory,
     rescue: &Rescue,
     options: ExportOptions,
 ) -> Result<Remarks, AllocError>
@@ -91,7 +91,7 @@ pub(crate) fn losses_on(
     alloc: Global,
     image: &Image,
     lost: &[bool],
-    start: &ExportStart,
+    start: &FoundDirectory,
     founds: &[MetEntry],
 ) -> Result<Remarks, AllocError>
     requires { Fits start.now.geometry image.now }

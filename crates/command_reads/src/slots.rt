@@ -20,7 +20,7 @@ use serde_json::{Value, json};
 use std::alloc::{AllocError, Global};
 use vol_archive::WriteFault;
 use vol_dir::entries::{SLOTS, slot_count};
-use vol_dir::find_directory as start_of;
+use vol_dir::find_directory;
 use vol_file::{block_at, next_block};
 use vol_layout::slot::SLOT;
 use vol_layout::{Edition, Geometry, Slot};
@@ -57,7 +57,7 @@ pub(crate) fn show_slots<O: Sink>(
         → ShowsInPieces (plainly (IsSlotsText edition image.now path.now form screen) (IsSlotsFault edition image.now path.now))
         (streams O.contents O.failed output.old output.new errors) result.status }
 {
-    match start_of(edition, image, path.as_bytes()) {
+    match find_directory(edition, image, path.as_bytes()) {
         Ok(start) => {
             let (geometry, dir) = (&start.geometry, start.inode);
             let written = put_all(alloc, image, geometry, dir, form, screen, output);

@@ -1,8 +1,8 @@
 -- The end of a command that shows part of an image.
 use Rattle.std.proofs.Common.{◌≡◌, ℕ, ◌≤◌, ◌==◌, ◌||◌, Bool, true, false, if◌then◌else◌, List, [], ◌∷◌, length, Option, Result, Ok, Err, inl, inr, refl, sym, ap, subst, ◌∙◌, arith}
 use Rattle.std.proofs.lemmas.Bool.{ne_eqb, true≢false}
-use Rattle.vol_dir.specs.declared.directories.FoundDirectory.{FoundDirectory as ExportStart}
-use Rattle.vol_dir.specs.declared.directories.DirectoryFault.{DirectoryFault as StartFault}
+use Rattle.vol_dir.specs.declared.directories.FoundDirectory.{FoundDirectory}
+use Rattle.vol_dir.specs.declared.directories.DirectoryFault.{DirectoryFault}
 use Rattle.vol_dir.specs.declared.directories.DirectoryFault.TheVariants as starts
 use Rattle.command_faults.proofs.Concluded.{fault_few}
 use Rattle.command_faults.specs.Faults.{no_memory}
@@ -139,9 +139,9 @@ ends_lines most told streams status lines least within working said is =
 pub record IsMost (graded : Bool) (lost : List Bool) (most : ℕ) : Type 0 where
   pub four : 4 ≤ most
   pub told : (short : Bool) → told_status (is_graded graded lost) short ≤ most
-  pub unstarted : (fault : StartFault) → unstarted_status graded fault ≤ most
+  pub unstarted : (fault : DirectoryFault) → unstarted_status graded fault ≤ most
 
-ends_below : (most : ℕ) (edition : Edition) (image : List ℕ) (lost : List Bool) (start : ExportStart) (options : ExportOptions) (streams : Streams) (status : ℕ)
+ends_below : (most : ℕ) (edition : Edition) (image : List ℕ) (lost : List Bool) (start : FoundDirectory) (options : ExportOptions) (streams : Streams) (status : ℕ)
     → IsMost options.graded lost most → ExportsBelow edition image lost start options streams status → IsEndWithin most streams status
 ends_below most edition image lost start options streams status is_most (whole founds walk is) =
     ends_lines most (told_status (is_graded options.graded lost) is.short) streams status is.lines (told_few (is_graded options.graded lost) is.short).0
@@ -152,13 +152,13 @@ ends_below most edition image lost start options streams status is_most (short f
     ends_badly most streams status (omega (arith, is.status)) (omega (arith, is.status, few))
 ends_below most edition image lost start options streams status is_most (unbegun told) = ends_told most streams no_memory status is_most.four told
 
-ends_to : (most : ℕ) (edition : Edition) (image : List ℕ) (lost : List Bool) (start : ExportStart) (options : ExportOptions) (streams : Streams) (status : ℕ) (screen : Screen)
+ends_to : (most : ℕ) (edition : Edition) (image : List ℕ) (lost : List Bool) (start : FoundDirectory) (options : ExportOptions) (streams : Streams) (status : ℕ) (screen : Screen)
     → IsMost options.graded lost most → ExportsTo edition image lost start options streams status screen → IsEndWithin most streams status
 ends_to most edition image lost start options streams status screens.Stream is_most exports = ends_below most edition image lost start options streams status is_most exports
 ends_to most edition image lost start options streams status (screens.Terminal columns colours) is_most told = ends_told most streams _ status is_most.four told
 
 -- the status of an export that can't start is at least 1, and at most 6 if it is graded, else 4
-unstarted_few : (graded cut : Bool) (fault : StartFault) → (1 ≤ unstarted_status graded fault) × (unstarted_status graded fault ≤ most_of graded cut)
+unstarted_few : (graded cut : Bool) (fault : DirectoryFault) → (1 ≤ unstarted_status graded fault) × (unstarted_status graded fault ≤ most_of graded cut)
 unstarted_few true cut (starts.Unsound fault) = (omega arith, omega arith)
 unstarted_few false true (starts.Unsound fault) = (omega arith, omega arith)
 unstarted_few false false (starts.Unsound fault) = (omega arith, omega arith)
@@ -184,7 +184,7 @@ most_six graded lost = record {
 }
 
 pub ends_from : (most : ℕ) (edition : Edition) (image : List ℕ) (lost : List Bool) (options : ExportOptions) (screen : Screen) (streams : Streams) (status : ℕ)
-    (found : Result ExportStart StartFault) → IsMost options.graded lost most → ExportsFrom edition image lost options screen streams status found
+    (found : Result FoundDirectory DirectoryFault) → IsMost options.graded lost most → ExportsFrom edition image lost options screen streams status found
     → IsEndWithin most streams status
 ends_from most edition image lost options screen streams status (Ok start) is_most exports = ends_to most edition image lost start options streams status screen is_most exports
 ends_from most edition image lost options screen streams status (Err fault) is_most told =

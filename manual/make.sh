@@ -78,10 +78,21 @@ manual_page() {
     cat "$sections"
 }
 
-# kind WORD [COMMAND]: the kind of a word of the command line: an edition, that of a volume to make, a file, a path in the volume, or anything
+# arguments COMMAND: the words of the command, one per line: the name, with dots if the word may be repeated, a tab, and the text
+arguments() { section Arguments "$1" | sed -E -e 's/^ +[[<]([^]>]*)[]>]/\1/' -e 's/  +/\t/'; }
+
+# options [COMMAND]: the options of the command, or of the program, one per line: the name, that of the value or a hyphen, and the text, with tabs between.
+# An option with two names has two lines.
+options() {
+    section Options "$@" | sed -E -e 's/^ +//' -e 's/  +/\t/' | awk -F '\t' -v OFS='\t' '
+        { value = "-"; if (match($1, / <[A-Z:]+>/)) { value = substr($1, RSTART + 2, RLENGTH - 3); $1 = substr($1, 1, RSTART - 1) } }
+        { count = split($1, names, ", "); for (i = 1; i <= count; i++) { sub(/ .*/, "", names[i]); print names[i], value, $2 } }'
+}
+
+# kind NAME TEXT: the kind of a word or value by its name and text in the help: an edition, that of a volume to make, a file, a path in the volume, or anything
 kind() {
     case $1 in
-        EDITION) if [ "${2:-}" = mkfs ]; then echo new_edition; else echo edition; fi ;;
+        EDITION) if [[ $2 == *'possible values'* ]]; then echo edition; else echo new_edition; fi ;;
         IMAGE | FILE | SCRIPT | OLD | NEW | FOLDER | COPY | MAPFILE) echo file ;;
         PATH | FROM | TO | DIR) echo path ;;
         *) echo any ;;
@@ -90,62 +101,70 @@ kind() {
 
 # words COMMAND: the kinds of the command's words, in order; the last is followed by dots if it may be repeated
 words() {
-    local name dots
-    while read -r name; do
-        dots=
-        [[ $name == *... ]] && dots=...
-        echo "$(kind "$(tr -d '<>[].' <<< "$name")" "$1")$dots"
-    done < <(section Arguments "$1" | awk '{ print $1 }')
-}
-
-# options [COMMAND]: the options of the command, or of the program, one per line; an option with a value is followed by the value's kind
-options() {
-    section Options "$@" | sed -E -e 's/^ +//' -e 's/  .*//' | awk -F ', ' '
-        { value = ""; if (match($0, /<[A-Z:]+>/)) value = " " substr($0, RSTART + 1, RLENGTH - 2) }
-        { for (i = 1; i <= NF; i++) { sub(/ .*/, "", $i); print $i value } }'
+    local name text
+    arguments "$1" | while IFS=$'\t' read -r name text; do
+        echo "$(kind "${name%...}" "$text")${name#"${name%...}"}"
+    done
 }
 
 # valued COMMAND: the options of the command that take a value, each with the value's kind
 valued() {
-    local option name
-    options "$1" | while read -r option name; do
-        [ -z "$name" ] || echo "$option=$(kind "$name")"
+    local option name text
+    options "$1" | while IFS=$'\t' read -r option name text; do
+        [ "$name" = - ] || echo "$option=$(kind "$name" "$text")"
     done
 }
 
-# words_with_option COMMAND: the kinds of the command's words if an option with a value is given, from the second line of its usage
+# other_usage COMMAND: the second line of the usage, which names the option with a value that gives the command other words, if there is one
+other_usage() { usage "$1" | sed -n '2 s/ \[OPTIONS\]//p'; }
+
+# changing COMMAND: the names of the option that gives the command other words
+changing() {
+    local named
+    named=$(other_usage "$1" | sed -E 's/.* (--?[a-z-]+) <.*/\1/')
+    # Both names of an option have the same text.
+    options "$1" | awk -F '\t' -v named="$named" '{ names[$3] = names[$3] $1 "\n" } $1 == named { text = $3 } END { printf "%s", names[text] }'
+}
+
+# words_with_option COMMAND: the kinds of the words that a command has with this option; the last is the one that may be repeated
 words_with_option() {
-    local name dots
-    usage "$1" | sed -n 2p | sed -E -e 's/ \[OPTIONS\]//' -e 's/ -. <[A-Z:]+>//' | tr ' ' '\n' | tail -n +3 | while read -r name; do
-        dots=
-        [[ $name == *... ]] && dots=...
-        echo "$(kind "$(tr -d '<>[].' <<< "$name")")$dots"
-        [ -z "$dots" ] || break
+    local name text
+    local -A texts=()
+    while IFS=$'\t' read -r name text; do texts[${name%...}]=$text; done < <(arguments "$1")
+    for name in $(other_usage "$1" | sed -E -e 's/ --?[a-z-]+ <[^>]*>//' -e 's/[][<>]//g' | cut -d ' ' -f 3-); do
+        echo "$(kind "${name%...}" "${texts[${name%...}]:-}")${name#"${name%...}"}"
+        [[ $name != *... ]] || break
     done
 }
 
 # one_line: standard input in one line
 one_line() { paste -s -d ' ' -; }
 
-# with_values COMMAND: the part of the completion for bash on the options that take a value, if there are any
+# with_values COMMAND: the part of the completion for bash on options that take a value, and on the one that gives the command other words, if there are any
 with_values() {
-    [ -z "$(valued "$1")" ] || echo " valued='$(valued "$1" | one_line)' others='$(words_with_option "$1" | one_line)'"
+    [ -z "$(valued "$1")" ] || echo -n " valued='$(valued "$1" | one_line)'"
+    [ -z "$(changing "$1")" ] || echo -n " changing='$(changing "$1" | one_line)' others='$(words_with_option "$1" | one_line)'"
 }
+
+# of_volume: the options with a value that tell `ls` which volume to read; other commands may have them too
+of_volume() { valued ls | sed -n 's/^\(--[^=]*\)=.*/\1/p'; }
 
 bash_completion() {
     cat << 'END'
 # Completion for bash. Made by manual/make.sh.
 
-# Completes a path in the volume with the names in its directory.
+# Completes a path in the volume with the names in its directory: the first word is the path, the others are those of `ls` for the volume.
 _unixvol_paths() {
-    local folder=${3%/*} name
-    [[ $3 == */* ]] || folder=
+    local folder=${1%/*} name
+    local -a volume=()
+    [[ $1 == */* ]] || folder=
+    for name in "${@:2}"; do volume+=("$(_unixvol_plain "$name")"); done
     while IFS= read -r name; do
         name=${name:6}
         [[ $name == . || $name == .. ]] || COMPREPLY+=("$folder/$name")
-    done < <(unixvol ls -- "$(_unixvol_plain "$1")" "$(_unixvol_plain "$2")" "$folder/" 2> /dev/null)
-    [[ $3 == /* ]] || COMPREPLY=("${COMPREPLY[@]#/}")
-    mapfile -t COMPREPLY < <(compgen -W "$(printf '%q ' "${COMPREPLY[@]}")" -- "$3")
+    done < <(unixvol ls "${volume[@]}" "$folder/" 2> /dev/null)
+    [[ $1 == /* ]] || COMPREPLY=("${COMPREPLY[@]#/}")
+    mapfile -t COMPREPLY < <(compgen -W "$(printf '%q ' "${COMPREPLY[@]}")" -- "$1")
     # After a directory the path goes on.
     compopt -o nospace 2> /dev/null
 }
@@ -157,22 +176,24 @@ _unixvol_plain() {
 }
 
 _unixvol() {
-    local current=${COMP_WORDS[COMP_CWORD]} command='' options='' kinds='' valued='' others='' word previous='' expected=''
-    local -a before=("${COMP_WORDS[@]:1:COMP_CWORD-1}") given=()
+    local current=${COMP_WORDS[COMP_CWORD]} command='' options='' kinds='' valued='' changing='' others='' word previous='' expected=''
+    local -a before=("${COMP_WORDS[@]:1:COMP_CWORD-1}") given=() volume=()
     COMPREPLY=()
+    # To bash an equals sign between an option and its value is a word.
+    [[ $current != = ]] || current=
     # Options of the program come before the command.
     while [[ ${before[0]:-} == -* ]]; do before=("${before[@]:1}"); done
     command=${before[0]:-}
     if [ -z "$command" ]; then
 END
-    echo "        mapfile -t COMPREPLY < <(compgen -W '$(commands | one_line) help $(options | one_line)' -- \"\$current\")"
+    echo "        mapfile -t COMPREPLY < <(compgen -W '$(commands | one_line) help $(options | cut -f 1 | one_line)' -- \"\$current\")"
     cat << 'END'
         return
     fi
     case $command in
 END
     for command in $(commands); do
-        echo "        $command) kinds='$(words "$command" | one_line)' options='$(options "$command" | awk '{ print $1 }' | one_line)'$(with_values "$command") ;;"
+        echo "        $command) kinds='$(words "$command" | one_line)' options='$(options "$command" | cut -f 1 | one_line)'$(with_values "$command") ;;"
     done
     cat << 'END'
     esac
@@ -181,13 +202,21 @@ END
         return
     fi
     for word in "${before[@]:1}"; do
-        # To bash an equals sign between an option and its value is a word.
-        [[ $word == = ]] && continue
-        # The value of an option isn't one of the words.
-        if [[ " $valued " == *" $previous="* ]]; then
-            kinds=$others previous=''
+        [[ $word != = ]] || continue
+        # So is a colon, as in UID:GID; it and the next word belong to the word before.
+        if [[ $word == : || $previous == : ]]; then
+            [[ $previous == : ]] && previous='' || previous=:
             continue
         fi
+        # The value of an option isn't one of the words.
+        if [[ " $valued " == *" $previous="* ]]; then
+END
+    echo "            [[ ' $(of_volume | one_line) ' != *\" \$previous \"* ]] || volume+=(\"\$previous\" \"\$word\")"
+    cat << 'END'
+            previous=''
+            continue
+        fi
+        [[ " $changing " != *" $word "* ]] || kinds=$others
         previous=$word
         [[ $word == -* ]] || given+=("$word")
     done
@@ -198,11 +227,12 @@ END
         expected=${valued#*"$previous="}
         expected=${expected%% *}
     fi
+    [[ $previous != : ]] || expected=''
     case ${expected%...} in
         edition) mapfile -t COMPREPLY < <(compgen -W '6 7 any' -- "$current") ;;
         new_edition) mapfile -t COMPREPLY < <(compgen -W '6 7' -- "$current") ;;
         file) mapfile -t COMPREPLY < <(compgen -f -- "$current") ;;
-        path) _unixvol_paths "${given[0]}" "${given[1]}" "$current" ;;
+        path) _unixvol_paths "$current" "${volume[@]}" -- "${given[@]:0:2}" ;;
     esac
 }
 
@@ -224,35 +254,36 @@ completer() {
 # quoted: standard input as the text within an argument of zsh's `_arguments`
 quoted() { sed -e "s/'/'\\\\''/g" -e 's/\[/(/g' -e 's/\]/)/g' -e 's/:/\\:/g'; }
 
-# option_arguments COMMAND: the options of a command for zsh's `_arguments`, one per line
+# option_arguments COMMAND: the options of a command for zsh's `_arguments`, one per line. A value is the next word, or is in the option's word: after an
+# equals sign, or after one letter.
 option_arguments() {
-    local names text value
-    while IFS=$'\t' read -r names text; do
-        value=
-        [[ $names =~ \<([A-Z:]+)\> ]] && value=":${BASH_REMATCH[1]//:/\\:}:$(completer "$(kind "${BASH_REMATCH[1]}")")"
-        for name in $(sed -e 's/,//g' -e 's/<[A-Z:]*>//' <<< "$names"); do
-            echo "'${name}[$(quoted <<< "$text")]$value'"
-        done
-    done < <(section Options "$1" | sed -E -e 's/^ +//' -e 's/  +/\t/')
+    local option name text
+    options "$1" | while IFS=$'\t' read -r option name text; do
+        case $option:$name in
+            *:-) echo "'${option}[$(quoted <<< "$text")]'" ;;
+            --*) echo "'$option=[$(quoted <<< "$text")]:${name//:/\\:}:$(completer "$(kind "$name" "$text")")'" ;;
+            *) echo "'$option+[$(quoted <<< "$text")]:${name//:/\\:}:$(completer "$(kind "$name" "$text")")'" ;;
+        esac
+    done
 }
 
-# word_arguments COMMAND: the words of a command for zsh's `_arguments`, one per line; for a command with an option that takes a value, those without this
-# option
+# word_arguments COMMAND: the words of a command for zsh's `_arguments`, one per line; for a command with an option that gives it other words, those without
+# this option
 word_arguments() {
     local name text count=1 place
-    while IFS=$'\t' read -r name text; do
+    arguments "$1" | while IFS=$'\t' read -r name text; do
         count=$((count + 1))
         place=$count
         if [[ $name == *... ]]; then
-            [ -z "$(valued "$1")" ] || break
+            [ -z "$(changing "$1")" ] || break
             place='*'
         fi
-        name=$(tr -d '<>[].' <<< "$name")
-        echo "'$place:$name -- $(quoted <<< "$text"):$(completer "$(kind "$name" "$1")")'"
-    done < <(section Arguments "$1" | sed -E -e 's/^ +//' -e 's/  +/\t/')
+        name=${name%...}
+        echo "'$place:$name -- $(quoted <<< "$text"):$(completer "$(kind "$name" "$text")")'"
+    done
 }
 
-# repeated_argument COMMAND: the word that a command takes several times if an option with a value is given, for zsh's `_arguments`
+# repeated_argument COMMAND: the word that a command takes several times with the option that gives it other words, for zsh's `_arguments`
 repeated_argument() {
     local repeated
     repeated=$(words_with_option "$1" | tail -n 1)
@@ -261,12 +292,8 @@ repeated_argument() {
 
 # own_options: the options of the program for zsh's `_describe`, one per line
 own_options() {
-    local names text
-    while IFS=$'\t' read -r names text; do
-        for name in $(sed -e 's/,//g' <<< "$names"); do
-            echo "    '$name:$(quoted <<< "$text")'"
-        done
-    done < <(section Options | sed -E -e 's/^ +//' -e 's/  +/\t/')
+    local option name text
+    options | while IFS=$'\t' read -r option name text; do echo "    '$option:$(quoted <<< "$text")'"; done
 }
 
 # zsh_arguments COMMAND: zsh's way to complete the words of a command
@@ -274,7 +301,8 @@ zsh_arguments() {
     local options words given
     options="_arguments '1: :' $(option_arguments "$1" | one_line)"
     words=$(word_arguments "$1" | one_line)
-    given=$(valued "$1" | sed 's/=.*//' | paste -s -d '|' -)
+    # The value may be in the same word.
+    given=$(changing "$1" | sed -E -e 's/^--.*/&(|=*)/' -e 's/^-[^-]$/&*/' | paste -s -d '|' -)
     if [ -z "$given" ]; then
         echo "        $options $words"
         return
@@ -294,9 +322,14 @@ zsh_completion() {
 # Completes a path in the volume with the names in its directory.
 _unixvol_paths() {
     local given=${(Q)PREFIX} folder= name
-    local -a paths
+    local -a paths volume
     [[ $given == */* ]] && folder=${given%/*}
-    for name in "${(@f)$(unixvol ls -- "${(Q)line[2]}" "${(Q)line[3]}" "$folder/" 2> /dev/null)}"; do
+END
+    echo "    for name in $(of_volume | one_line); do"
+    cat << 'END'
+        (( $+opt_args[$name] )) && volume+=("$name" "${(Q)opt_args[$name]}")
+    done
+    for name in "${(@f)$(unixvol ls $volume -- "${(Q)line[2]}" "${(Q)line[3]}" "$folder/" 2> /dev/null)}"; do
         name=${name[7,-1]}
         [[ -z $name || $name == (.|..) ]] || paths+=("$folder/$name")
     done

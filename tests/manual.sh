@@ -44,6 +44,14 @@ for command in $(listed Commands); do
     mentions _unixvol "'$command:"
 done
 
+# The completion for zsh has other words for a command only if an option of its usage gives it others.
+branches=
+for command in $(listed Commands | grep -v help); do
+    [ "$("$program" "$command" --help | sed -n '/^Usage:/,/^$/p' | wc -l)" -le 2 ] || branches+="$command "
+done
+found=$(awk -F ')' '/^    [a-z]+\)$/ { sub(/ +/, ""); name = $1 } /words\[\(I\)/ { printf "%s ", name }' "$manual/_unixvol")
+has 'commands with other words in manual/_unixvol' "$branches" "$found"
+
 source "$manual/unixvol.bash"
 cp "$samples/linux_made.v7" disk.img
 mkdir away
@@ -75,6 +83,24 @@ completes '--explain' --ex
 completes '--explain' rm 7 --ex
 completes 'mkfs mkdir' --explain mk
 completes '/etc/motd' --explain get 7 disk.img /etc/m
+
+# With an option that has a value a command's words are the same, except those of `put -t` and `get -o`.
+image pack.img 4608
+cat disk.img >> pack.img
+completes '6 7 any' ls --at 0 ''
+completes '/usr' ls 7 disk.img --at 0 /u
+completes '/usr' mkdir 7 disk.img --at 0 /u
+completes 'disk.img' repair --blocks 300 7 dis
+completes 'disk.img' map --file /etc 7 dis
+completes 'disk.img' salvage -o x 7 dis
+completes 'disk.img' find -g '*.c' 7 dis
+completes 'disk.img' import -o 3 : 4 7 dis
+completes '' import -o 3 : 6
+completes 'disk.img' play 7 disk.img --at = 0 pack.img dis
+completes 'disk.img' put --at 0 -t /etc 7 disk.img dis
+completes '/etc/motd' get 7 pack.img --at 9 /etc/m
+completes '/etc/motd' get -o away --at = 9 7 pack.img /etc/passwd /etc/m
+completes '/etc' map 7 pack.img --at 9 --file /e
 
 echo "$passed passed, $failed failed"
 [ "$failed" -eq 0 ]

@@ -85,8 +85,8 @@ arguments() { section Arguments "$1" | sed -E -e 's/^ +[[<]([^]>]*)[]>]/\1/' -e 
 # An option with two names has two lines.
 options() {
     section Options "$@" | sed -E -e 's/^ +//' -e 's/  +/\t/' | awk -F '\t' -v OFS='\t' '
-        { value = "-"; if (match($1, / <[A-Z:]+>/)) { value = substr($1, RSTART + 2, RLENGTH - 3); $1 = substr($1, 1, RSTART - 1) } }
-        { count = split($1, names, ", "); for (i = 1; i <= count; i++) { sub(/ .*/, "", names[i]); print names[i], value, $2 } }'
+        { value = "-"; if (match($1, / <[^>]*>/)) { value = substr($1, RSTART + 2, RLENGTH - 3); $1 = substr($1, 1, RSTART - 1) } }
+        { count = split($1, names, ", "); for (i = 1; i <= count; i++) print names[i], value, $2 }'
 }
 
 # kind NAME TEXT: the kind of a word or value by its name and text in the help: an edition, that of a volume to make, a file, a path in the volume, or anything

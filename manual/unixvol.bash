@@ -39,8 +39,8 @@ _unixvol() {
         cat) kinds='edition file any' options='--at --explain -h --help' valued='--at=any' ;;
         ls) kinds='edition file path' options='--at -l --long -R --recursive -d --directory --json --slots --explain -h --help' valued='--at=any' ;;
         get) kinds='edition file path any...' options='--at -o --output -p --preserve --explain -h --help' valued='--at=any -o=file --output=file' changing='-o --output' others='edition file path...' ;;
-        find) kinds='edition file path' options='--at -g --name --lost --cut --bad --bad-blocks --sizes --like --json --explain -h --help' valued='--at=any -g=any --name=any --bad=file --bad-blocks=any --like=any' ;;
-        export) kinds='edition file path' options='--at --lost --cut --bad --bad-blocks --sizes --like --damaged --status --explain -h --help' valued='--at=any --bad=file --bad-blocks=any --like=any' ;;
+        find) kinds='edition file path' options='--at -g --name --lost --cut --bad --bad-blocks --sizes --like --json --explain -h --help' valued='--at=any -g=any --name=any --bad=file --bad-blocks=any --sizes=any --like=any' ;;
+        export) kinds='edition file path' options='--at --lost --cut --bad --bad-blocks --sizes --like --damaged --status --explain -h --help' valued='--at=any --bad=file --bad-blocks=any --sizes=any --like=any' ;;
         sums) kinds='edition file path' options='--at --lost --json --explain -h --help' valued='--at=any' ;;
         inode) kinds='edition file any' options='--at --json --explain -h --help' valued='--at=any' ;;
         super) kinds='edition file' options='--at --json --explain -h --help' valued='--at=any' ;;

@@ -44,9 +44,10 @@ for command in $(listed Commands); do
     mentions _unixvol "'$command:"
 done
 
-# The completion for zsh has other words for a command only if an option of its usage gives it others.
+# The completion for zsh knows each option's value, and has other words for a command only if an option of its usage gives it others.
 branches=
 for command in $(listed Commands | grep -v help); do
+    for value in $(listed Options "$command" | sed -n 's/.*<\(.*\)>$/\1/p' | sort -u); do mentions _unixvol "]:${value//:/\\:}:"; done
     [ "$("$program" "$command" --help | sed -n '/^Usage:/,/^$/p' | wc -l)" -le 2 ] || branches+="$command "
 done
 found=$(awk -F ')' '/^    [a-z]+\)$/ { sub(/ +/, ""); name = $1 } /words\[\(I\)/ { printf "%s ", name }' "$manual/_unixvol")
@@ -101,6 +102,9 @@ completes 'disk.img' put --at 0 -t /etc 7 disk.img dis
 completes '/etc/motd' get 7 pack.img --at 9 /etc/m
 completes '/etc/motd' get -o away --at = 9 7 pack.img /etc/passwd /etc/m
 completes '/etc' map 7 pack.img --at 9 --file /e
+completes '' find --sizes ''
+completes '6 7 any' export --sizes 240,12 ''
+completes 'disk.img' export --sizes = 240,12 7 dis
 
 echo "$passed passed, $failed failed"
 [ "$failed" -eq 0 ]

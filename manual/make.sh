@@ -78,6 +78,9 @@ manual_page() {
     cat "$sections"
 }
 
+# disks: the names of the disks whose sizes the program knows, with commas between, from the text `4,872 for rk05`
+disks=$(rest mkfs | tr '\n' ' ' | grep -oE '[0-9] for [a-z]+[0-9]+' | sed 's/.* //' | paste -s -d , -)
+
 # arguments COMMAND: the words of the command, one per line: the name, with dots if the word may be repeated, a tab, and the text
 arguments() { section Arguments "$1" | sed -E -e 's/^ +[[<]([^]>]*)[]>]/\1/' -e 's/  +/\t/'; }
 
@@ -89,12 +92,15 @@ options() {
         { count = split($1, names, ", "); for (i = 1; i <= count; i++) print names[i], value, $2 }'
 }
 
-# kind NAME TEXT: the kind of a word or value by its name and text in the help: an edition, that of a volume to make, a file, a path in the volume, or anything
+# kind NAME TEXT: the kind of a word or value by its name and text: what it can be, with commas between, a file, a path in the volume, or anything
 kind() {
-    case $1 in
-        EDITION) if [[ $2 == *'possible values'* ]]; then echo edition; else echo new_edition; fi ;;
-        IMAGE | FILE | SCRIPT | OLD | NEW | FOLDER | COPY | MAPFILE) echo file ;;
-        PATH | FROM | TO | DIR) echo path ;;
+    local values=${2#*'[possible values: '}
+    case $1:$2 in
+        *'[possible values: '*) values=${values%%]*} && echo "${values//, /,}" ;;
+        EDITION:*) echo 6,7 ;;
+        DISK:* | FSIZE:*'the name of a disk'*) echo "$disks" ;;
+        IMAGE:* | OTHER:* | FILE:* | SCRIPT:* | OLD:* | NEW:* | FOLDER:* | COPY:* | MAPFILE:*) echo file ;;
+        PATH:* | FROM:* | TO:* | DIR:*) echo path ;;
         *) echo any ;;
     esac
 }
@@ -229,10 +235,10 @@ END
     fi
     [[ $previous != : ]] || expected=''
     case ${expected%...} in
-        edition) mapfile -t COMPREPLY < <(compgen -W '6 7 any' -- "$current") ;;
-        new_edition) mapfile -t COMPREPLY < <(compgen -W '6 7' -- "$current") ;;
+        any) ;;
         file) mapfile -t COMPREPLY < <(compgen -f -- "$current") ;;
         path) _unixvol_paths "$current" "${volume[@]}" -- "${given[@]:0:2}" ;;
+        *) mapfile -t COMPREPLY < <(compgen -W "${expected//,/ }" -- "$current") ;;
     esac
 }
 
@@ -243,11 +249,10 @@ END
 # completer KIND: zsh's way to complete a word of this kind
 completer() {
     case $1 in
-        edition) echo '(6 7 any)' ;;
-        new_edition) echo '(6 7)' ;;
+        any) echo ' ' ;;
         file) echo _files ;;
         path) echo _unixvol_paths ;;
-        *) echo ' ' ;;
+        *) echo "(${1//,/ })" ;;
     esac
 }
 

@@ -36,41 +36,41 @@ _unixvol() {
         return
     fi
     case $command in
-        cat) kinds='edition file any' options='--at --explain -h --help' valued='--at=any' ;;
-        ls) kinds='edition file path' options='--at -l --long -R --recursive -d --directory --json --slots --explain -h --help' valued='--at=any' ;;
-        get) kinds='edition file path any...' options='--at -o --output -p --preserve --explain -h --help' valued='--at=any -o=file --output=file' changing='-o --output' others='edition file path...' ;;
-        find) kinds='edition file path' options='--at -g --name --lost --cut --bad --bad-blocks --sizes --like --json --explain -h --help' valued='--at=any -g=any --name=any --bad=file --bad-blocks=any --sizes=any --like=any' ;;
-        export) kinds='edition file path' options='--at --lost --cut --bad --bad-blocks --sizes --like --damaged --status --explain -h --help' valued='--at=any --bad=file --bad-blocks=any --sizes=any --like=any' ;;
-        sums) kinds='edition file path' options='--at --lost --json --explain -h --help' valued='--at=any' ;;
-        inode) kinds='edition file any' options='--at --json --explain -h --help' valued='--at=any' ;;
-        super) kinds='edition file' options='--at --json --explain -h --help' valued='--at=any' ;;
-        free) kinds='edition file' options='--at --json --explain -h --help' valued='--at=any' ;;
-        block) kinds='edition file any' options='--at --json --explain -h --help' valued='--at=any' ;;
-        dump) kinds='edition file any' options='--at -i --inode --octal --explain -h --help' valued='--at=any' ;;
-        diff) kinds='edition file any' options='--at --times --fields --all --explain -h --help' valued='--at=any' ;;
-        df) kinds='edition file' options='--at --json --explain -h --help' valued='--at=any' ;;
-        map) kinds='edition file' options='--at --svg --json --file --explain -h --help' valued='--at=any --file=path' ;;
-        check) kinds='edition file' options='--at --status --json --explain -h --help' valued='--at=any' ;;
-        icheck) kinds='edition file any' options='--at --json --explain -h --help' valued='--at=any' ;;
-        dcheck) kinds='edition file any' options='--at --json --explain -h --help' valued='--at=any' ;;
-        ncheck) kinds='edition file any' options='--at --json --explain -h --help' valued='--at=any' ;;
-        mkfs) kinds='new_edition file any any any any any' options='--new --at --explain -h --help' valued='--at=any' ;;
-        put) kinds='edition file path file any any...' options='--at -t --target-directory -p --preserve -x --executable --trace --explain -h --help' valued='--at=any -t=path --target-directory=path' changing='-t --target-directory' others='edition file file...' ;;
-        import) kinds='edition file path any' options='--at --skip-special -o --owner --trace --explain -h --help' valued='--at=any -o=any --owner=any' ;;
-        rm) kinds='edition file path any' options='--at -r --recursive --trace --explain -h --help' valued='--at=any' ;;
-        rmdir) kinds='edition file path any' options='--at --trace --explain -h --help' valued='--at=any' ;;
-        mkdir) kinds='edition file path any' options='--at -p --parents --trace --explain -h --help' valued='--at=any' ;;
-        ln) kinds='edition file path path any' options='--at --trace --explain -h --help' valued='--at=any' ;;
-        mv) kinds='edition file path path any' options='--at --trace --explain -h --help' valued='--at=any' ;;
-        chmod) kinds='edition file path any any' options='--at --trace --explain -h --help' valued='--at=any' ;;
-        chown) kinds='edition file path any any any' options='--at --trace --explain -h --help' valued='--at=any' ;;
-        touch) kinds='edition file path any' options='--at --trace --explain -h --help' valued='--at=any' ;;
-        salvage) kinds='edition file' options='--at -o --output -n --dry-run --explain -h --help' valued='--at=any -o=file --output=file' ;;
-        repair) kinds='edition file file any' options='--at --new -n --dry-run --blocks --explain -h --help' valued='--at=any --blocks=any' ;;
-        resize) kinds='edition file any' options='--at -n --dry-run --explain -h --help' valued='--at=any' ;;
-        play) kinds='edition file file...' options='--at --journal --trace --explain -h --help' valued='--at=any' ;;
+        cat) kinds='6,7,any file any' options='--at --explain -h --help' valued='--at=any' ;;
+        ls) kinds='6,7,any file path' options='--at -l --long -R --recursive -d --directory --json --slots --explain -h --help' valued='--at=any' ;;
+        get) kinds='6,7,any file path any...' options='--at -o --output -p --preserve --explain -h --help' valued='--at=any -o=file --output=file' changing='-o --output' others='6,7,any file path...' ;;
+        find) kinds='6,7,any file path' options='--at -g --name --lost --cut --bad --bad-blocks --sizes --like --json --explain -h --help' valued='--at=any -g=any --name=any --bad=file --bad-blocks=any --sizes=any --like=rk05,rk06,rk07,rl01,rl02,rm03,rp03,rp04,rp06,rx01,rx02' ;;
+        export) kinds='6,7,any file path' options='--at --lost --cut --bad --bad-blocks --sizes --like --damaged --status --explain -h --help' valued='--at=any --bad=file --bad-blocks=any --sizes=any --like=rk05,rk06,rk07,rl01,rl02,rm03,rp03,rp04,rp06,rx01,rx02' ;;
+        sums) kinds='6,7,any file path' options='--at --lost --json --explain -h --help' valued='--at=any' ;;
+        inode) kinds='6,7,any file any' options='--at --json --explain -h --help' valued='--at=any' ;;
+        super) kinds='6,7,any file' options='--at --json --explain -h --help' valued='--at=any' ;;
+        free) kinds='6,7,any file' options='--at --json --explain -h --help' valued='--at=any' ;;
+        block) kinds='6,7,any file any' options='--at --json --explain -h --help' valued='--at=any' ;;
+        dump) kinds='6,7,any file any' options='--at -i --inode --octal --explain -h --help' valued='--at=any' ;;
+        diff) kinds='6,7,any file file' options='--at --times --fields --all --explain -h --help' valued='--at=any' ;;
+        df) kinds='6,7,any file' options='--at --json --explain -h --help' valued='--at=any' ;;
+        map) kinds='6,7,any file' options='--at --svg --json --file --explain -h --help' valued='--at=any --file=path' ;;
+        check) kinds='6,7,any file' options='--at --status --json --explain -h --help' valued='--at=any' ;;
+        icheck) kinds='6,7,any file any' options='--at --json --explain -h --help' valued='--at=any' ;;
+        dcheck) kinds='6,7,any file any' options='--at --json --explain -h --help' valued='--at=any' ;;
+        ncheck) kinds='6,7,any file any' options='--at --json --explain -h --help' valued='--at=any' ;;
+        mkfs) kinds='6,7 file rk05,rk06,rk07,rl01,rl02,rm03,rp03,rp04,rp06,rx01,rx02 any any any any' options='--new --at --explain -h --help' valued='--at=any' ;;
+        put) kinds='6,7,any file path file any any...' options='--at -t --target-directory -p --preserve -x --executable --trace --explain -h --help' valued='--at=any -t=path --target-directory=path' changing='-t --target-directory' others='6,7,any file file...' ;;
+        import) kinds='6,7,any file path any' options='--at --skip-special -o --owner --trace --explain -h --help' valued='--at=any -o=any --owner=any' ;;
+        rm) kinds='6,7,any file path any' options='--at -r --recursive --trace --explain -h --help' valued='--at=any' ;;
+        rmdir) kinds='6,7,any file path any' options='--at --trace --explain -h --help' valued='--at=any' ;;
+        mkdir) kinds='6,7,any file path any' options='--at -p --parents --trace --explain -h --help' valued='--at=any' ;;
+        ln) kinds='6,7,any file path path any' options='--at --trace --explain -h --help' valued='--at=any' ;;
+        mv) kinds='6,7,any file path path any' options='--at --trace --explain -h --help' valued='--at=any' ;;
+        chmod) kinds='6,7,any file path any any' options='--at --trace --explain -h --help' valued='--at=any' ;;
+        chown) kinds='6,7,any file path any any any' options='--at --trace --explain -h --help' valued='--at=any' ;;
+        touch) kinds='6,7,any file path any' options='--at --trace --explain -h --help' valued='--at=any' ;;
+        salvage) kinds='6,7,any file' options='--at -o --output -n --dry-run --explain -h --help' valued='--at=any -o=file --output=file' ;;
+        repair) kinds='6,7,any file file any' options='--at --new -n --dry-run --blocks --explain -h --help' valued='--at=any --blocks=any' ;;
+        resize) kinds='6,7,any file any' options='--at -n --dry-run --explain -h --help' valued='--at=any' ;;
+        play) kinds='6,7,any file file...' options='--at --journal --trace --explain -h --help' valued='--at=any' ;;
         migrate) kinds='file file any any any' options='--new --at --explain -h --help' valued='--at=any' ;;
-        serve) kinds='edition file' options='--at --read-only --mine -r --rescue --explain -h --help' valued='--at=any -r=file --rescue=file' ;;
+        serve) kinds='6,7,any file' options='--at --read-only --mine -r --rescue --explain -h --help' valued='--at=any -r=file --rescue=file' ;;
         identify) kinds='file...' options='--json --csv -r --recursive --explain -h --help' ;;
     esac
     if [[ $current == -* ]]; then
@@ -103,10 +103,10 @@ _unixvol() {
     fi
     [[ $previous != : ]] || expected=''
     case ${expected%...} in
-        edition) mapfile -t COMPREPLY < <(compgen -W '6 7 any' -- "$current") ;;
-        new_edition) mapfile -t COMPREPLY < <(compgen -W '6 7' -- "$current") ;;
+        any) ;;
         file) mapfile -t COMPREPLY < <(compgen -f -- "$current") ;;
         path) _unixvol_paths "$current" "${volume[@]}" -- "${given[@]:0:2}" ;;
+        *) mapfile -t COMPREPLY < <(compgen -W "${expected//,/ }" -- "$current") ;;
     esac
 }
 

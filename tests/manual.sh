@@ -105,6 +105,12 @@ completes '/etc' map 7 pack.img --at 9 --file /e
 completes '' find --sizes ''
 completes '6 7 any' export --sizes 240,12 ''
 completes 'disk.img' export --sizes = 240,12 7 dis
+completes 'rk05 rk06 rk07' find --like rk
+completes 'rm03' find --like = rm
+completes 'rk05 rk06 rk07 rl01 rl02 rm03 rp03 rp04 rp06 rx01 rx02' export --like =
+completes 'rx01 rx02' mkfs 6 new.img rx
+completes 'disk.img' find --bad dis
+completes 'disk.img' diff 7 pack.img dis
 
 echo "$passed passed, $failed failed"
 [ "$failed" -eq 0 ]

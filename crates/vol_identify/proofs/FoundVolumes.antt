@@ -11,7 +11,7 @@ use Rattle.vol_layout.specs.declared.edition.Edition.{Edition}
 use Rattle.vol_layout.specs.declared.edition.Edition.TheVariants.{V6, V7}
 use Rattle.vol_judge.specs.Sound.{IsSound}
 use Rattle.vol_identify.specs.Front.{begins, front_at, volume_of, within_either}
-use Rattle.vol_identify.specs.Packs.{Scanned, looked_at, parts_before, parts_of, step, through, unscanned, volume_at}
+use Rattle.vol_identify.specs.Packs.{Scanned, cut_at, looked_at, parts_before, parts_of, step, through, unscanned, volume_at, with_end}
 use Rattle.vol_identify.specs.Guesses.{begun_whole, guess_of}
 use Rattle.vol_identify.specs.Laws.{Covers, HasSound}
 use Rattle.vol_identify.specs.declared.front.FoundVolume.{FoundVolume}
@@ -26,17 +26,18 @@ before_grows k scanned part has =
     elim (ltb scanned.next k) as (λ z. Contains (if z then scanned.parts ++ Between scanned.next (k - scanned.next) scanned.zeros ∷ [] else scanned.parts) part)
     [ true ↦ Contains-append_left scanned.parts _ part has | false ↦ has ]
 
-looked_grows : (k : ℕ) (block : List ℕ) (scanned : Scanned) (found : Option FoundVolume) (part : Part) → Contains scanned.parts part
-    → Contains (looked_at k block scanned found).parts part
-looked_grows k block scanned None part has = has
-looked_grows k block scanned (Some volume) part has = Contains-append_left (parts_before k scanned) _ part (before_grows k scanned part has)
+looked_grows : (k : ℕ) (block : List ℕ) (cut : Option FoundVolume) (scanned : Scanned) (found : Option FoundVolume) (part : Part) → Contains scanned.parts part
+    → Contains (looked_at k block cut scanned found).parts part
+looked_grows k block cut scanned None part has = has
+looked_grows k block cut scanned (Some volume) part has = Contains-append_left (parts_before k scanned) _ part (before_grows k scanned part has)
 
 step_grows : (blocks k : ℕ) (front block : List ℕ) (scanned : Scanned) (part : Part) → Contains scanned.parts part
     → Contains (step blocks k front block scanned).parts part
 unfolding step
 step_grows blocks k front block scanned part has =
-    elim (ltb k scanned.next) as (λ z. Contains (if z then scanned else looked_at k block scanned (volume_at blocks k front)).parts part)
-    [ true ↦ has | false ↦ looked_grows k block scanned (volume_at blocks k front) part has ]
+    let cut = cut_at blocks k front in
+    elim (ltb k scanned.next) as (λ z. Contains (if z then scanned else looked_at k block cut scanned (volume_at blocks k front)).parts part)
+    [ true ↦ has | false ↦ looked_grows k block cut scanned (volume_at blocks k front) part has ]
 
 grows : (blocks : ℕ) (pack : List ℕ) (n more : ℕ) (part : Part) → Contains (through blocks 0 pack n unscanned).parts part
     → Contains (through blocks 0 pack (more + n) unscanned).parts part
@@ -47,12 +48,16 @@ grows blocks pack n (suc more) part has =
     subst (λ m. Contains (through blocks 0 pack m unscanned).parts part) is
     (step_grows blocks (0 + (more + n)) (front_at pack (more + n)) (block_of pack (more + n)) (through blocks 0 pack (more + n) unscanned) part (grows blocks pack n more part has))
 
+end_grows : (blocks : ℕ) (scanned : Scanned) (cut : Option FoundVolume) (part : Part) → Contains scanned.parts part → Contains (with_end blocks scanned cut) part
+end_grows blocks scanned None part has = before_grows blocks scanned part has
+end_grows blocks scanned (Some volume) part has = Contains-append_left scanned.parts _ part has
+
 -- up to the end
 at_end : (blocks : ℕ) (pack : List ℕ) (n : ℕ) (part : Part) → n ≤ blocks → Contains (through blocks 0 pack n unscanned).parts part → Contains (parts_of blocks pack) part
 unfolding parts_of
 at_end blocks pack n part few has =
     let is : blocks - n + n ≡ blocks = omega arith in
-    before_grows blocks (through blocks 0 pack blocks unscanned) part
+    end_grows blocks (through blocks 0 pack blocks unscanned) (through blocks 0 pack blocks unscanned).cut part
     (subst (λ m. Contains (through blocks 0 pack m unscanned).parts part) is (grows blocks pack n (blocks - n) part has))
 
 -- the last volume of those that begin before block n, if there is one, ends where the next may begin
@@ -60,10 +65,11 @@ abbrev HasLast : ℕ → Scanned → Type 0
 HasLast n scanned =
     (scanned.next ≡ 0) ⊎ ((j : ℕ) × (w : FoundVolume) × Contains scanned.parts (Volume j w) × (j < n) × (scanned.next ≡ j + w.blocks))
 
-looked_last : (n : ℕ) (block : List ℕ) (scanned : Scanned) (found : Option FoundVolume) → HasLast n scanned → HasLast (suc n) (looked_at n block scanned found)
-looked_last n block scanned None (inl none) = inl none
-looked_last n block scanned None (inr (j, w, has, low, next)) = inr (j, w, has, omega arith, next)
-looked_last n block scanned (Some volume) last = inr (n, volume, Contains-push (parts_before n scanned) (Volume n volume), omega arith, refl)
+looked_last : (n : ℕ) (block : List ℕ) (cut : Option FoundVolume) (scanned : Scanned) (found : Option FoundVolume) → HasLast n scanned
+    → HasLast (suc n) (looked_at n block cut scanned found)
+looked_last n block cut scanned None (inl none) = inl none
+looked_last n block cut scanned None (inr (j, w, has, low, next)) = inr (j, w, has, omega arith, next)
+looked_last n block cut scanned (Some volume) last = inr (n, volume, Contains-push (parts_before n scanned) (Volume n volume), omega arith, refl)
 
 later_last : (n : ℕ) (scanned : Scanned) → HasLast n scanned → HasLast (suc n) scanned
 later_last n scanned (inl none) = inl none
@@ -72,8 +78,9 @@ later_last n scanned (inr (j, w, has, low, next)) = inr (j, w, has, omega arith,
 step_last : (blocks n : ℕ) (front block : List ℕ) (scanned : Scanned) → HasLast n scanned → HasLast (suc n) (step blocks n front block scanned)
 unfolding step
 step_last blocks n front block scanned last =
-    elim (ltb n scanned.next) as (λ z. HasLast (suc n) (if z then scanned else looked_at n block scanned (volume_at blocks n front)))
-    [ true ↦ later_last n scanned last | false ↦ looked_last n block scanned (volume_at blocks n front) last ]
+    let cut = cut_at blocks n front in
+    elim (ltb n scanned.next) as (λ z. HasLast (suc n) (if z then scanned else looked_at n block cut scanned (volume_at blocks n front)))
+    [ true ↦ later_last n scanned last | false ↦ looked_last n block cut scanned (volume_at blocks n front) last ]
 
 has_last : (blocks : ℕ) (pack : List ℕ) (n : ℕ) → HasLast n (through blocks 0 pack n unscanned)
 unfolding through

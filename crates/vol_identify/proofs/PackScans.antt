@@ -7,7 +7,7 @@ use Rattle.std.proofs.lemmas.List.{drop-append-le, drop-drop, length-drop, take-
 use Rattle.std.proofs.Math.Seq.{drop-nil}
 use Rattle.pdp_words.specs.Words.{block_of}
 use Rattle.vol_identify.specs.Front.{front_at}
-use Rattle.vol_identify.specs.Packs.{HasScanned, Scanned, found_of, parts_before, parts_of, ready_of, step, through, unscanned, volume_at}
+use Rattle.vol_identify.specs.Packs.{HasScanned, Scanned, cut_at, found_of, parts_at_end, parts_of, ready_of, step, through, unscanned, volume_at}
 use Rattle.vol_identify.specs.declared.pack_scan.PackScan.{PackScan}
 use Rattle.vol_identify.specs.declared.pack_scan.Part.{Part}
 
@@ -52,12 +52,19 @@ none_at : (blocks k : ℕ) (front : List ℕ) → blocks < k + 3 → volume_at b
 unfolding volume_at
 none_at blocks k front few = grind (arith, nat_tests)
 
+-- and none that is cut off
+no_cut_at : (blocks k : ℕ) (front : List ℕ) → blocks < k + 3 → cut_at blocks k front ≡ None
+unfolding cut_at
+no_cut_at blocks k front few = grind (arith, nat_tests)
+
 -- so what follows a block doesn't matter there
 step_end : (blocks k : ℕ) (front other block : List ℕ) (scanned : Scanned) → blocks < k + 3 → step blocks k front block scanned ≡ step blocks k other block scanned
 unfolding step
 step_end blocks k front other block scanned few =
     let one = none_at blocks k front few in
     let two = none_at blocks k other few in
+    let three = no_cut_at blocks k front few in
+    let four = no_cut_at blocks k other few in
     cc
 
 -- one block more
@@ -136,7 +143,7 @@ fed before bytes window old new ready had within blocks window_is ready_is at re
 
 -- no part was found yet
 abbrev pub with_parts : List Part → Scanned
-with_parts parts = record { next = 0; zeros = true; parts = parts }
+with_parts parts = record { next = 0; zeros = true; cut = None; parts = parts }
 
 -- before the first block
 pub begun : (scan : PackScan) → found_of scan.found ≡ unscanned → scan.at ≡ 0 → scan.window.items ≡ [] → HasScanned [] scan
@@ -152,7 +159,7 @@ begun scan found at window = record {
 
 -- the parts of a pack that was given whole
 pub whole_parts : (pack : List ℕ) (scan : PackScan) → HasScanned pack scan → length pack ≡ 512 * scan.blocks
-    → parts_before scan.blocks (found_of scan.found) ≡ parts_of scan.blocks pack
+    → parts_at_end scan.blocks (found_of scan.found) ≡ parts_of scan.blocks pack
 unfolding parts_of
 whole_parts pack scan has whole =
-    ap (parts_before scan.blocks) (has.found ∙ ap (λ n. through scan.blocks 0 pack n unscanned) (has.done whole))
+    ap (parts_at_end scan.blocks) (has.found ∙ ap (λ n. through scan.blocks 0 pack n unscanned) (has.done whole))

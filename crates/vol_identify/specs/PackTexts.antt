@@ -1,5 +1,5 @@
 -- The lines about the parts of a pack.
-use Rattle.std.specs.Prelude.{ℕ, ◌==◌, Bool, true, false, nat_lt, if◌then◌else◌, List, ◌++◌, codes, decimal, Option, None, Some}
+use Rattle.std.specs.Prelude.{ℕ, ◌==◌, Bool, true, false, not, ◌&&◌, nat_lt, if◌then◌else◌, List, ◌++◌, codes, decimal, Option, None, Some}
 use Rattle.std.specs.List.{flat_map, list_any}
 use Rattle.vol_findings.specs.Reports.{edition_number}
 use Rattle.vol_identify.specs.Texts.{volume_text}
@@ -8,12 +8,12 @@ use Rattle.vol_identify.specs.declared.pack_scan.Part.{Part}
 use Rattle.vol_identify.specs.declared.pack_scan.Part.TheVariants.{Volume, Between}
 use Rattle.vol_identify.specs.declared.pack_texts.JudgedPart.{JudgedPart}
 
--- true if a part is a volume that begins after block 0 (this project)
+-- true if a part begins after block 0, and is a volume or other bytes than zeros (this project)
 abbrev pub is_later : Part → Bool
 is_later (Volume block volume) = nat_lt 0 block
-is_later (Between block blocks zeros) = false
+is_later (Between block blocks zeros) = nat_lt 0 block && not zeros
 
--- true if these are the parts of a pack: a volume begins after block 0 (this project)
+-- true if these are the parts of a pack: a volume begins after block 0, or a volume has other bytes than zeros after it (this project)
 abbrev pub is_pack : List Part → Bool
 is_pack parts = list_any is_later parts
 

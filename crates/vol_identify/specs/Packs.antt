@@ -1,28 +1,42 @@
 -- The parts of a pack: its volumes, and what is between them.
 use Rattle.std.specs.Prelude.{◌≡◌, ◌⊎◌, ℕ, zero, suc, ◌+◌, ◌-◌, ◌*◌, ◌≤◌, Bool, true, ◌&&◌, ◌==◌, nat_lt, max, min, ◌<◌, ◌/◌, IfSome, if◌then◌else◌, List, [], ◌∷◌, ◌++◌, length, drop, Option, None, Some}
 use Rattle.std.specs.Io.KnownBytes.{Consumes, IsAtEnd}
-use Rattle.std.specs.Option.{option_or}
+use Rattle.std.specs.Option.{is_none, option_or}
 use Rattle.ustar.specs.Read.{is_zeros}
 use Rattle.pdp_words.specs.Words.{block_of}
 use Rattle.vol_identify.specs.Front.{begins, front_at, may_begin, within_either}
+use Rattle.vol_identify.specs.Guesses.{by_magic, guess_of}
 use Rattle.vol_identify.specs.declared.front.FoundVolume.{FoundVolume}
+use Rattle.vol_identify.specs.declared.guess.Guess.{Guess}
+use Rattle.vol_identify.specs.declared.guess.Guess.TheVariants.{CutOff}
 use Rattle.vol_identify.specs.declared.pack_scan.Part.{Part}
 use Rattle.vol_identify.specs.declared.pack_scan.Part.TheVariants.{Volume, Between}
 use Rattle.vol_identify.specs.declared.pack_scan.Found.{Found}
 use Rattle.vol_identify.specs.declared.pack_scan.PackScan.{PackScan}
 
 -- the volume that begins at block k of a pack of `blocks` blocks, by the three blocks from k on, if the pack has all its blocks. Its sizes, the head of
--- its free list and its root are those of one; at block 0 it is enough if the sizes are, and one of the others (this project)
+-- its free list and its root are those of one; at block 0 it is enough if the sizes are, and one of the others, unless the first bytes are those of a packed file
+-- or an archive (this project)
 unfoldable pub volume_at : ℕ → ℕ → List ℕ → Option FoundVolume
 volume_at blocks k front =
     if nat_lt (blocks - k) 3 then None
-    else option_or (within_either begins front (blocks - k)) (if k == 0 then within_either may_begin front blocks else None)
+    else option_or (within_either begins front (blocks - k)) (if (k == 0) && is_none (by_magic front) then within_either may_begin front blocks else None)
 
--- what is known of a pack after some of its blocks: the block after the last volume, whether all bytes from there on are zeros, and the parts up to
--- there (this project)
+-- the volume of a guess that it is cut off (this project)
+abbrev pub cut_in : Guess → Option FoundVolume
+cut_in (CutOff volume there) = Some volume
+cut_in _ = None
+
+-- the volume that is cut off, by the guess about the three blocks from block k on of a pack of `blocks` blocks, where no whole volume begins (this project)
+unfoldable pub cut_at : ℕ → ℕ → List ℕ → Option FoundVolume
+cut_at blocks k front = if nat_lt (blocks - k) 3 then None else cut_in (guess_of front)
+
+-- what is known of a pack after some of its blocks: the block after the last volume, whether all bytes from there on are zeros, the volume that begins there and is
+-- cut off, and the parts up to there (this project)
 pub record Scanned : Type 0 where
   pub next : ℕ
   pub zeros : Bool
+  pub cut : Option FoundVolume
   pub parts : List Part
 
 -- the parts up to block k, where a volume or the end of the pack is (this project)
@@ -30,17 +44,17 @@ abbrev pub parts_before : ℕ → Scanned → List Part
 parts_before k scanned =
     if nat_lt scanned.next k then scanned.parts ++ Between scanned.next (k - scanned.next) scanned.zeros ∷ [] else scanned.parts
 
--- what is known after block k, at which a volume begins, or none, and which has these bytes (this project)
-abbrev pub looked_at : ℕ → List ℕ → Scanned → Option FoundVolume → Scanned
-looked_at k block scanned (Some volume) =
-    record { next = k + volume.blocks; zeros = true; parts = parts_before k scanned ++ Volume k volume ∷ [] }
-looked_at k block scanned None =
-    record { next = scanned.next; zeros = scanned.zeros && is_zeros block; parts = scanned.parts }
+-- what is known after block k, at which a volume begins, or none, or one that is cut off, and which has these bytes (this project)
+abbrev pub looked_at : ℕ → List ℕ → Option FoundVolume → Scanned → Option FoundVolume → Scanned
+looked_at k block cut scanned (Some volume) =
+    record { next = k + volume.blocks; zeros = true; cut = None; parts = parts_before k scanned ++ Volume k volume ∷ [] }
+looked_at k block cut scanned None =
+    record { next = scanned.next; zeros = scanned.zeros && is_zeros block; cut = if k == scanned.next then cut else scanned.cut; parts = scanned.parts }
 
 -- what is known after block k of a pack of `blocks` blocks: what is inside a volume isn't looked at (this project)
 unfoldable pub step : ℕ → ℕ → List ℕ → List ℕ → Scanned → Scanned
 step blocks k front block scanned =
-    if nat_lt k scanned.next then scanned else looked_at k block scanned (volume_at blocks k front)
+    if nat_lt k scanned.next then scanned else looked_at k block (cut_at blocks k front) scanned (volume_at blocks k front)
 
 -- what is known after the first `count` blocks of these bytes, which begin at block `at` of a pack of `blocks` blocks (this project)
 unfoldable pub through : ℕ → ℕ → List ℕ → ℕ → Scanned → Scanned
@@ -50,11 +64,20 @@ through blocks at bytes (suc count) scanned =
 
 -- what is known before the first block (this project)
 abbrev pub unscanned : Scanned
-unscanned = record { next = 0; zeros = true; parts = [] }
+unscanned = record { next = 0; zeros = true; cut = None; parts = [] }
 
--- the parts of a pack of `blocks` blocks: its volumes, and what is between them, in order (this project)
+-- the parts of a pack of `blocks` blocks of which all were looked at: what is after the last volume is one that is cut off, or no volume (this project)
+abbrev pub with_end : ℕ → Scanned → Option FoundVolume → List Part
+with_end blocks scanned None = parts_before blocks scanned
+with_end blocks scanned (Some volume) = scanned.parts ++ Volume scanned.next volume ∷ []
+
+-- the parts of a pack that was scanned to its end (this project)
+abbrev pub parts_at_end : ℕ → Scanned → List Part
+parts_at_end blocks scanned = with_end blocks scanned scanned.cut
+
+-- the parts of a pack of `blocks` blocks: its volumes, of which the last may be cut off, and what is between them, in order (this project)
 unfoldable pub parts_of : ℕ → List ℕ → List Part
-parts_of blocks pack = parts_before blocks (through blocks 0 pack blocks unscanned)
+parts_of blocks pack = parts_at_end blocks (through blocks 0 pack blocks unscanned)
 
 -- a whole pack of `blocks` blocks was read from a source, and these are its parts (this project)
 abbrev pub IsScanned : ℕ → Option (List ℕ) → Option (List ℕ) → List Part → Type 0
@@ -66,7 +89,7 @@ IsCutShort blocks old new = (read : List ℕ) × Consumes old new read × IsAtEn
 
 -- what the program has found (this project)
 abbrev pub found_of : Found → Scanned
-found_of found = record { next = found.next; zeros = found.zeros; parts = found.parts.items }
+found_of found = record { next = found.next; zeros = found.zeros; cut = found.cut; parts = found.parts.items }
 
 -- a scan was given these bytes, the first of a pack, and has looked at the blocks before `at`; of the others it has the bytes (this project)
 pub record HasScanned (bytes : List ℕ) (scan : PackScan) : Type 0 where

@@ -105,7 +105,7 @@ fn begun_whole(image: &Image) -> Option<Guess>
 
 /// Guesses by the first bytes.
 #[tactic(auto, unfolding(crate::specs::Guesses::by_magic))]
-fn by_magic(image: &Image) -> Option<Guess>
+pub(crate) fn by_magic(image: &Image) -> Option<Guess>
     ensures { result ≡ by_magic image.now }
 {
     if is_zeros(image.as_bytes()) {

@@ -2,10 +2,11 @@
 ghost use Rattle.std.specs.Prelude.{false, true, IsErrOf, OnErr, ◌≡◌, ◌∷◌, [], ◌+◌, ◌*◌, ◌^◌, ◌<◌, ◌≤◌, ◌++◌, ℕ, List, Some, drop, length, IfOk};
 ghost use Rattle.pdp_words.specs.Words.{block_of};
 ghost use Rattle.vol_identify.specs.Front.{front_at};
-ghost use Rattle.vol_identify.specs.Packs.{CanLook, Fits, HasScanned, IsCutShort, IsScanned, found_of, looked_at, parts_before, parts_of, ready_of, step, through, volume_at};
+ghost use Rattle.vol_identify.specs.Packs.{CanLook, Fits, HasScanned, IsCutShort, IsScanned, cut_at, found_of, looked_at, parts_at_end, parts_before, parts_of, ready_of, step, through, volume_at};
 ghost use Rattle.pdp_words.specs.Devices.{LosesFront};
 
 use crate::front::{FoundVolume, begun_within, front_at, may_be_within};
+use crate::guess::{Guess, by_magic, guess_image};
 use pdp_words::{BLOCK, Image, Source};
 use std::alloc::{AllocError, Global};
 use ustar::is_zeros;
@@ -13,7 +14,7 @@ use ustar::is_zeros;
 /// A part of a pack.
 #[derive(Clone, Copy)]
 pub enum Part {
-    /// A volume, which begins at this block.
+    /// A volume, which begins at this block. The last of a pack may be cut off.
     Volume {
         block: u32,
         volume: FoundVolume,
@@ -33,6 +34,8 @@ pub(crate) struct Found {
     pub next: u32,
     /// True if all bytes from there on are zeros.
     pub zeros: bool,
+    /// The volume that begins there and is cut off.
+    pub cut: Option<FoundVolume>,
     /// The parts up to there.
     pub parts: Vec<Part>,
 }
@@ -113,6 +116,7 @@ impl PackScan {
             found: Found {
                 next: 0,
                 zeros: true,
+                cut: None,
                 parts: Vec::new(alloc),
             },
         }
@@ -140,7 +144,7 @@ impl PackScan {
     fn into_parts(self) -> Result<Vec<Part>, AllocError>
         ensures { IfOk result (λ parts. (pack : List ℕ) → HasScanned pack self → length pack ≡ 512 * self.blocks → parts.items ≡ parts_of self.blocks pack) }
     {
-        self.found.parts_before(self.blocks)
+        self.found.parts_at_end(self.blocks)
     }
 }
 
@@ -208,10 +212,33 @@ fn volume_at(
     if let Some(volume) = begun_within(&front, room as usize) {
         return Ok(Some(volume));
     }
-    if block == 0 {
+    if block == 0 && by_magic(&front).is_none() {
         Ok(may_be_within(&front, blocks as usize))
     } else {
         Ok(None)
+    }
+}
+
+/// Returns the volume that begins at block `k` of a window and is cut off, where no whole volume begins. The window begins at block `at` of a pack of
+/// `blocks` blocks.
+#[tactic(auto, unfolding(crate::specs::Packs::cut_at))]
+fn cut_at(
+    alloc: Global,
+    blocks: u32,
+    at: u32,
+    window: &Image,
+    k: u32,
+) -> Result<Option<FoundVolume>, AllocError>
+    requires here { at + k < blocks }
+    requires there { at + k + 3 ≤ blocks → 512 * k + 1536 ≤ length window.now }
+    ensures { IfOk result (λ volume. volume ≡ cut_at blocks (at + k) (front_at window.now k)) }
+{
+    if blocks - (at + k) < 3 {
+        return Ok(None);
+    }
+    match guess_image(alloc, &front_at(alloc, window, k)?)? {
+        Guess::CutOff { volume, .. } => Ok(Some(volume)),
+        _ => Ok(None),
     }
 }
 
@@ -237,11 +264,19 @@ impl Found {
         }
         match volume_at(alloc, blocks, at, window, k)? {
             Some(volume) => self.with_volume(block, volume),
-            None => Ok(Found {
-                zeros: self.zeros && is_zeros(window.block(k)),
-                next: self.next,
-                parts: self.parts,
-            }),
+            None => {
+                let cut = if block == self.next {
+                    cut_at(alloc, blocks, at, window, k)?
+                } else {
+                    self.cut
+                };
+                Ok(Found {
+                    zeros: self.zeros && is_zeros(window.block(k)),
+                    next: self.next,
+                    cut,
+                    parts: self.parts,
+                })
+            }
         }
     }
 
@@ -260,16 +295,32 @@ impl Found {
         Ok(parts)
     }
 
+    /// Returns the parts of a pack of `blocks` blocks, all of which were looked at.
+    fn parts_at_end(self, blocks: u32) -> Result<Vec<Part>, AllocError>
+        ensures { IfOk result (λ parts. parts.items ≡ parts_at_end blocks (found_of self)) }
+    {
+        let Some(volume) = self.cut else {
+            return self.parts_before(blocks);
+        };
+        let mut parts = self.parts;
+        parts.push(Part::Volume {
+            block: self.next,
+            volume,
+        })?;
+        Ok(parts)
+    }
+
     /// Returns what is known after block `k`, at which this volume begins.
     fn with_volume(self, k: u32, volume: FoundVolume) -> Result<Found, AllocError>
         requires { k + volume.blocks < 2 ^ 32 }
-        ensures { IfOk result (λ found. found_of found ≡ looked_at k [] (found_of self) (Some volume)) }
+        ensures { IfOk result (λ found. found_of found ≡ looked_at k [] None (found_of self) (Some volume)) }
     {
         let mut parts = self.parts_before(k)?;
         parts.push(Part::Volume { block: k, volume })?;
         Ok(Found {
             next: k + volume.blocks,
             zeros: true,
+            cut: None,
             parts,
         })
     }

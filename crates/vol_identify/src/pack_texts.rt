@@ -17,20 +17,20 @@ pub struct JudgedPart {
     pub broken: Option<u8>,
 }
 
-/// True if these are the parts of a pack: a volume begins after block 0.
+/// True if these are the parts of a pack: a volume begins after block 0, or a volume has other bytes than zeros after it.
 pub fn is_pack(parts: &[Part]) -> bool
     ensures { result ≡ is_pack parts.now }
 {
     parts.iter().any(|part| is_later(*part))
 }
 
-/// True if a part is a volume that begins after block 0.
+/// True if a part begins after block 0, and is a volume or other bytes than zeros.
 fn is_later(part: Part) -> bool
     ensures { result ≡ is_later part }
 {
     match part {
         Part::Volume { block, .. } => 0 < block,
-        Part::Between { .. } => false,
+        Part::Between { block, zeros, .. } => 0 < block && !zeros,
     }
 }
 

@@ -143,6 +143,38 @@ guessed broken.img '"guess":"volume","parts":[{"block":0,"blocks":8,"command":"u
 cat pack.img | "$program" identify --json /dev/stdin > output 2> error
 has 'the JSON of a pipe' '0 {"bytes":null,"file":"/dev/stdin","format":1,"guess":"inside","parts":[{"block":1,"blocks":8,"edition":7}],"read":4608}' "$? $(cat output error)"
 
+# What follows a volume has a line unless it is zeros, also a volume that is cut off. A packed file isn't called a volume by half of the signs of one.
+{ cat seven.img && head -c 1024 /dev/zero; } > longer.img
+looks longer.img 'looks like a volume of edition 7, with 8 blocks, sound'
+first='{"block":0,"blocks":8,"command":"unixvol ls 7 longer.img","edition":7,"rule":null,"sound":true}'
+printf '%s\n' 'longer.img: looks like a larger pack' '  at 0: a volume of edition 7, with 8 blocks, sound: unixvol ls 7 longer.img' > front
+{ cat seven.img && head -c 1030 /dev/zero | tr '\0' y; } > longer.img
+{ cat front && echo '  at 8: 2 blocks of other bytes'; } > line
+prints line identify longer.img
+guessed longer.img "\"guess\":\"pack\",\"parts\":[$first,{\"block\":8,\"blocks\":2,\"zeros\":false}],\"read\":null"
+{ cat seven.img && head -c 2100 six.img; } > longer.img
+{ cat front && echo '  at 8: a volume of edition 6, with 8 blocks, which breaks rule 1: unixvol check 6 longer.img --at 8'; } > line
+prints line identify longer.img
+second='{"block":8,"blocks":8,"command":"unixvol check 6 longer.img --at 8","edition":6,"rule":1,"sound":false}'
+guessed longer.img "\"guess\":\"pack\",\"parts\":[$first,$second],\"read\":null"
+changed seven.img half.img 1088 0000
+put half.img 0 1f8b
+head -c 1024 /dev/zero | tr '\0' y >> half.img
+looks half.img 'looks packed by gzip'
+
+# A catalogue has a row without counts for a volume that is cut off, and no row for a file in which no volume is named.
+cp "$samples/lessons/rule_01.v7" lesson.img
+# row FILE BLOCK REST: the row of a volume
+row() { echo "$1,$(wc -c < "$1"),$(sha256sum < "$1" | cut -d ' ' -f 1),$2,$3"; }
+{
+    echo 'file,bytes,sha256,block,edition,blocks,free_blocks,files,verdict,time'
+    row cut.img 0 '7,8,,,rule 1,'
+    row lesson.img 0 '7,16,,,rule 1,'
+    row longer.img 0 '7,8,4,0,sound,1970-01-01 00:00:00'
+    row longer.img 8 '6,8,,,rule 1,'
+} > line
+prints line identify --csv cut.img lesson.img nothing archive swapped.img half.img longer.img
+
 # A guess takes no more memory than its file needs, and each line comes before the next file is read.
 by=', by its first 268435456 bytes'
 looks /dev/zero "looks empty: it has no bytes but zeros$by"

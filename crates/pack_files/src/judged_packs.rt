@@ -26,8 +26,8 @@ pub enum PackFault {
     NoMemory,
 }
 
-/// Returns the parts of the pack in a file, with the first rule that each volume breaks. Returns `None` if no volume begins after block 0, or if it isn't a
-/// regular file, which isn't opened.
+/// Returns the parts of the pack in a file, with the first rule that each volume breaks. Returns `None` if no volume begins after block 0 and nothing but zeros
+/// follows one, or if it isn't a regular file, which isn't opened.
 ///
 /// Reads the file to its end, and then each volume again; takes memory for one volume at a time.
 pub fn judged_pack<R: ImageFiles + AllocGlobal>(

@@ -21,7 +21,8 @@ Examples:
   unixvol identify -r archive > found.txt
 
 Each image has a line: its path, and what it looks like. That is a guess by a few bytes; nothing is changed. All
-other commands must be told the edition. A file in which a volume begins after block 0 is a pack, and has lines:
+other commands must be told the edition. A file in which a volume begins after block 0, or in which other bytes than
+zeros follow a volume, is a pack, and has lines:
 
   PATH: looks like a larger pack
     at K: a volume of edition N, with B blocks, sound: unixvol ls N PATH --at K
@@ -29,8 +30,9 @@ other commands must be told the edition. A file in which a volume begins after b
     at K: C blocks of zeros
     at K: C blocks of other bytes
 
-K is the first block of each part, and the command goes on with it. What is inside a volume isn't looked at. Of
-other files the first of these that fits is printed:
+K is the first block of each part, and the command goes on with it. What is inside a volume isn't looked at, nor are
+bytes after the last whole block. Where the last volume ends, one that is cut off is named too: it breaks rule 1.
+Elsewhere its blocks are other bytes. Of other files the first of these that fits is printed:
 
   looks like a volume of edition N, with B blocks, sound
   looks empty: it has no bytes but zeros
@@ -79,10 +81,12 @@ fault is `cannot read` or `12 NoMemory`.
 
 With --csv a catalogue is printed, as a table of comma-separated values (RFC 4180, with a newline after each row): a
 row of headings, then one for each volume of each image: file, bytes, sha256 (of the whole file), block, edition,
-blocks, free_blocks (up to the first fault of the free list), files, verdict (`sound`, or `rule R` for the first that
-it breaks) and time (of its last change, in universal time). free_blocks, files and time are empty if rule 1 or 2 is
-broken. An image without a volume has no row. All must be regular files: each is read to its end twice, and then
-each volume once more; one volume at a time is in memory.
+blocks, free_blocks (up to the first fault of the free list), files, verdict (`sound`, or `rule R` for the first
+that it breaks) and time (of its last change, in universal time). A volume that is cut off breaks rule 1, and its
+free_blocks, files and time are empty. A file in which no volume is named has no row and no other line, and its
+status is 0: an empty one, an archive, a volume with exchanged bytes or whose sizes break rule 2, a disk of another
+system. All must be regular files: each is read to its end twice, and then each volume once more; one volume at a
+time is in memory.
 
 Status, the greatest if there are several:
   0  all images were read

@@ -149,7 +149,7 @@ export const readCheck = (text) => text.split('\n').map((it) => LINE.exec(it)).f
 async function inspect(image, edition) {
   const said = (await runs(['identify', image.name])).text.trim();
   [image.said, ...image.parts] = said.slice(said.indexOf(': ') + 2).split('\n');
-  const guessed = /^looks like a volume of edition (\d)/.exec(image.said)?.[1];
+  const guessed = /^(?:looks like|at 0:) a volume of edition (\d)/.exec(image.parts[0]?.trim() ?? image.said)?.[1];
   image.isVolume = Boolean(guessed);
   if (edition ?? guessed) image.edition = edition ?? guessed;
   await judge(image);

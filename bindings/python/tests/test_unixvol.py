@@ -603,7 +603,11 @@ class Packs(InFolder):
         # A volume that has all of its blocks is found, with bytes after it or none.
         self.assertEqual(unixvol.volumes(seven), [unixvol.PackVolume(0, 7, 400, None)])
         self.assertEqual(unixvol.volumes(seven + b"x"), [unixvol.PackVolume(0, 7, 400, None)])
-        for nothing in b"", bytes(5000), seven[:-1], seven[512:], (SAMPLES / "linux_made.txt").read_bytes():
+        # One that is cut off is found where no other begins after it, and breaks rule 1.
+        self.assertEqual(unixvol.volumes(seven[:-1]), [unixvol.PackVolume(0, 7, 400, 1)])
+        self.assertEqual(unixvol.volumes(six + seven[:2000]), [unixvol.PackVolume(0, 6, 400, None), unixvol.PackVolume(400, 7, 400, 1)])
+        self.assertEqual(unixvol.volumes(seven[:2000] + six[:2000]), [unixvol.PackVolume(0, 7, 400, 1)])
+        for nothing in b"", bytes(5000), seven[:1535], seven[512:], (SAMPLES / "linux_made.txt").read_bytes():
             self.assertEqual(unixvol.volumes(nothing), [])
         self.assertRaises(FileNotFoundError, unixvol.volumes, self.folder / "none")
 

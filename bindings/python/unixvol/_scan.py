@@ -4,6 +4,7 @@ from __future__ import annotations
 
 import os
 import struct
+import tarfile
 from collections.abc import Iterator
 from typing import BinaryIO, NamedTuple
 
@@ -11,6 +12,9 @@ from ._packs import BLOCK, PIECE
 
 # The blocks that tell a volume: the boot block, the super-block and the first of the i-list.
 FRONT = 3
+
+# The first bytes of files that gzip, bzip2, xz, zstd and zip packed.
+PACKED = b"\x1f\x8b", b"BZh", b"\xfd7zXZ\0", b"\x28\xb5\x2f\xfd", b"PK\x03\x04"
 
 # The most blocks that a whole number of a block can name.
 MOST = 2**32 - 1
@@ -52,9 +56,9 @@ class Found(NamedTuple):
 
 
 def find_volumes(file: BinaryIO) -> Iterator[Found]:
-    """The volumes of a pack, in order. What is inside one of them isn't looked at."""
+    """The volumes of a pack, in order. What is inside one of them isn't looked at. The last of them may be cut off."""
     blocks = min(file.seek(0, os.SEEK_END) // BLOCK, MOST)
-    at = 0
+    at = end = 0
     while at + FRONT <= blocks:
         file.seek(BLOCK * at)
         window = file.read(min(PIECE, BLOCK * (blocks - at)))
@@ -66,7 +70,12 @@ def find_volumes(file: BinaryIO) -> Iterator[Found]:
             at += ready
         else:
             yield found
-            at = found.at + found.blocks
+            at = end = found.at + found.blocks
+    if end + FRONT <= blocks:
+        file.seek(BLOCK * end)
+        cut = _cut_at(file.read(BLOCK * FRONT), end)
+        if cut is not None:
+            yield cut
 
 
 def _in_window(window: bytes, ready: int, at: int, blocks: int) -> Iterator[Found]:
@@ -83,18 +92,47 @@ def _in_window(window: bytes, ready: int, at: int, blocks: int) -> Iterator[Foun
 
 def _volume_at(front: bytes, at: int, room: int, list_size: int, first: int, second: int) -> Found | None:
     """The volume of at most `room` blocks that begins with these three. Its sizes, the head of its free list and its root
-    are those of one; at block 0 it is enough if the sizes are, and one of the others."""
+    are those of one; at block 0 it is enough if the sizes are, and one of the others, unless it is an archive or packed."""
     weak = None
-    for edition, size in (SIXTH, first), (SEVENTH, first << 16 | second):
-        is_bounded = edition.least <= list_size <= edition.greatest and list_size + edition.before < size <= edition.most_blocks
-        if not is_bounded or size > room:
+    for edition, size, signs in _editions(front, list_size, first, second):
+        if size > room:
             continue
-        signs = _has_free_head(edition, front, list_size, size) + _has_root(edition, front)
         if signs == 2:
-            return Found(at, edition.number, size)
-        if signs == 1 and at == 0 and weak is None:
-            weak = Found(at, edition.number, size)
-    return weak
+            return Found(at, edition, size)
+        if signs == 1 and weak is None:
+            weak = Found(at, edition, size)
+    return weak if at == 0 and not _is_archive(front) else None
+
+
+def _cut_at(front: bytes, at: int) -> Found | None:
+    """The volume that begins with these three blocks, where none is that has all of its own: it is cut off. Its sizes, the
+    head of its free list and its root are those of one, and its first bytes aren't those of another file."""
+    is_ext2 = front[1080:1082] == b"\x53\xef"
+    if len(front) < BLOCK * FRONT or is_ext2 or _is_archive(front):
+        return None
+    for edition, size, signs in _editions(front, *struct.unpack_from("<HHH", front, BLOCK)):
+        if signs == 2:
+            return Found(at, edition, size)
+    return None
+
+
+def _editions(front: bytes, list_size: int, first: int, second: int) -> Iterator[tuple[int, int, int]]:
+    """The editions as one of which the sizes of a volume are right (rule 2): the number of each, the number of blocks, and
+    how many of the head of the free list and the root are those of a volume."""
+    for edition, size in (SIXTH, first), (SEVENTH, first << 16 | second):
+        if edition.least <= list_size <= edition.greatest and list_size + edition.before < size <= edition.most_blocks:
+            yield edition.number, size, _has_free_head(edition, front, list_size, size) + _has_root(edition, front)
+
+
+def _is_archive(front: bytes) -> bool:
+    """True if a file with these first bytes is packed or an archive of tar."""
+    if front.startswith(PACKED):
+        return True
+    try:
+        tarfile.TarInfo.frombuf(front[:BLOCK], "ascii", "surrogateescape")
+    except tarfile.HeaderError:
+        return False
+    return True
 
 
 def _has_free_head(edition: Edition, front: bytes, list_size: int, size: int) -> bool:

@@ -243,15 +243,17 @@ def judge(source: Source, edition: int, *, at: int | None = None) -> int | None:
 
 def volumes(source: Source) -> list[PackVolume]:
     """Finds the volumes of a disk pack, a file or bytes, and judges each, as the program's `identify` does: by the sizes in
-    their super-blocks, the heads of their free lists and their roots. What is inside a volume isn't looked at.
+    their super-blocks, the heads of their free lists and their roots. What is inside a volume isn't looked at. One that is
+    cut off is found after the others; it breaks rule 1.
 
     The file is read to its end, and each volume again; one volume at a time is in memory, or all of a pipe. Bytes that are
     no volume may look like one by chance; only one that is sound is called so."""
     found = []
     with _stream(source) as file:
         for at, edition, blocks in find_volumes(file):
+            there = file.seek(0, os.SEEK_END) - BLOCK * at
             file.seek(BLOCK * at)
-            found.append(PackVolume(at, edition, blocks, judge(file.read(BLOCK * blocks), edition)))
+            found.append(PackVolume(at, edition, blocks, judge(file.read(min(BLOCK * blocks, there)), edition)))
     return found
 
 

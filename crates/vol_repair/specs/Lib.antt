@@ -4,6 +4,7 @@ pub use Rattle.vol_losses.specs.Losses
 pub use Rattle.vol_reports.specs.Icheck
 pub mod Claims
 pub mod Kept
+pub mod Laws
 pub mod Lines
 pub mod Longer
 pub mod Pairs

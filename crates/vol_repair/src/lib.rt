@@ -5,6 +5,7 @@ mod claims;
 pub mod compared;
 mod edits;
 mod entry_pairs;
+pub mod laws;
 pub mod longer;
 pub mod repair_line;
 pub mod repaired_volume;

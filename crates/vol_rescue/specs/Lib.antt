@@ -1,3 +1,4 @@
 pub mod Damage
 pub mod Laws
 pub mod Lines
+pub mod Repaired

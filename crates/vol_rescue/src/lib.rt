@@ -4,6 +4,8 @@
 pub mod damage;
 pub mod laws;
 pub mod lines;
+pub mod repaired;
 
 pub use damage::{Damage, damage_of, without_damaged};
 pub use lines::{ToldLosses, push_role, tell_losses};
+pub use repaired::tell_repaired;

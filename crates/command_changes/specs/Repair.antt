@@ -29,13 +29,18 @@ repair_line repairs.NoMemory = line_of_refusal refusals.NoMemory
 abbrev pub TellsRepair : RepairFault → Fault → Type 0
 TellsRepair why fault = (fault_status fault ≡ repair_status why) × (fault_line fault ≡ repair_line why)
 
--- the fault for an image that isn't repaired: no volume of the edition has so many blocks; memory ran out; or the image, with at least so many blocks, isn't
--- repaired, and the fault has the status and the line for the reason (this project)
+-- the fault for an image that isn't made longer: no volume of the edition has so many blocks; or memory ran out (this project)
+abbrev pub IsUnlengthened : Edition → ℕ → Fault → Type 0
+IsUnlengthened edition blocks fault = ((fault ≡ faults.Bounds) × ((constants edition).block_limit < blocks)) ⊎ (fault ≡ no_memory)
+
+-- the fault for an image that isn't repaired has the status and the line for the reason (this project)
+abbrev pub IsLongerUnrepaired : Edition → List ℕ → Fault → Type 0
+IsLongerUnrepaired edition longer fault = (why : RepairFault) × IsRepairFault edition longer why × TellsRepair why fault
+
+-- the fault for an image that isn't repaired: it isn't made longer; or the image, with at least so many blocks, isn't repaired (this project)
 abbrev pub IsUnrepaired : Edition → ℕ → List ℕ → Fault → Type 0
 IsUnrepaired edition blocks image fault =
-    ((fault ≡ faults.Bounds) × ((constants edition).block_limit < blocks))
-    ⊎ ((fault ≡ no_memory) ⊎ ((longer : List ℕ) × IsLengthened edition blocks image longer × (why : RepairFault) × IsRepairFault edition longer why
-    × TellsRepair why fault))
+    IsUnlengthened edition blocks fault ⊎ ((longer : List ℕ) × IsLengthened edition blocks image longer × IsLongerUnrepaired edition longer fault)
 
 -- an image is repaired, and the text is that of lines which tell all that differs (this project)
 abbrev pub IsLongerReported : Edition → List ℕ → List ℕ → List ℕ → Type 0

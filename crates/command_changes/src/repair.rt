@@ -1,8 +1,8 @@
 //! `repair` makes a sound copy of a damaged image, and returns the bytes to save, and the lines of all that differs.
 ghost use Rattle.std.specs.Prelude.{◌⊎◌, IfErr, IfOk};
-ghost use Rattle.vol_repair.specs.Repaired.{IsRepairFault};
+ghost use Rattle.vol_repair.specs.Longer.{IsLengthened};
 ghost use Rattle.vol_repair.specs.declared.repaired_volume.RepairFault.TheVariants as repairs;
-ghost use Rattle.command_changes.specs.Repair.{IsLongerReported, IsRepairReported, IsUnrepaired, TellsRepair};
+ghost use Rattle.command_changes.specs.Repair.{IsLongerReported, IsLongerUnrepaired, IsRepairReported, IsUnlengthened, IsUnrepaired, TellsRepair};
 
 use crate::salvage::ReportedVolume;
 use command_faults::Fault;
@@ -38,25 +38,33 @@ pub fn repair_with_report(
     ensures repaired { IfOk result (λ made. IsRepairReported edition repairing.blocks image.items made.bytes.items made.report.items) }
     ensures fault { IfErr result (IsUnrepaired edition repairing.blocks image.items) }
 {
-    match lengthened(edition, image, repairing.blocks) {
-        Ok(longer) => repair_longer(alloc, edition, longer, repairing.now),
+    let old = longer_image(edition, image, repairing.blocks)?;
+    repair_image(alloc, edition, &old, repairing.now)
+}
+
+/// Returns the image of a volume with at least `blocks` blocks, as [`lengthened`] does.
+pub(crate) fn longer_image(edition: Edition, image: Vec<u8>, blocks: u32) -> Result<Image, Fault>
+    ensures longer { IfOk result (IsLengthened edition blocks image.items) }
+    ensures fault { IfErr result (IsUnlengthened edition blocks) }
+{
+    match lengthened(edition, image, blocks) {
+        Ok(longer) => Ok(Image::from_bytes(longer)),
         Err(LengthFault::TooMany) => Err(Fault::Bounds),
         Err(LengthFault::NoMemory) => Err(Fault::Refused(Refusal::NoMemory)),
     }
 }
 
 /// Repairs an image as [`repair_with_report`] does, whose length stays.
-fn repair_longer(
+pub(crate) fn repair_image(
     alloc: Global,
     edition: Edition,
-    image: Vec<u8>,
+    old: &Image,
     now: u32,
 ) -> Result<ReportedVolume, Fault>
-    ensures repaired { IfOk result (λ made. IsLongerReported edition image.items made.bytes.items made.report.items) }
-    ensures fault { IfErr result (λ fault. (why : RepairFault) × IsRepairFault edition image.items why × TellsRepair why fault) }
+    ensures repaired { IfOk result (λ made. IsLongerReported edition old.now made.bytes.items made.report.items) }
+    ensures fault { IfErr result (IsLongerUnrepaired edition old.now) }
 {
-    let old = Image::from_bytes(image);
-    match repair(alloc, edition, &old, now) {
+    match repair(alloc, edition, old, now) {
         Ok(repaired) => {
             let report = text_of(alloc, &repaired.lines)?;
             Ok(ReportedVolume {

@@ -1,13 +1,14 @@
 //! Looks at an image of which some blocks couldn't be read, as a map of GNU ddrescue or a list says.
 ghost use Rattle.std.specs.Prelude.{◌≡◌, IfOk, string_bytes};
 ghost use Rattle.command_faults.specs.Streams.{ErrorStream, Hears, streams};
-ghost use Rattle.command_reads.specs.BadLooks.{IsMisreadEnding, IsUnrescuedEnding, LooksBad, LooksRescued, ShowsRescued, line_start, map_line, sizes_line};
+ghost use Rattle.command_reads.specs.BadLooks.{IsMisreadEnding, IsUnrescuedEnding, LooksBad, ShowsRescued, line_start, map_line, sizes_line};
 
+use crate::bad_images::rescue_image;
 use crate::export::{export_read, unread};
 use crate::find::find_in;
 use crate::looks::{ExportOptions, Look, OutputForm};
 use crate::print::print;
-use bad_maps::{LineFault, MapFault, ReadRange, read_map};
+use bad_maps::{LineFault, MapFault, ReadRange};
 use command_faults::status::{BAD_COMMAND_LINE, BAD_FILE};
 use command_faults::{Ending, Fault};
 use escaped_text::push_escaped;
@@ -16,7 +17,7 @@ use std::alloc::{AllocError, Global};
 use vol_dir::Refusal;
 use vol_layout::Edition;
 use vol_listing::Screen;
-use vol_losses::{CutImage, RescueFault, VolumeSizes, rescued};
+use vol_losses::{CutImage, RescueFault, VolumeSizes};
 
 /// A map of the bytes of a file that were read, and the place of the volume in that file.
 #[derive(Drop)]
@@ -99,40 +100,9 @@ pub fn look_bad<O: Sink>(
     ensures { (errors : ErrorStream) → Hears errors result.fault
         → LooksBad edition image.items sizes look.entry screen (streams O.contents O.failed output.old output.new errors) result.status bad.entry }
 {
-    let map = match bad {
-        BadBlocks::Outside(ranges) => {
-            return look_rescued(
-                alloc, edition, image, &ranges, 0, sizes, look, screen, output,
-            );
-        }
-        BadBlocks::Map(map) => map,
-    };
-    match read_map(alloc, &map.text) {
-        Ok(ranges) => look_rescued(
-            alloc, edition, image, &ranges, map.at, sizes, look, screen, output,
-        ),
-        Err(fault) => misread(alloc, map.name, fault),
-    }
-}
-
-/// Shows part of an image of which only the bytes in the ranges were read.
-fn look_rescued<O: Sink>(
-    alloc: Global,
-    edition: Edition,
-    image: Vec<u8>,
-    ranges: &[ReadRange],
-    at: u32,
-    sizes: Option<VolumeSizes>,
-    look: BadLook<'_>,
-    screen: Screen,
-    output: &mut O,
-) -> Ending
-    ensures { (errors : ErrorStream) → Hears errors result.fault
-        → LooksRescued edition image.items ranges.now at sizes look.entry screen (streams O.contents O.failed output.old output.new errors) result.status }
-{
-    match rescued(alloc, edition, image, ranges, at, sizes) {
+    match rescue_image(alloc, edition, image, bad, sizes) {
         Ok(read) => show_rescued(alloc, edition, &read, look, screen, output),
-        Err(fault) => unrescued(alloc, fault),
+        Err(ending) => ending,
     }
 }
 
@@ -175,7 +145,7 @@ fn show_rescued<O: Sink>(
 }
 
 /// Returns the ending of a look at an image that isn't rescued for this reason.
-fn unrescued(alloc: Global, fault: RescueFault) -> Ending
+pub(crate) fn unrescued(alloc: Global, fault: RescueFault) -> Ending
     ensures { IsUnrescuedEnding fault result.status result.fault }
 {
     let sizes = match fault {
@@ -203,7 +173,7 @@ fn sizes_line(alloc: Global, blocks: u32, list_blocks: u16) -> Result<String, Al
 }
 
 /// Returns the ending of a look whose map can't be read for this reason.
-fn misread(alloc: Global, name: &str, fault: MapFault) -> Ending
+pub(crate) fn misread(alloc: Global, name: &str, fault: MapFault) -> Ending
     ensures { IsMisreadEnding name.now fault result.status result.fault }
 {
     let MapFault::Line { number, fault } = fault else {

@@ -72,7 +72,7 @@ pub(crate) fn print<O: Sink>(shown: Result<Shown, Fault>, output: &mut O) -> End
 }
 
 /// Prints a text, and returns the ending of a command that has printed it, or that standard output failed.
-fn print_text<O: Sink>(text: &[u8], ending: Ending, output: &mut O) -> Ending
+pub fn print_text<O: Sink>(text: &[u8], ending: Ending, output: &mut O) -> Ending
     ensures { (errors : ErrorStream) → Hears errors result.fault
         → PrintsTelling ending.status (line_after ending.fault) (streams O.contents O.failed output.old output.new errors) text.now result.status }
 {

@@ -1,4 +1,4 @@
--- Words that ask for part of an image of which some blocks may not have been read.
+-- Words that ask for part of an image of which some blocks may not have been read, or for its repair.
 use Rattle.std.proofs.Common.{◌≡◌, ℕ, Bool, false, List, Option, None, Some, codes, slice_get, refl}
 use Rattle.std.specs.Borrow.{Bor}
 use Rattle.std.specs.Prelude.{option_map}
@@ -6,8 +6,10 @@ use Rattle.command_reads.specs.declared.bad_looks.BadLook.TheVariants as bad_loo
 use Rattle.command_reads.specs.declared.looks.ExportOptions.{ExportOptions}
 use Rattle.command_reads.specs.declared.looks.OutputForm.{OutputForm}
 use Rattle.command_words.specs.BadWords.{IsBadImageGiven}
-use Rattle.command_words.specs.Invocations.{AsksFor, IsExportGiven, IsFormGiven, IsVolumeGiven, Words, is_set, look_at, the_word}
+use Rattle.command_changes.specs.declared.repair.Repairing.{Repairing}
+use Rattle.command_words.specs.Invocations.{AsksFor, IsExportGiven, IsFormGiven, IsRepairGiven, IsVolumeGiven, Words, is_set, look_at, repair_at, the_word}
 use Rattle.command_words.specs.declared.invocation.BadImage.{BadImage}
+use Rattle.command_words.specs.declared.invocation.MadeFile.{MadeFile}
 use Rattle.command_words.specs.declared.invocation.VolumeFile.{VolumeFile}
 use Rattle.command_words.specs.declared.verbs.Verb.TheVariants as verbs
 
@@ -25,3 +27,10 @@ pub find_asked : (clock : Option ℕ) (given : Words) (volume : VolumeFile) (pat
     → AsksFor clock verbs.Find given (look_at volume (bad_looks.Find path name lost form) bad)
 find_asked clock given volume path name lost form None named is pattern orphans shown none = (refl, (named, (is, pattern, orphans, shown, none)))
 find_asked clock given volume path name lost form (Some image) named is pattern orphans shown bad = (refl, (named, (is, pattern, orphans, shown, bad)))
+
+-- the words of `repair` ask for its invocation
+pub repair_asked : (clock : Option ℕ) (given : Words) (volume : VolumeFile) (copy : Option MadeFile) (repairing : Repairing) (bad : Option BadImage)
+    → IsRepairGiven clock given volume copy repairing → IsBadImageGiven given volume.edition (is_set (given (codes "cut"))) bad
+    → AsksFor clock verbs.Repair given (repair_at volume copy repairing bad)
+repair_asked clock given volume copy repairing None is none = (refl, (is, none))
+repair_asked clock given volume copy repairing (Some image) is bad = (refl, (is, bad))

@@ -29,6 +29,7 @@ AreTwoGiven given = AreBothGiven given (codes "bad") (codes "bad-blocks") ⊎ Ar
 is_rescuer : Verb → Bool
 is_rescuer verbs.Export = true
 is_rescuer verbs.Find = true
+is_rescuer verbs.Repair = true
 is_rescuer _ = false
 
 -- an option without a word isn't given
@@ -66,9 +67,11 @@ one_way clock given (invocations.Look volume (looks.Export path options)) read i
 one_way clock given (invocations.Look volume (looks.Find path name lost form)) read is both = none_two given V7 is.1.4 both
 one_way clock given (invocations.LookBad volume image (bad_looks.Export p options)) read is both = image_two given volume.edition false image is.1.1 both
 one_way clock given (invocations.LookBad volume image (bad_looks.Find p name lost form)) read is both = image_two given volume.edition _ image is.1.4 both
+one_way clock given (invocations.Repair volume copy repairing) read is both = none_two given V7 is.1 both
+one_way clock given (invocations.RepairBad volume image copy repairing) read is both = image_two given volume.edition _ image is.1 both
 one_way clock given invocation read is both = absurd (true≢false (sym read))
 
--- if the words about the image aren't valid, neither command has an invocation
+-- if the words about the image aren't valid, no such command has an invocation
 pub export_wrong : (clock : Option ℕ) (given : Words) → IsBadWrong given → AsksForNothing clock verbs.Export given
 unfolding AsksForNothing is_rescuer
 export_wrong clock given (inl list) = no_value clock verbs.Export given (inr (inr (inr (inr (inr (inr (inr (inl list))))))))
@@ -82,3 +85,10 @@ find_wrong clock given (inl list) = no_value clock verbs.Find given (inr (inr (i
 find_wrong clock given (inr (inl sizes)) = no_value clock verbs.Find given (inr (inr (inr (inr (inr (inr (inr (inr (inr (inl sizes))))))))))
 find_wrong clock given (inr (inr (inl disk))) = no_value clock verbs.Find given (inr (inr (inr (inr (inr (inr (inr (inr (inr (inr (inl disk)))))))))))
 find_wrong clock given (inr (inr (inr both))) = λ invocation asks. one_way clock given invocation (sym (ap is_rescuer asks.0)) asks.1 both
+
+pub repair_wrong : (clock : Option ℕ) (given : Words) → IsBadWrong given → AsksForNothing clock verbs.Repair given
+unfolding AsksForNothing is_rescuer
+repair_wrong clock given (inl list) = no_value clock verbs.Repair given (inr (inr (inr (inr (inr (inr (inr (inr (inr (inr (inl list)))))))))))
+repair_wrong clock given (inr (inl sizes)) = no_value clock verbs.Repair given (inr (inr (inr (inr (inr (inr (inr (inr (inr (inr (inr (inl sizes))))))))))))
+repair_wrong clock given (inr (inr (inl disk))) = no_value clock verbs.Repair given (inr (inr (inr (inr (inr (inr (inr (inr (inr (inr (inr (inr (inl disk)))))))))))))
+repair_wrong clock given (inr (inr (inr both))) = λ invocation asks. one_way clock given invocation (sym (ap is_rescuer asks.0)) asks.1 both

@@ -108,7 +108,8 @@ names_copy given (Some file) is missing = let none : Some file.path.now ≡ None
 repairs : (clock : Option ℕ) (given : Words) (invocation : Invocation) → is_repair (verb_of invocation) ≡ true → IsGiven clock given invocation
     → IsNewCopyMissing given → ⊥
 unfolding is_repair
-repairs clock given (invocations.Repair volume copy repairing) repaired is missing = names_copy given copy is.1 missing
+repairs clock given (invocations.Repair volume copy repairing) repaired is missing = names_copy given copy is.0.1 missing
+repairs clock given (invocations.RepairBad volume image copy repairing) repaired is missing = names_copy given copy is.0.1 missing
 repairs clock given (invocations.Look volume (looks.List path listing)) repaired is missing = absurd (true≢false (sym repaired))
 repairs clock given (invocations.Change volume (changes.Put p file keep now) trace) repaired is missing = absurd (true≢false (sym repaired))
 repairs clock given (invocations.Copy volume (copies.Put directory files keep now trace)) repaired is missing = absurd (true≢false (sym repaired))

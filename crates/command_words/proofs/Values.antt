@@ -43,6 +43,14 @@ values_given clock given (invocations.LookBad volume image (bad_looks.Find path 
     let sizes = sizes_value given volume.edition image.sizes is.1.4.0 in
     let list = list_value given volume.edition (is_set (given (codes "cut"))) image is.1.4 in
     search (rules, list, sizes)
+values_given clock given (invocations.Repair volume copy repairing) is =
+    let sizes = sizes_value given V7 None is.1.1 in
+    let list = none_read bytes_around _ is.1.0.1 in
+    search (rules, list, sizes)
+values_given clock given (invocations.RepairBad volume image copy repairing) is =
+    let sizes = sizes_value given volume.edition image.sizes is.1.0 in
+    let list = list_value given volume.edition (is_set (given (codes "cut"))) image is.1 in
+    search (rules, list, sizes)
 values_given clock given invocation is = search (rules, scripts_value)
 
 -- if all words are valid, none of them is wrong

@@ -249,6 +249,7 @@ verb_of (invocations.Migrate old at new migration) = verbs.Migrate
 verb_of (invocations.Get volume path) = verbs.Get
 verb_of (invocations.Salvage volume copy) = verbs.Salvage
 verb_of (invocations.Repair volume copy repairing) = verbs.Repair
+verb_of (invocations.RepairBad volume image copy repairing) = verbs.Repair
 verb_of (invocations.Resize volume blocks is_trial) = verbs.Resize
 verb_of (invocations.Change volume change trace) = change_verb change
 verb_of (invocations.Look volume look) = look_verb look
@@ -267,6 +268,7 @@ volume_of (invocations.Migrate old at new migration) = None
 volume_of (invocations.Get volume path) = Some volume
 volume_of (invocations.Salvage volume copy) = Some volume
 volume_of (invocations.Repair volume copy repairing) = Some volume
+volume_of (invocations.RepairBad volume image copy repairing) = Some volume
 volume_of (invocations.Resize volume blocks is_trial) = Some volume
 volume_of (invocations.Change volume change trace) = Some volume
 volume_of (invocations.Look volume look) = Some volume
@@ -285,6 +287,7 @@ with_volume (invocations.Migrate old at new migration) volume = invocations.Migr
 with_volume (invocations.Get old path) volume = invocations.Get volume path
 with_volume (invocations.Salvage old copy) volume = invocations.Salvage volume copy
 with_volume (invocations.Repair old copy repairing) volume = invocations.Repair volume copy repairing
+with_volume (invocations.RepairBad old image copy repairing) volume = invocations.RepairBad volume image copy repairing
 with_volume (invocations.Resize old blocks is_trial) volume = invocations.Resize volume blocks is_trial
 with_volume (invocations.Change old change trace) volume = invocations.Change volume change trace
 with_volume (invocations.Look old look) volume = invocations.Look volume look
@@ -323,6 +326,16 @@ IsNewCopyGiven given (Some file) = (is_set (given (codes "dry-run")) ≡ false) 
 -- the words name no file for a repaired copy, and don't ask to write nothing (this project)
 abbrev pub IsNewCopyMissing : Words → Type 0
 IsNewCopyMissing given = (is_set (given (codes "dry-run")) ≡ false) × IsLeftOut given (codes "NEW")
+
+-- the words describe a repair of an image: the file for its copy, and the least size and the time of that (this project)
+abbrev pub IsRepairGiven : Option ℕ → Words → VolumeFile → Option MadeFile → Repairing → Type 0
+IsRepairGiven clock given volume copy repairing =
+    IsVolumeGiven given volume × IsNewCopyGiven given copy × IsRepairingGiven clock given repairing
+
+-- the invocation that repairs an image, of which some blocks may not have been read (this project)
+abbrev pub repair_at : VolumeFile → Option MadeFile → Repairing → Option BadImage → Invocation
+repair_at volume copy repairing None = invocations.Repair volume copy repairing
+repair_at volume copy repairing (Some image) = invocations.RepairBad volume image copy repairing
 
 -- the words name this place of a new volume: a file to make if no block was given; otherwise the blocks of a file from that one on, and the file needn't be
 -- new (this project)
@@ -575,7 +588,9 @@ IsGiven clock given (invocations.Salvage volume None) = IsVolumeGiven given volu
 IsGiven clock given (invocations.Salvage volume (Some copy)) = IsVolumeGiven given volume × (is_set (given (codes "dry-run")) ≡ false)
     × IsFirstWord given (codes "output") copy.now
 IsGiven clock given (invocations.Repair volume copy repairing) =
-    IsVolumeGiven given volume × IsNewCopyGiven given copy × IsRepairingGiven clock given repairing
+    IsRepairGiven clock given volume copy repairing × IsBadImageGiven given V7 (is_set (given (codes "cut"))) None
+IsGiven clock given (invocations.RepairBad volume image copy repairing) =
+    IsRepairGiven clock given volume copy repairing × IsBadImageGiven given volume.edition (is_set (given (codes "cut"))) (Some image)
 IsGiven clock given (invocations.Resize volume blocks is_trial) = IsVolumeGiven given volume
     × IsNumberGiven 4294967295 (the_word given (codes "BLOCKS")) blocks × (is_trial ≡ is_set (given (codes "dry-run")))
 IsGiven clock given (invocations.Change volume change trace) =

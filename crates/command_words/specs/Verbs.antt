@@ -154,7 +154,7 @@ row_of verbs.Salvage = (codes "salvage", on_volume (valued (codes "output") 111 
 row_of verbs.Repair = (
   codes "repair",
   on_volume (maybe_word (codes "NEW") ∷ moment ∷ option (codes "new") ∷ lettered (codes "dry-run") 110
-      ∷ (codes "blocks", kinds.LongOr, needs.Value None values.Size) ∷ []),
+      ∷ (codes "blocks", kinds.LongOr, needs.Value None values.Size) ∷ option (codes "cut") ∷ with_bad []),
 )
 row_of verbs.Resize = (codes "resize", on_volume (long_number (codes "BLOCKS") ∷ lettered (codes "dry-run") 110 ∷ []))
 row_of verbs.Play = (codes "play", on_volume ((codes "SCRIPT", kinds.Scripts, needs.Several) ∷ option (codes "journal") ∷ option (codes "trace") ∷ []))

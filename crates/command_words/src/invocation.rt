@@ -166,6 +166,13 @@ pub enum Invocation<'a> {
         copy: Option<MadeFile<'a>>,
         repairing: Repairing,
     },
+    /// The same with an image of which some blocks couldn't be read; also print what is lost.
+    RepairBad {
+        volume: VolumeFile<'a>,
+        image: BadImage<'a>,
+        copy: Option<MadeFile<'a>>,
+        repairing: Repairing,
+    },
     /// Give the volume in a file another number of blocks; if `is_trial`, in memory only.
     Resize {
         volume: VolumeFile<'a>,
@@ -230,6 +237,7 @@ impl<'a> Invocation<'a> {
             | Invocation::Get { volume, .. }
             | Invocation::Salvage { volume, .. }
             | Invocation::Repair { volume, .. }
+            | Invocation::RepairBad { volume, .. }
             | Invocation::Resize { volume, .. }
             | Invocation::Change { volume, .. }
             | Invocation::Look { volume, .. }
@@ -255,6 +263,17 @@ impl<'a> Invocation<'a> {
                 ..
             } => Invocation::Repair {
                 volume,
+                copy,
+                repairing,
+            },
+            Invocation::RepairBad {
+                image,
+                copy,
+                repairing,
+                ..
+            } => Invocation::RepairBad {
+                volume,
+                image,
                 copy,
                 repairing,
             },

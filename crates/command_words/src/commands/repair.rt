@@ -1,12 +1,13 @@
 //! The command `repair`.
-ghost use Rattle.std.specs.Prelude.{IfErr, IfOk};
-ghost use Rattle.command_words.specs.Invocations.{AsksFor, AsksForNothing, IsNewCopyGiven, IsNewCopyMissing, IsOneWrong, IsRepairingGiven, TellsOf};
+ghost use Rattle.std.specs.Prelude.{◌≡◌, IfErr, IfOk};
+ghost use Rattle.command_words.specs.Invocations.{AsksFor, AsksForNothing, IsNewCopyGiven, IsNewCopyMissing, IsOneWrong, IsRepairingGiven, TellsOf, repair_at};
 ghost use Rattle.command_words.specs.Verbs.{arguments_of};
 ghost use Rattle.command_words.specs.declared.verbs.Verb.TheVariants as verbs;
 
+use crate::bad_words::{BAD, BAD_BLOCKS, CUT, LIKE, SIZES, bad_image_in};
 use crate::fault::WordFault;
 use crate::given::{Given, flag_in, long_or, missing, moment_in};
-use crate::invocation::{Invocation, MadeFile};
+use crate::invocation::{BadImage, Invocation, MadeFile, VolumeFile};
 use crate::parameters::{AT, EDITION, IMAGE, Need, Parameter, UNREPLACED, ValueName, WordKind};
 use crate::read_words::volume_in;
 use command_changes::Repairing;
@@ -22,6 +23,8 @@ Examples:
   unixvol repair 7 disk.img -n
   unixvol repair 7 disk.img repaired.img
   unixvol repair 7 disk.img repaired.img 173750400 --blocks 5000
+  unixvol repair --cut 7 cut-off.img repaired.img
+  unixvol repair --bad rescue.map 7 rescued.img repaired.img
 
 IMAGE is only read. NEW is made or replaced as `unixvol migrate` does with its new volume, if the copy is sound: it
 must be a different file, and if standard error is a terminal, a line says what a replaced file held. With --new
@@ -45,17 +48,29 @@ Each difference has a line:
   free list: rebuilt                       the super-block or a block of the list isn't the same
 A sound volume has no line, and its copy is the same, unless --blocks makes it larger. The lines are on standard error if NEW is standard output.
 
+With --cut, --bad, --bad-blocks, --sizes and --like some blocks of IMAGE are lost, as `unixvol export --help` says. They are
+repaired as zeros. Each file keeps its size and the places of its bytes, so zeros are in place of what is lost of it. What
+is lost has lines on standard error, as `export` has them, with the paths of the copy:
+  unixvol: 3994 of 4872 blocks are lost
+  unixvol: f4: 10400 of 100000 bytes are lost: 89600-99999
+A file that fits and has no such line is right in the copy, whatever the lost blocks held. With --blocks, the image is
+first completed, up to the blocks that its super-block or --sizes states; the blocks appended to that aren't lost.
+
 Status:
-  0  the copy is sound and was saved; with -n, it can be made
+  0  the copy is sound and was saved; with -n, it can be made; no block is lost
   1  `unixvol: unsound, rule N`: the volume breaks rule 1 or 2, so its sizes aren't known
      `unixvol: bounds`: no volume of the edition has FSIZE blocks: 65535 in the sixth, 16777216 in the seventh
      `unixvol: 28 NoSpace`: a directory or an entry that is needed has no free block or i-node; --blocks makes more
      blocks, and no more i-nodes
      `unixvol: 112 NotRepaired`: the copy still isn't sound, or a file that fits would change
   2  the command line is wrong
+     `unixvol: no volume has 5 blocks with an i-list of 9`: --sizes, or --like in the sixth edition, breaks rule 2
   3  `unixvol: cannot read IMAGE`, `unixvol: cannot write NEW`; with --new, also if something already has this path
      `unixvol: cannot write -`: standard output failed, after NEW was written
-  4  `unixvol: 12 NoMemory`";
+     `unixvol: rescue.map: line 7: the size is no number`: MAPFILE can't be read
+  4  `unixvol: 12 NoMemory`
+  5  as 0, but blocks are lost: standard error says what
+  6  `unixvol: the image has 2 of 2000000 blocks`: more than 1048576 blocks are missing";
 
 const NEW: Parameter = Parameter {
     name: "NEW",
@@ -86,11 +101,13 @@ const BLOCKS: Parameter = Parameter {
 };
 
 /// The words that `repair` takes.
-pub(crate) const WORDS: &[Parameter] = &[EDITION, IMAGE, AT, NEW, NOW, UNREPLACED, DRY_RUN, BLOCKS];
+pub(crate) const WORDS: &[Parameter] = &[
+    EDITION, IMAGE, AT, NEW, NOW, UNREPLACED, DRY_RUN, BLOCKS, CUT, BAD, BAD_BLOCKS, SIZES, LIKE,
+];
 
 /// Reads the words of `repair`.
 pub(crate) fn read<'a, G: Given<'a>>(
-    _alloc: Global,
+    alloc: Global,
     given: &G,
     clock: Option<u32>,
 ) -> Result<Invocation<'a>, WordFault<'a>>
@@ -100,11 +117,33 @@ pub(crate) fn read<'a, G: Given<'a>>(
     let volume = volume_in(given)?;
     let repairing = repairing_in(given, clock)?;
     let copy = copy_in(given)?;
-    Ok(Invocation::Repair {
-        volume,
-        copy,
-        repairing,
-    })
+    let is_cut = flag_in(given, "cut");
+    let bad = bad_image_in(alloc, given, volume.edition, is_cut)?;
+    Ok(repair_at(volume, copy, repairing, bad))
+}
+
+/// Returns the invocation that repairs an image, of which some blocks may not have been read.
+fn repair_at<'a>(
+    volume: VolumeFile<'a>,
+    copy: Option<MadeFile<'a>>,
+    repairing: Repairing,
+    bad: Option<BadImage<'a>>,
+) -> Invocation<'a>
+    ensures { result ≡ repair_at volume.entry copy.entry repairing bad.entry }
+{
+    match bad {
+        Some(image) => Invocation::RepairBad {
+            volume,
+            image,
+            copy,
+            repairing,
+        },
+        None => Invocation::Repair {
+            volume,
+            copy,
+            repairing,
+        },
+    }
 }
 
 /// Reads the least size and the time of a repaired copy.

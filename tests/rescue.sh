@@ -1,6 +1,6 @@
 #!/usr/bin/env bash
-# Runs `export` and `find` of the built program with `--cut`, `--bad`, `--bad-blocks`, `--sizes` and `--like` on volumes that were cut off, or of which
-# blocks couldn't be read, and compares what it writes with what the whole volume holds.
+# Runs `export`, `find` and `repair` of the built program with `--cut`, `--bad`, `--bad-blocks`, `--sizes` and `--like` on volumes that were cut off, or of
+# which blocks couldn't be read, and compares what it writes with what the whole volume holds.
 # Usage: tests/rescue.sh PROGRAM. It prints a line for each row that fails, and ends with 'N passed, N failed'.
 . "$(dirname "$0")/rows.sh"
 linux="$samples/linux_made.v7"
@@ -501,6 +501,131 @@ for round in range(50):
 print(count > 500)
 PYTHON
 has 'members of volumes of which random blocks are lost' True "$(cat error)"
+
+# `repair` makes a sound copy of what is left: files that are whole have all bytes, the others zeros in place of what is lost, with the lines of an export. With
+# -n it prints the same, and saves nothing. The image stays as it is.
+mends() { # mends STATUS EDITION IMAGE WORD..: `repair` of the image to new, with this status; its lines are in `error`, and `report` has what differs
+    cp "$3" before
+    rm -f new
+    "$program" repair "$2" "$3" -n "${@:4}" > output 2> error < /dev/null
+    has "the status of repair -n $3 ${*:4}" "$1" $?
+    has "no copy with -n of $3 ${*:4}" none "$([ -e new ] && echo some || echo none)"
+    cp error told
+    "$program" repair "$2" "$3" new 5 "${@:4}" > report 2> error < /dev/null
+    has "the status of repair $3 ${*:4}" "$1" $?
+    cmp -s report output && cmp -s error told && cmp -s "$3" before
+    has "repair of $3 ${*:4}, with -n and without" 0 $?
+    "$program" check "$2" new > checked
+    has "the rules that the copy of $3 ${*:4} keeps" '0 12' "$? $(grep -c ': holds$' checked)"
+}
+for edition in 6 7; do
+    "$program" mkfs "$edition" b.img 4872 100 0 0 0
+    "$program" put "$edition" b.img -t / f1 f2 f3 f4 f5 f6 f7 f8 0
+    head -c 450000 b.img > cut.img
+    exports 5 damaged.tar "$edition" cut.img --cut --damaged
+    cp error wanted
+    refuses 1 'unixvol: unsound, rule 1' repair "$edition" cut.img -n
+    for words in '--cut cut.img' '--bad half.map b.img' '--bad-blocks 878-4871 b.img'; do
+        # shellcheck disable=SC2086
+        mends 5 "$edition" ${words##* } ${words% *}
+        cmp -s error wanted
+        has "the lines of repair $words of edition $edition are those of export" 0 $?
+        has "the length of the copy with $words of edition $edition" $((512 * 4872)) "$(wc -c < new)"
+        for n in 1 2 3 4 5 6 7 8; do
+            "$program" get "$edition" new "/f$n" > got
+            tar -xOf damaged.tar "f$n" | cmp -s - got
+            has "f$n in the copy with $words of edition $edition" 0 $?
+        done
+    done
+    mends 5 "$edition" cut.img --cut --blocks 5000
+    cmp -s error wanted
+    has "the lines of a larger copy of edition $edition" 0 $?
+    has "the length of a larger copy of edition $edition" $((512 * 5000)) "$(wc -c < new)"
+    # Of a whole image all is as without the options.
+    mends 0 "$edition" b.img --cut
+    saves "the copy of a whole volume of edition $edition with --cut" new b.img
+    [ ! -s error ] && [ ! -s report ]
+    has "the lines of a whole volume of edition $edition" 0 $?
+done
+changed "$linux" nameless 8752 '00 00'
+"$program" repair 7 nameless plain 5 > wanted
+mends 0 7 nameless --cut
+cmp -s report wanted && cmp -s new plain && [ ! -s error ]
+has 'a damaged volume of which no block is lost' 0 $?
+# The super-block is lost: the free list is made anew, and all else is there.
+mends 5 7 super.img --sizes $fsize,$isize
+has 'the line of a volume without a super-block' 'unixvol: 1 of 240 blocks are lost' "$(cat error)"
+has 'its report' 'free list: rebuilt' "$(cat report)"
+"$program" diff 7 "$linux" new > differs 2> /dev/null
+has 'the tree of its copy' '' "$(cat differs)"
+# A directory of which a block is lost: what was named there is in lost+found.
+blocks=$("$program" inode 7 dir.img /d | awk '$1 == "addr" { print }' | tr -s ' ' '\n' | grep '^[1-9]' | sort -n | paste -s -d ' ' -)
+mends 5 7 dir.img --bad-blocks "${blocks##* }"
+has 'the line of a directory in a copy' 1 "$(grep -c '^unixvol: d: names may be missing: 160 of 672 bytes are lost: 512-671$' error)"
+"$program" find 7 new > found
+has 'the files whose names are lost, in a copy' 10 "$(grep -c '^/*lost+found/#' found)"
+has 'the names in the rest of it' 30 "$(grep -c '^/*d/name' found)"
+# Lost i-nodes: the names that led to them are removed, and each has its line.
+mends 5 7 many.img --bad-blocks 5
+has 'the line of lost i-nodes in a copy' 'unixvol: 1 of 100 blocks are lost unixvol: i-nodes 25 to 32 are lost' "$(paste -s -d ' ' error)"
+has 'the names of lost i-nodes' 8 "$(grep -c ' -> empty$' report)"
+# What isn't rescued, and words that exclude each other. If NEW is standard output, all lines are on standard error.
+for words in '--sizes 5,9' '--sizes 240,0'; do
+    # shellcheck disable=SC2086
+    refuses 2 "unixvol: no volume has $(tr , ' ' <<< "${words#* }" | sed 's/ / blocks with an i-list of /')" repair 7 b.img -n $words
+done
+refuses 6 'unixvol: the image has 40 of 16000000 blocks' repair --cut 7 long.img new
+refuses 1 'unixvol: bounds' repair --cut 6 cut.img new --blocks 65536
+refuses 3 'unixvol: cannot read missing.map' repair --bad missing.map 7 one.img new
+refuses 3 'unixvol: cannot write cut.img' repair --cut 7 cut.img cut.img
+misread "error: the argument '--bad-blocks' cannot be used with '--bad'" repair --bad-blocks 12 --bad half.map 7 b.img new
+misread "error: the argument '--like' cannot be used with '--sizes'" repair --like rk05 --sizes 4872,100 7 b.img new
+misread "error: invalid value '5-3' for '<bad-blocks>'" repair --bad-blocks 5-3 7 b.img new
+mends 5 7 cut.img --cut
+cat report error > wanted
+cp new plain
+"$program" repair --cut 7 cut.img /dev/stdout 5 2> error | cat > copied
+cmp -s copied plain && cmp -s error wanted
+has 'a copy with lost blocks on standard output' 0 $?
+
+# The law itself: of a sound volume random blocks are lost, with any bytes in their place. Each file of the copy without a line has the bytes and the i-node of
+# the whole volume.
+python3 - "$program" "$linux" << 'PYTHON' > error
+import random, subprocess, sys
+
+program, linux = sys.argv[1:]
+random.seed(1979)
+
+def run(*words):
+    return subprocess.run([program, *words], stdin=subprocess.DEVNULL, capture_output=True)
+
+def files(image):
+    lines = [line.split(None, 7) for line in run("sums", "7", image).stdout.decode().splitlines()]
+    return {words[7]: words[:7] for words in lines if words[0] != "-"}
+
+whole, count = files(linux), 0
+for round in range(40):
+    image = bytearray(open(linux, "rb").read())
+    lost = sorted(random.sample(range(2, len(image) // 512), random.choice((1, 3, 10, 40))))
+    for block in lost:
+        image[512 * block:512 * block + 512] = random.randbytes(512)
+    open("r.img", "wb").write(image)
+    done = run("repair", "7", "r.img", "r.new", "5", "--bad-blocks", ",".join(map(str, lost)))
+    if done.returncode != 5:
+        if done.returncode != 1 or done.stderr not in (b"unixvol: 28 NoSpace\n", b"unixvol: 112 NotRepaired\n"):
+            print(round, done.returncode, done.stderr)
+        continue
+    told = {line.split(": ")[1] for line in done.stderr.decode().splitlines()}
+    if run("check", "7", "r.new").returncode != 0:
+        print(round, "the copy isn't sound")
+    for path, fields in files("r.new").items():
+        if path not in told and not path.startswith("lost+found"):
+            count += 1
+            if whole.get(path) != fields:
+                print(round, path)
+print(count > 100)
+PYTHON
+has 'files of repaired copies without a line' True "$(cat error)"
 
 echo "$passed passed, $failed failed"
 [ "$failed" = 0 ]

@@ -27,6 +27,7 @@ same_work (invocations.Resize old blocks is_trial) found volume work is = absurd
 same_work (invocations.Change old change trace) found volume work is = absurd (cc)
 same_work (invocations.Look old look) found volume work is = absurd (cc)
 same_work (invocations.LookBad old image look) found volume work is = absurd (cc)
+same_work (invocations.RepairBad old image copy repairing) found volume work is = absurd (cc)
 same_work (invocations.Copy old copying) found volume work is = absurd (cc)
 same_work (invocations.Serve old serving) found volume work is = absurd (cc)
 same_work (invocations.Diff old other by) found volume work is = absurd (cc)

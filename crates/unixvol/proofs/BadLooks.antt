@@ -27,7 +27,7 @@ ends_incomplete edition bytes streams status (inl (there, blocks, fault, is, lin
     ends_badly 6 streams status (omega (arith, told.status)) (omega (arith, told.status))
 ends_incomplete edition bytes streams status (inr told) = ends_told 6 streams no_memory status (omega arith) told
 
-ends_unrescued : (edition : Edition) (ranges : List ReadRange) (at : ℕ) (sizes : Option VolumeSizes) (bytes : List ℕ) (streams : Streams) (status : ℕ)
+pub ends_unrescued : (edition : Edition) (ranges : List ReadRange) (at : ℕ) (sizes : Option VolumeSizes) (bytes : List ℕ) (streams : Streams) (status : ℕ)
     → TellsUnrescued edition ranges at sizes bytes streams status → IsEndWithin 6 streams status
 ends_unrescued edition ranges at sizes bytes streams status (inl (cleared, stated, zeros, sized, told)) = ends_incomplete edition stated streams status told
 ends_unrescued edition ranges at sizes bytes streams status (inr (inl (wrong, fault, is, invalid, line, told))) =

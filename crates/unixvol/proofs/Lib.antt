@@ -12,6 +12,7 @@ pub mod Looked
 pub mod MadeVolumes
 pub mod Played
 pub mod CopiesMade
+pub mod RepairedBad
 pub mod Saved
 pub mod Traced
 pub mod VisitedBelow

@@ -48,7 +48,7 @@ abbrev pub AreFew : ℕ → Sights → Type 0
 AreFew most sights =
     (text : List ℕ) (wanted : ℕ) (lines : List ℕ) → sights.shows text wanted lines → (wanted ≤ most) × (wanted ≡ 0 → lines ≡ [])
 
-ends_telling : (most wanted : ℕ) (lines : List ℕ) (streams : Streams) (text : List ℕ) (status : ℕ) → 4 ≤ most → wanted ≤ most → (wanted ≡ 0 → lines ≡ [])
+pub ends_telling : (most wanted : ℕ) (lines : List ℕ) (streams : Streams) (text : List ℕ) (status : ℕ) → 4 ≤ most → wanted ≤ most → (wanted ≡ 0 → lines ≡ [])
     → PrintsTelling wanted lines streams text status → IsEndWithin most streams status
 ends_telling most wanted lines streams text status few within quiet (inl printed) = record {
   within = subst (λ n. n ≤ most) (sym printed.status) within;

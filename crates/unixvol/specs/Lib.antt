@@ -5,6 +5,7 @@ pub mod Editions
 pub mod Exits
 pub mod LookBad
 pub mod Identify
+pub mod RepairBad
 pub mod Reports
 pub mod Resize
 pub mod Runs

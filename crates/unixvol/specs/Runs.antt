@@ -425,12 +425,13 @@ RunsChange streams files input is_terminal edition change trace lines status =
     ((wants_terminal is_terminal (needs_of change) ≡ true) × (lines ≡ []) × LeavesTerminal streams status)
     ⊎ ((wants_terminal is_terminal (needs_of change) ≡ false) × ChangesImage streams files input edition change trace lines status)
 
--- the invocation is a plain command: it doesn't show part of an image, compare two images, guess what images are, change a volume, copy several files or use several threads (this project)
+-- the invocation is a plain command: it doesn't show part of an image, repair one of which some blocks couldn't be read, compare two images, guess what images are, change a volume, copy several files or use several threads (this project)
 abbrev pub IsPlainCommand : Invocation → Type 0
 IsPlainCommand (invocations.Look volume look) = ⊥
 IsPlainCommand (invocations.Identify images form is_deep) = ⊥
 IsPlainCommand (invocations.Diff volume other by) = ⊥
 IsPlainCommand (invocations.LookBad volume image look) = ⊥
+IsPlainCommand (invocations.RepairBad volume image copy repairing) = ⊥
 IsPlainCommand (invocations.Change volume change trace) = ⊥
 IsPlainCommand (invocations.Copy volume copying) = ⊥
 IsPlainCommand (invocations.Work volume work) = ⊥
@@ -461,6 +462,7 @@ volume_at (invocations.Migrate old at new migration) = at
 volume_at (invocations.Identify images form is_deep) = 0
 volume_at (invocations.Diff volume other by) = volume.at
 volume_at (invocations.LookBad volume image look) = volume.at
+volume_at (invocations.RepairBad volume image copy repairing) = volume.at
 volume_at (invocations.Salvage volume copy) = volume.at
 volume_at (invocations.Repair volume copy repairing) = volume.at
 volume_at (invocations.Resize volume blocks is_trial) = volume.at
@@ -484,6 +486,7 @@ Runs streams files status (invocations.Migrate old at new migration) = RunsMigra
 Runs streams files status (invocations.Identify images form is_deep) = ⊥
 Runs streams files status (invocations.Diff volume other by) = ⊥
 Runs streams files status (invocations.LookBad volume image look) = ⊥
+Runs streams files status (invocations.RepairBad volume image copy repairing) = ⊥
 Runs streams files status (invocations.Salvage volume copy) = RunsSalvage streams files volume.edition copy status
 Runs streams files status (invocations.Repair volume copy repairing) = RunsRepair streams files volume.edition copy repairing status
 Runs streams files status (invocations.Resize volume blocks is_trial) = RunsResize streams files volume blocks is_trial status

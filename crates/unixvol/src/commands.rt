@@ -115,6 +115,7 @@ fn carry_out<R: ImageFiles + Clock + Eprint + AllocGlobal, O: Sink>(
         Invocation::Identify { .. }
         | Invocation::Diff { .. }
         | Invocation::LookBad { .. }
+        | Invocation::RepairBad { .. }
         | Invocation::Look { .. }
         | Invocation::Change { .. }
         | Invocation::Copy { .. }
@@ -323,7 +324,7 @@ fn tell_report(report: Vec<u8>) -> Ending
 const OUTPUT: &str = "/dev/stdout";
 
 /// True if the file at `path`, perhaps through symbolic links, is the one that standard output writes to.
-fn is_output<R: ImageFiles>(rt: &R, path: &str) -> bool
+pub(crate) fn is_output<R: ImageFiles>(rt: &R, path: &str) -> bool
     ensures { result ≡ true → IsOneFile R.stood }
 {
     match (rt.stamp_at(path), rt.stamp_at(OUTPUT)) {

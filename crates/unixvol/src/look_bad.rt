@@ -7,14 +7,14 @@ ghost use Rattle.unixvol.specs.Runs.{IsUnread, host_files};
 
 use crate::explain::{finish_printed, tell_fault};
 use crate::host::Surroundings;
-use crate::read::{read_blocks, read_file, read_volume};
+use crate::read::{read_blocks, read_file, read_stamped};
 use crate::subject::Subject;
 use command_faults::Ending;
 use command_line::VolumeFile;
 use command_reads::bad_looks::look_bad;
 use command_reads::{BadBlocks, BadLook, BadMap};
 use command_words::{BadImage, GivenBad};
-use host_files::{ImageFiles, noted_writer};
+use host_files::{ImageFiles, Stamp, noted_writer};
 use pdp_words::{IntoWrite, Sink};
 use std::io::Write;
 use std::process::ExitCode;
@@ -72,7 +72,7 @@ fn run<R: ImageFiles + Eprint + AllocGlobal, O: Sink>(
         }
     };
     let bytes = match read_known(host, volume, image.sizes) {
-        Ok(bytes) => bytes,
+        Ok(read) => read.0,
         Err(status) => {
             return Ending {
                 status,
@@ -92,25 +92,25 @@ fn run<R: ImageFiles + Eprint + AllocGlobal, O: Sink>(
     )
 }
 
-/// Reads the image of the volume in a file: up to the end that its super-block states, or if sizes are given, that they state. If it can't be read, reports
-/// that on standard error and returns the exit status.
-fn read_known<R: ImageFiles + Eprint + AllocGlobal>(
+/// Reads the image of the volume in a file: up to the end that its super-block states, or if sizes are given, that they state; and returns it with the file's
+/// stamp. If it can't be read, reports that on standard error and returns the exit status.
+pub(crate) fn read_known<R: ImageFiles + Eprint + AllocGlobal>(
     host: &Surroundings<'_, R>,
     volume: VolumeFile<'_>,
     sizes: Option<VolumeSizes>,
-) -> Result<Vec<u8>, u8>
-    ensures given { IfOk result (λ bytes. IsKnownRead (host_files volume.entry.at R.File.remaining R.File.contents R.had R.stood) volume.entry bytes.items sizes) }
+) -> Result<(Vec<u8>, Stamp), u8>
+    ensures given { IfOk result (λ read. IsKnownRead (host_files volume.entry.at R.File.remaining R.File.contents R.had R.stood) volume.entry read.0.items sizes) }
     ensures fault { IfErr result (IsUnread R.File.remaining) }
 {
     match sizes {
-        None => read_volume(host, volume),
+        None => read_stamped(host, volume),
         Some(sizes) => read_blocks(host, volume, sizes.blocks),
     }
 }
 
 /// Returns what says which blocks couldn't be read: the map, which is read from its file, or the ranges themselves. If the map's file can't be read,
 /// reports that on standard error and returns the exit status.
-fn read_bad<'a, R: ImageFiles + Eprint + AllocGlobal>(
+pub(crate) fn read_bad<'a, R: ImageFiles + Eprint + AllocGlobal>(
     host: &Surroundings<'_, R>,
     volume: VolumeFile<'_>,
     bad: GivenBad<'a>,

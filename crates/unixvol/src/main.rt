@@ -20,6 +20,7 @@ mod mounted;
 mod packed;
 mod place;
 mod read;
+mod repair_bad;
 mod replaced;
 mod rescue;
 mod resize;
@@ -37,7 +38,7 @@ use std::process::ExitCode;
 use std::rt::Clock;
 use std::time::{SystemTime, UNIX_EPOCH};
 
-/// Reads the words of the command line, and continues in one of nine functions. Each has only the rights that it needs: only commands with several
+/// Reads the words of the command line, and continues in one of ten functions. Each has only the rights that it needs: only commands with several
 /// threads may wait, only those that show part of an image may print something and fail, only a change and a server read standard input, and only
 /// those that copy files to the host save several files.
 fn main(rt: HostRuntime) -> ExitCode {
@@ -96,6 +97,14 @@ fn main(rt: HostRuntime) -> ExitCode {
                 look,
             },
         ) => look_bad::run_to_end(&host, screen, output, errors, volume, image, look),
+        Ok(
+            Invocation::RepairBad {
+                volume,
+                image,
+                copy,
+                repairing,
+            },
+        ) => repair_bad::run_to_end(&host, output, errors, volume, image, copy, repairing),
         Ok(Invocation::Diff { volume, other, by }) => {
             compare::run_to_end(&host, output, errors, volume, other, by)
         }

@@ -222,14 +222,14 @@ pub fn read_stamped<R: ImageFiles + Eprint + AllocGlobal>(
     }
 }
 
-/// Reads this number of blocks of the volume in a file, whatever its super-block says; or as many as the file has. If it can't be read, prints the fault
-/// and returns the status.
+/// Reads this number of blocks of the volume in a file, whatever its super-block says; or as many as the file has; and returns them with the file's stamp.
+/// If it can't be read, prints the fault and returns the status.
 pub fn read_blocks<R: ImageFiles + Eprint + AllocGlobal>(
     host: &Surroundings<'_, R>,
     volume: VolumeFile<'_>,
     blocks: u32,
-) -> Result<Vec<u8>, u8>
-    ensures given { IfOk result (λ bytes. GaveFront volume.entry.at (512 * blocks) R.File.remaining bytes.items) }
+) -> Result<(Vec<u8>, Stamp), u8>
+    ensures given { IfOk result (λ read. GaveFront volume.entry.at (512 * blocks) R.File.remaining read.0.items) }
     ensures fault { IfErr result (IsUnread R.File.remaining) }
 {
     let named = NamedFile::File(volume.image);
@@ -238,7 +238,8 @@ pub fn read_blocks<R: ImageFiles + Eprint + AllocGlobal>(
         Err(why) => return Err(explain_unread(host, named, why)),
     };
     let moved = moved_over(host, volume, file, stamp)?;
-    Ok(read_more(host, named, BLOCK * blocks as usize, unread(host, moved))?.bytes)
+    let read = read_more(host, named, BLOCK * blocks as usize, unread(host, moved))?;
+    Ok((read.bytes, stamp))
 }
 
 /// Reads the image of the volume in its open file, which has this stamp. If it can't be read, prints the fault and returns the status.

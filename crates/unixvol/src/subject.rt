@@ -58,9 +58,7 @@ impl<'a> Subject<'a> {
             Invocation::Salvage { volume, .. } => {
                 Some(Subject::new(*volume, Verb::Salvage, About::Image))
             }
-            Invocation::Repair { volume, .. } => {
-                Some(Subject::new(*volume, Verb::Repair, About::Image))
-            }
+            Invocation::Repair { volume, .. } => { Some(Subject::of_repair(*volume)) }
             Invocation::Resize { volume, .. } => {
                 Some(Subject::new(*volume, Verb::Resize, About::Image))
             }
@@ -136,6 +134,11 @@ impl<'a> Subject<'a> {
             Look::List { path, .. } | Look::Slots { path, .. } => (Verb::Ls, About::Path(path)),
         };
         Subject::new(volume, verb, about)
+    }
+
+    /// Returns the subject of `repair`.
+    pub fn of_repair(volume: VolumeFile<'a>) -> Subject<'a> {
+        Subject::new(volume, Verb::Repair, About::Image)
     }
 
     /// Returns the subject of `diff`, about one of its images.

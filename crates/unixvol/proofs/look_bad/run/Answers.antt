@@ -11,7 +11,7 @@ returns-in-Err-read_known g c errors hears = inl (c.in-Err-read_known.ensures.fa
 pub returns : goal.returns
 returns g c errors hears =
     inr (
-      c.in-Ok-read_known.bytes.items,
+      c.in-Ok-read_known.read.0.items,
       c.in-Ok.bad,
       c.in-Ok-read_known.ensures.given,
       c.in-Ok.ensures.read,

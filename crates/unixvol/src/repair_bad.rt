@@ -1,0 +1,154 @@
+//! `repair` of an image of which some blocks couldn't be read.
+ghost use Rattle.std.specs.Process.{exit_status};
+ghost use Rattle.command_faults.specs.Streams.{ErrorStream, Hears, streams};
+ghost use Rattle.host_files.specs.Save.{IsTaken};
+ghost use Rattle.unixvol.specs.RepairBad.{RepairsBadToEnd, RepairsRescued, RunsRepairBad, SavesRescued};
+ghost use Rattle.unixvol.specs.Runs.{host_files};
+
+use crate::commands::is_output;
+use crate::explain::{finish_printed, tell_fault};
+use crate::host::Surroundings;
+use crate::look_bad::{read_bad, read_known};
+use crate::save::{explain_there, is_kept, save_over};
+use crate::subject::Subject;
+use command_changes::repair_losses::{ending_with, ending_with_report};
+use command_changes::{Repairing, RescuedVolume, repair_rescued};
+use command_faults::status::DONE;
+use command_faults::{Ending, Fault};
+use command_line::{MadeFile, VolumeFile};
+use command_reads::print::print_text;
+use command_reads::rescue_image;
+use command_words::BadImage;
+use host_files::{ImageFiles, Stamp, noted_writer};
+use pdp_words::{IntoWrite, Sink};
+use std::io::Write;
+use std::process::ExitCode;
+use std::rt::Clock;
+use vol_dir::Refusal;
+use vol_losses::CutImage;
+
+/// Repairs the image in a file of which only some blocks were read, to a copy in memory; saves it in the file `copy`, if one is named; prints all that differs
+/// and all that is lost, and returns the exit code. Output is written to `output`, which is standard output; a fault is printed as lines on standard error.
+/// `errors` writes to standard error too.
+pub fn run_to_end<R: ImageFiles + Clock + Eprint + AllocGlobal, O: Write + Drop, E: Write + Drop>(
+    host: &Surroundings<'_, R>,
+    output: O,
+    errors: E,
+    volume: VolumeFile<'_>,
+    image: BadImage<'_>,
+    copy: Option<MadeFile<'_>>,
+    repairing: Repairing,
+) -> ExitCode
+    ensures { RepairsBadToEnd (host_files volume.entry.at R.File.remaining R.File.contents R.had R.stood) (O.contents output) (E.contents errors)
+        volume.entry image.entry copy.entry repairing (exit_status result) }
+{
+    let mut errors = IntoWrite::new(errors);
+    let mut output = noted_writer(output);
+    let ending = run(host, &mut output, volume, image, copy, repairing);
+    let subject = Subject::of_repair(volume);
+    tell_fault(
+        host,
+        &mut errors,
+        &ending.fault,
+        output.error(),
+        Some(subject),
+    );
+    ExitCode::from(finish_printed(host, output.into_inner().into_inner(), ending.status))
+}
+
+/// Repairs the image, and returns the result of the run, which holds if [`finish_printed`] succeeds.
+fn run<R: ImageFiles + Clock + Eprint + AllocGlobal, O: Sink>(
+    host: &Surroundings<'_, R>,
+    output: &mut O,
+    volume: VolumeFile<'_>,
+    image: BadImage<'_>,
+    copy: Option<MadeFile<'_>>,
+    repairing: Repairing,
+) -> Ending
+    ensures { (errors : ErrorStream) → Hears errors result.fault
+        → RunsRepairBad (streams O.contents O.failed output.old output.new errors)
+        (host_files volume.entry.at R.File.remaining R.File.contents R.had R.stood) volume.entry image.entry copy.entry repairing result.status }
+{
+    let bad = match read_bad(host, volume, image.bad) {
+        Ok(bad) => bad,
+        Err(status) => {
+            return Ending {
+                status,
+                fault: None,
+            };
+        }
+    };
+    let (bytes, stamp) = match read_known(host, volume, image.sizes) {
+        Ok(read) => read,
+        Err(status) => {
+            return Ending {
+                status,
+                fault: None,
+            };
+        }
+    };
+    match rescue_image(host.rt.alloc(), volume.edition, bytes, bad, image.sizes) {
+        Ok(read) => repair_read(host, output, volume, read, stamp, copy, repairing),
+        Err(ending) => ending,
+    }
+}
+
+/// Repairs an image with lost blocks, and saves and reports the copy. The file with the stamp `old`, from which the image was read, isn't replaced.
+fn repair_read<R: ImageFiles + Clock + Eprint + AllocGlobal, O: Sink>(
+    host: &Surroundings<'_, R>,
+    output: &mut O,
+    volume: VolumeFile<'_>,
+    read: CutImage,
+    old: Stamp,
+    copy: Option<MadeFile<'_>>,
+    repairing: Repairing,
+) -> Ending
+    ensures { (errors : ErrorStream) → Hears errors result.fault
+        → RepairsRescued (streams O.contents O.failed output.old output.new errors)
+        (host_files volume.entry.at R.File.remaining R.File.contents R.had R.stood) volume.entry read.image read.lost.items copy.entry repairing result.status }
+{
+    let repaired = match repair_rescued(host.rt.alloc(), volume.edition, read, repairing) {
+        Ok(repaired) => repaired,
+        Err(fault) => return Ending::from(fault),
+    };
+    match copy {
+        Some(copy) => save_rescued(host, output, copy, old, repaired),
+        None => print_text(&repaired.made.report, ending_with(repaired.losses), output),
+    }
+}
+
+/// Saves a repaired copy in the file `copy`, unless that must be new and something exists at its path; then prints the report, and returns how the run ends. If
+/// the file is standard output, the report goes to standard error.
+fn save_rescued<R: ImageFiles + Clock + Eprint + AllocGlobal, O: Sink>(
+    host: &Surroundings<'_, R>,
+    output: &mut O,
+    copy: MadeFile<'_>,
+    old: Stamp,
+    repaired: RescuedVolume,
+) -> Ending
+    ensures { (errors : ErrorStream) → Hears errors result.fault
+        → SavesRescued (streams O.contents O.failed output.old output.new errors) (IsTaken R.File.contents) R.stood repaired.made.bytes.items
+        repaired.made.report.items repaired.losses.items result.status }
+{
+    if is_kept(host, copy) {
+        return Ending {
+            status: explain_there(host, copy.path),
+            fault: None,
+        };
+    }
+    let is_output = is_output(host.rt, copy.path);
+    let status = save_over(host, copy.path, old, &repaired.made.bytes, DONE);
+    if status != DONE {
+        return Ending {
+            status,
+            fault: None,
+        };
+    }
+    if !is_output {
+        return print_text(&repaired.made.report, ending_with(repaired.losses), output);
+    }
+    match ending_with_report(repaired.made.report, &repaired.losses) {
+        Ok(ending) => print_text(b"", ending, output),
+        Err(_) => Ending::from(Fault::Refused(Refusal::NoMemory)),
+    }
+}

@@ -95,3 +95,8 @@ TellsLosses geometry image lost start founds lines short =
     (top : List ℕ) × (entries : List ℕ) × IsEntryLine geometry image lost (top_entry start) top × AreEntryLines geometry image lost founds entries
     × (short ≡ not (length (inode_lines geometry lost) == 0) || (not (length top == 0) || not (length entries == 0)))
     × (lines ≡ blocks_line lost ++ (inode_lines geometry lost ++ (top ++ entries)))
+
+-- all lines about some entries of an image with lost blocks, and whether one of them is damaged or left out (this project)
+abbrev pub TellsNamed : Geometry → List ℕ → List Bool → List MetEntry → List ℕ → Bool → Type 0
+TellsNamed geometry image lost founds lines short =
+    (entries : List ℕ) × AreEntryLines geometry image lost founds entries × (short ≡ not (length entries == 0)) × (lines ≡ blocks_line lost ++ entries)

@@ -7,5 +7,5 @@ pub mod lines;
 pub mod repaired;
 
 pub use damage::{Damage, damage_of, without_damaged};
-pub use lines::{ToldLosses, push_role, tell_losses};
+pub use lines::{ToldLosses, push_role, tell_losses, tell_named};
 pub use repaired::tell_repaired;

@@ -2,7 +2,7 @@
 ghost use Rattle.std.specs.Prelude.{◌≡◌, ◌+◌, ◌-◌, ◌*◌, ◌<◌, ◌≤◌, ◌^◌, ◌++◌, IfOk, OnOk, codes, string_bytes};
 ghost use Rattle.vol_layout.specs.Edition.{constants};
 ghost use Rattle.vol_layout.specs.Geometry.{Fits};
-ghost use Rattle.vol_rescue.specs.Lines.{AddsEntry, AreEntryLines, IsEntryLine, NamesLosses, TellsLosses, blocks_line, inode_lines, inode_text, inodes_line, lost_inodes_line, named_line, reason_text, role_line, top_entry};
+ghost use Rattle.vol_rescue.specs.Lines.{AddsEntry, AreEntryLines, IsEntryLine, NamesLosses, TellsLosses, TellsNamed, blocks_line, inode_lines, inode_text, inodes_line, lost_inodes_line, named_line, reason_text, role_line, top_entry};
 
 use crate::damage::{Damage, damage_of};
 use escaped_text::push_escaped;
@@ -44,6 +44,28 @@ pub fn tell_losses(
     let mut lines = first.into_bytes();
     lines.extend_from_slice(&inodes)?;
     lines.extend_from_slice(&top)?;
+    lines.extend_from_slice(&entries)?;
+    Ok(ToldLosses { lines, is_short })
+}
+
+/// Returns the lines about some entries of an image with lost blocks: the number of the lost blocks, and a line for each entry that is damaged or left
+/// out.
+///
+/// Costs [`damage_of`] and [`loss_text`] for each entry. An error: memory ran out.
+pub fn tell_named(
+    alloc: Global,
+    image: &Image,
+    geometry: &Geometry,
+    lost: &[bool],
+    founds: &[MetEntry],
+) -> Result<ToldLosses, AllocError>
+    requires { Fits geometry.now image.now }
+    ensures { IfOk result (λ told. TellsNamed geometry.now image.now lost.now founds.now told.lines.items told.is_short) }
+{
+    let first = blocks_line(alloc, lost)?;
+    let entries = entry_lines(alloc, image, geometry, lost, founds)?;
+    let is_short = !entries.is_empty();
+    let mut lines = first.into_bytes();
     lines.extend_from_slice(&entries)?;
     Ok(ToldLosses { lines, is_short })
 }

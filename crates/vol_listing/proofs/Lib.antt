@@ -1,4 +1,3 @@
-pub mod Asked
 pub mod Calendar
 pub mod Columns
 pub mod Dated

@@ -12,7 +12,7 @@ use Rattle.vol_volume.specs.declared.queries.Reply.{Reply}
 use Rattle.vol_volume.specs.declared.queries.Reply.TheVariants as replies
 use Rattle.vol_listing.specs.Laws.{ListsNames}
 use Rattle.vol_listing.specs.Lines.{names_text, line_of}
-use Rattle.vol_listing.specs.Places.{names_in, names_under}
+use Rattle.vol_listing.specs.Places.{names_after, names_under}
 
 -- if the answer to a List is a reply, it has the names of the directory that the walk leads to
 names_replied : (tree : Tree) (refusal : Option Refusal) (walked : Result ℕ Refusal) (reply : Reply)
@@ -27,5 +27,4 @@ pub lists_names : ListsNames
 unfolding reply_of names_text names_under
 lists_names style tree path reply e =
     let at = names_replied tree (query_refusal tree (queries.List user path)) (walk tree user path) reply e in
-    let told : Result Reply Refusal → List ℕ = λ answer. flat_map (line_of style tree) (names_in answer) in
-    (at.0, at.1, ap told (e ∙ ap Ok (sym at.2)))
+    (at.0, at.1, ap (λ walked. flat_map (line_of style tree) (names_after tree walked)) at.1)

@@ -1,6 +1,6 @@
 -- The node of an i-number, in the tree of an image.
-use Rattle.std.proofs.Common.{◌≡◌, ◌≢◌, ◌⊎◌, inl, inr, ℕ, ◌≤◌, ◌/◌, ◌%◌, ◌∙◌, ap, refl, sym, true, false, cond, List, Option, None, Some, slice_index, arith}
-use Rattle.std.specs.Option.{option_map, option_map_or, unwrap_or}
+use Rattle.std.proofs.Common.{◌≡◌, ◌≢◌, ◌⊎◌, inl, inr, ℕ, ◌≤◌, ◌/◌, ◌%◌, ◌∙◌, ap, refl, sym, true, false, cond, List, [], Option, None, Some, slice_index, arith, true≢false}
+use Rattle.std.specs.Option.{is_some, option_map, option_map_or, unwrap_or}
 use Rattle.std.proofs.lemmas.Bool.Decides.{nat_tests}
 use Rattle.sha2.specs.Sha256.{sha256}
 use Rattle.vol_layout.specs.Body.{body}
@@ -11,10 +11,12 @@ use Rattle.vol_layout.specs.declared.mode.Kind.{Kind}
 use Rattle.vol_layout.specs.declared.mode.Kind.TheVariants as kinds
 use Rattle.vol_layout.proofs.InodeLaws.{inode_mode}
 use Rattle.vol_file.specs.Rules.{kind_at}
-use Rattle.vol_dir.specs.Tree.{Node, node_of, node_with, content_of, tree, is_number}
-use Rattle.vol_dir.specs.Walk.{is_directory}
+use Rattle.vol_dir.specs.Entries.{IsDirectory}
+use Rattle.vol_dir.specs.Names.{Names}
+use Rattle.vol_dir.specs.Tree.{Node, Tree, node_of, node_with, content_of, tree, is_number}
+use Rattle.vol_dir.specs.Walk.{is_directory, map_of}
 use Rattle.vol_dir.proofs.WalkLaws.{node_inside}
-use Rattle.vol_change.specs.Nodes.{no_node, node_at}
+use Rattle.vol_change.specs.Nodes.{names_at, no_node, node_at}
 use Rattle.vol_listing.specs.Rows.{row_of, row_with, special_sort}
 use Rattle.vol_listing.specs.Sums.{sum_at, sum_of}
 use Rattle.vol_listing.specs.declared.rows.Sort.{Sort}
@@ -94,6 +96,13 @@ module _ (geometry : Geometry) (image : List ℕ) (i : ℕ) where
   directory_not number other =
       ap is_directory (node_is (kind_at geometry image i) number refl) ∙ no_directory (kind_at geometry image i) other
 
+  -- an i-number of the volume whose i-node is a directory is that of a directory
+  pub is_directory_at : is_number geometry i ≡ true → kinds.Directory ≡ kind_at geometry image i → IsDirectory geometry image i
+  is_directory_at number is =
+      let first : 1 ≤ i = grind (arith, nat_tests) in
+      let last : i ≤ geometry.last_inode = grind (arith, nat_tests) in
+      record { first = first; last = last; kind = sym is }
+
   -- the sum of an i-node of this kind
   abbrev sum_by : Kind → Option (List ℕ)
   sum_by kind =
@@ -123,3 +132,11 @@ module _ (geometry : Geometry) (image : List ℕ) (i : ℕ) where
   pub sum_outside : is_number geometry i ≡ false → sum_at (tree geometry image) i ≡ None
   unfolding tree sum_at
   sum_outside number = ap (λ b. option_map_or (λ (n : Node). sum_of n.content) (cond b (node_of geometry image i) None) None) number
+
+no_names : (names : Option Names) → is_some names ≡ false → unwrap_or names [] ≡ []
+no_names None other = refl
+no_names (Some names) other = absurd (true≢false other)
+
+-- anything but a directory has no names
+pub names_of_other : (tree : Tree) (i : ℕ) → is_directory (node_at tree i) ≡ false → names_at tree i ≡ []
+names_of_other tree i other = no_names (map_of (node_at tree i).content) other

@@ -1,37 +1,22 @@
 -- The directories of a listing, and their contents.
 use Rattle.std.specs.Prelude.{◌≡◌, ◌-◌, ◌&&◌, ◌==◌, ℕ, Bool, not, if◌then◌else◌, List, [], ◌∷◌, ◌++◌, length, slice_index, Result, Ok, Err}
 use Rattle.std.specs.List.{flat_map}
-use Rattle.vol_layout.specs.Geometry.{geometry_of, Fits}
-use Rattle.vol_layout.specs.declared.geometry.Geometry.{Geometry}
-use Rattle.vol_judge.specs.Sound.{IsSound}
 use Rattle.vol_dir.specs.Names.{Names, is_dots}
 use Rattle.vol_dir.specs.Tree.{Tree}
-use Rattle.vol_dir.specs.Walk.{is_directory}
-use Rattle.vol_change.specs.Nodes.{node_at}
+use Rattle.vol_dir.specs.Walk.{is_directory, walk}
+use Rattle.vol_change.specs.Nodes.{names_at, node_at}
 use Rattle.vol_dir.specs.declared.refusal.Refusal.{Refusal}
 use Rattle.vol_dir.specs.Access.{user}
-use Rattle.vol_volume.specs.Answer.{answer}
-use Rattle.vol_volume.specs.declared.queries.Query.TheVariants as queries
-use Rattle.vol_volume.specs.declared.queries.Reply.{Reply}
-use Rattle.vol_volume.specs.declared.queries.Reply.TheVariants as replies
 use Rattle.vol_listing.specs.declared.places.ListedNode.{ListedNode}
 
--- an image can be listed: it is sound, and this is its geometry (this project)
-pub record IsVolume (geometry : Geometry) (image : List ℕ) : Type 0 where
-  pub sound : IsSound geometry.edition image
-  pub sizes : geometry ≡ geometry_of geometry.edition image
-  pub fits : Fits geometry image
-
--- the names in a reply; none if the query was refused or wasn't a List (this project)
-abbrev pub names_in : Result Reply Refusal → Names
-names_in (Ok (replies.Names names)) = names
-names_in (Ok (replies.Bytes bytes)) = []
-names_in (Ok (replies.Stat stat)) = []
-names_in (Err refusal) = []
+-- the names in the directory at the end of a walk; none if it leads to no directory (ls -a)
+abbrev pub names_after : Tree → Result ℕ Refusal → Names
+names_after tree (Ok i) = names_at tree i
+names_after tree (Err refusal) = []
 
 -- the names in the directory at a path, in ascending order, as user 0 sees them; none if the path leads to no directory (ls -a)
 unfoldable pub names_under : Tree → List ℕ → Names
-names_under tree path = names_in (answer tree (queries.List user path))
+names_under tree path = names_after tree (walk tree user path)
 
 -- true if a path ends in a slash (this project)
 abbrev pub ends_in_slash : List ℕ → Bool

@@ -1,26 +1,28 @@
 //! The names in directories.
-ghost use Rattle.std.specs.Prelude.{◌≡◌, ◌≢◌, Err, IfOk, OnOk};
+ghost use Rattle.std.specs.Prelude.{◌≡◌, true, IfOk};
+ghost use Rattle.vol_dir.specs.Entries.{IsDirectory};
 ghost use Rattle.vol_dir.specs.Tree.{tree};
 ghost use Rattle.vol_dir.specs.Walk.{is_directory};
 ghost use Rattle.vol_layout.specs.Geometry.{Fits};
-ghost use Rattle.vol_change.specs.Nodes.{node_at};
+ghost use Rattle.vol_change.specs.Nodes.{names_at, node_at};
 ghost use Rattle.vol_listing.specs.Depths.{opens};
-ghost use Rattle.vol_listing.specs.Places.{names_in, names_under, IsVolume};
+ghost use Rattle.vol_listing.specs.Places.{names_under};
 
 use crate::options::Depth;
 use crate::rows::is_number;
 use pdp_words::Image;
 use std::alloc::{AllocError, Global};
-use vol_dir::{Cred, Refusal};
+use vol_dir::{Cred, list_names, walk};
 use vol_layout::i_list::kind;
 use vol_layout::{Geometry, Kind};
-use vol_volume::{Bytes, Query, Reply, ask_image};
+use vol_volume::Bytes;
 
 /// True if node `i` is a directory.
-#[tactic(auto, using(crate::proofs::NodesRead::directory_is, crate::proofs::NodesRead::directory_not, crate::proofs::NodesRead::directory_outside))]
+#[tactic(auto, using(crate::proofs::NodesRead::directory_is, crate::proofs::NodesRead::directory_not, crate::proofs::NodesRead::directory_outside, crate::proofs::NodesRead::is_directory_at))]
 pub(crate) fn is_directory(image: &Image, geometry: &Geometry, i: u16) -> bool
     requires { Fits geometry.now image.now }
-    ensures { result ≡ is_directory (node_at (tree geometry.now image.now) i) }
+    ensures exact { result ≡ is_directory (node_at (tree geometry.now image.now) i) }
+    ensures directory { result ≡ true → IsDirectory geometry.now image.now i }
 {
     is_number(geometry, i) && kind(image, geometry, i) == Kind::Directory
 }
@@ -40,33 +42,36 @@ pub(crate) fn opens(image: &Image, geometry: &Geometry, depth: Depth, i: u16) ->
 /// directory.
 ///
 /// Costs walking the path, reading each slot, and sorting the names.
+#[tactic(auto, unfolding(crate::specs::Places::names_under))]
 pub(crate) fn names(
     alloc: Global,
     image: &Image,
     geometry: &Geometry,
     path: &[u8],
 ) -> Result<Vec<(Bytes, u16)>, AllocError>
-    requires { IsVolume geometry.now image.now }
+    requires { Fits geometry.now image.now }
     ensures { IfOk result (λ names. names.items ≡ names_under (tree geometry.now image.now) path.now) }
 {
-    let path = Bytes::from_vec(Vec::from_slice(alloc, path)?);
-    let query = Query::List {
-        cred: Cred::ROOT,
-        path,
-    };
-    let answer = ask_image(alloc, image, geometry, &query);
-    names_in(alloc, answer)
+    match walk(image, geometry, Cred::ROOT, path) {
+        Ok(i) => names_at(alloc, image, geometry, i),
+        Err(_) => Ok(Vec::new(alloc)),
+    }
 }
 
-/// Returns the names in a reply; none if the query was refused or wasn't a List.
-fn names_in(alloc: Global, answer: Result<Reply, Refusal>) -> Result<Vec<(Bytes, u16)>, AllocError>
-    ensures names { IfOk result (λ names. names.items ≡ names_in answer) }
-    ensures answered { OnOk result (answer ≢ Err Refusal.NoMemory) }
+/// Returns the names in directory `i`, in ascending order of their bytes. Returns none if `i` isn't a directory.
+#[tactic(auto, using(vol_volume::proofs::NodeReadings::names_are, crate::proofs::NodesRead::names_of_other))]
+fn names_at(
+    alloc: Global,
+    image: &Image,
+    geometry: &Geometry,
+    i: u16,
+) -> Result<Vec<(Bytes, u16)>, AllocError>
+    requires { Fits geometry.now image.now }
+    ensures { IfOk result (λ names. names.items ≡ names_at (tree geometry.now image.now) i) }
 {
-    match answer {
-        Ok(Reply::Names(names)) => Ok(names.into_vec()),
-        Ok(Reply::Bytes(_) | Reply::Stat(_)) => Ok(Vec::new(alloc)),
-        Err(Refusal::NoMemory) => Err(AllocError),
-        Err(_) => Ok(Vec::new(alloc)),
+    if is_directory(image, geometry, i) {
+        list_names(alloc, image, geometry, i)
+    } else {
+        Ok(Vec::new(alloc))
     }
 }

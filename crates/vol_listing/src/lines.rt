@@ -5,7 +5,6 @@ ghost use Rattle.vol_dir.specs.Tree.{tree};
 ghost use Rattle.vol_layout.specs.Geometry.{Fits};
 ghost use Rattle.vol_listing.specs.Lines.{entry_line};
 ghost use Rattle.vol_listing.specs.LongLines.{long_line};
-ghost use Rattle.vol_listing.specs.Places.{IsVolume};
 ghost use Rattle.vol_listing.specs.Lines.{shown, line_of, names_text, section_text, other_text, lines_text};
 
 use crate::directories::{names, opens};
@@ -39,7 +38,7 @@ pub(crate) fn lines_text(
     place: &ListedNode,
     places: &[ListedNode],
 ) -> Result<Vec<u8>, AllocError>
-    requires { IsVolume geometry.now image.now }
+    requires { Fits geometry.now image.now }
     ensures { IfOk result (λ text. text.items ≡ lines_text style (tree geometry.now image.now) depth place.now places.now) }
 {
     let path = place.path.as_slice();
@@ -64,7 +63,7 @@ fn push_others(
     places: &[ListedNode],
     text: &mut Vec<u8>,
 ) -> Result<(), AllocError>
-    requires { IsVolume geometry.now image.now }
+    requires { Fits geometry.now image.now }
     ensures { OnOk result (text.new.items ≡ text.old.items ++ flat_map (other_text style (tree geometry.now image.now)) places.now) }
 {
     'places: for place in places {
@@ -82,7 +81,7 @@ fn push_other(
     place: &ListedNode,
     text: &mut Vec<u8>,
 ) -> Result<(), AllocError>
-    requires { IsVolume geometry.now image.now }
+    requires { Fits geometry.now image.now }
     ensures { OnOk result (text.new.items ≡ text.old.items ++ other_text style (tree geometry.now image.now) place.now) }
 {
     text.push(b'\n')?;
@@ -99,7 +98,7 @@ fn push_section(
     place: &ListedNode,
     text: &mut Vec<u8>,
 ) -> Result<(), AllocError>
-    requires { IsVolume geometry.now image.now }
+    requires { Fits geometry.now image.now }
     ensures { OnOk result (text.new.items ≡ text.old.items ++ section_text style (tree geometry.now image.now) place.now) }
 {
     let path = place.path.as_slice();
@@ -119,7 +118,7 @@ fn push_names(
     path: &[u8],
     text: &mut Vec<u8>,
 ) -> Result<(), AllocError>
-    requires { IsVolume geometry.now image.now }
+    requires { Fits geometry.now image.now }
     ensures { OnOk result (text.new.items ≡ text.old.items ++ names_text style (tree geometry.now image.now) path.now) }
 {
     let names = names(alloc, image, geometry, path)?;

@@ -1,8 +1,8 @@
-//! Lists a file or directory of a volume.
+//! Lists a file or directory of an image.
 ghost use Rattle.std.specs.Prelude.{◌≡◌, IfOk};
 ghost use Rattle.vol_dir.specs.Tree.{tree};
+ghost use Rattle.vol_layout.specs.Geometry.{Fits};
 ghost use Rattle.vol_listing.specs.Listings.{shown_path, start_of, IsBelow, IsListingOf};
-ghost use Rattle.vol_listing.specs.Places.{IsVolume};
 
 use crate::lines::{Style, lines_text};
 use crate::listing_json::json_text;
@@ -15,7 +15,8 @@ use vol_volume::Bytes;
 
 /// Returns the listing of `inode`, at `path`. A directory's names are listed in ascending order of their bytes, each on a line with its i-number and,
 /// if `listing` asks for them, its i-node's attributes; if `listing` asks for it, the names of each directory below follow. A file, or a directory
-/// that is listed itself, has one line. As JSON, the listing has the same contents, with names escaped as on a terminal.
+/// that is listed itself, has one line. As JSON, the listing has the same contents, with names escaped as on a terminal. The image may be any that has
+/// this geometry; one that isn't sound may have directories in a ring, so that the directories below have no end, and memory runs out.
 ///
 /// Costs reading each i-node whose attributes are shown, and, for each directory, walking its path and sorting its names. Takes memory for these and
 /// for the text.
@@ -28,7 +29,7 @@ pub fn list(
     listing: ListOptions,
     screen: Screen,
 ) -> Result<Vec<u8>, AllocError>
-    requires { IsVolume geometry.now image.now }
+    requires { Fits geometry.now image.now }
     ensures { IfOk result (λ text. IsListingOf (tree geometry.now image.now) listing screen (start_of path.now inode) text.items) }
 {
     let path = Bytes::from_vec(shown_path(alloc, path)?);
@@ -56,7 +57,7 @@ fn list_place(
     listing: ListOptions,
     screen: Screen,
 ) -> Result<Vec<u8>, AllocError>
-    requires { IsVolume geometry.now image.now }
+    requires { Fits geometry.now image.now }
     ensures { IfOk result (λ text. IsListingOf (tree geometry.now image.now) listing screen start.now text.items) }
 {
     let depth = listing.depth;
@@ -81,7 +82,7 @@ fn places_below(
     start: &ListedNode,
     depth: Depth,
 ) -> Result<Vec<ListedNode>, AllocError>
-    requires { IsVolume geometry.now image.now }
+    requires { Fits geometry.now image.now }
     ensures { IfOk result (λ places. IsBelow depth (tree geometry.now image.now) start.now places.items) }
 {
     match depth {

@@ -6,7 +6,6 @@ ghost use Rattle.serde_json.specs.View.{members_view, view};
 ghost use Rattle.vol_dir.specs.Tree.{tree};
 ghost use Rattle.vol_layout.specs.Geometry.{Fits};
 ghost use Rattle.vol_listing.specs.ListingJson.{sort_word, row_data, entry_data, entries_data, all_data, json_text, with_numbers, with_file, with_device};
-ghost use Rattle.vol_listing.specs.Places.{IsVolume};
 
 use crate::directories::{names, opens};
 use crate::json::{entries_line, escaped_text, octal, put_count};
@@ -29,7 +28,7 @@ pub(crate) fn json_text(
     place: &ListedNode,
     places: &[ListedNode],
 ) -> Result<String, AllocError>
-    requires { IsVolume geometry.now image.now }
+    requires { Fits geometry.now image.now }
     ensures { IfOk result (λ text. string_bytes text ≡ json_text (tree geometry.now image.now) depth place.now places.now) }
 {
     let values = all_values(alloc, image, geometry, depth, place, places)?;
@@ -45,7 +44,7 @@ fn all_values(
     place: &ListedNode,
     places: &[ListedNode],
 ) -> Result<Vec<Value>, AllocError>
-    requires { IsVolume geometry.now image.now }
+    requires { Fits geometry.now image.now }
     ensures { IfOk result (λ values. map view values.items ≡ all_data (tree geometry.now image.now) depth place.now places.now) }
 {
     let mut values = Vec::new(alloc);
@@ -67,7 +66,7 @@ fn push_all(
     places: &[ListedNode],
     values: &mut Vec<Value>,
 ) -> Result<(), AllocError>
-    requires { IsVolume geometry.now image.now }
+    requires { Fits geometry.now image.now }
     ensures { OnOk result (map view values.new.items ≡ map view values.old.items ++ flat_map (entries_data (tree geometry.now image.now)) places.now) }
 {
     'places: for place in places {
@@ -85,7 +84,7 @@ fn push_entries(
     place: &ListedNode,
     values: &mut Vec<Value>,
 ) -> Result<(), AllocError>
-    requires { IsVolume geometry.now image.now }
+    requires { Fits geometry.now image.now }
     ensures { OnOk result (map view values.new.items ≡ map view values.old.items ++ entries_data (tree geometry.now image.now) place.now) }
 {
     let path = place.path.as_slice();

@@ -3,7 +3,7 @@ ghost use Rattle.std.specs.Prelude.{◌≡◌, ◌++◌, IfOk, OnOk, reverse};
 ghost use Rattle.std.specs.List.{flat_map};
 ghost use Rattle.vol_dir.specs.Tree.{tree};
 ghost use Rattle.vol_layout.specs.Geometry.{Fits};
-ghost use Rattle.vol_listing.specs.Places.{ends_in_slash, joined, place_of, directory_below, below, AllBelow, IsVolume};
+ghost use Rattle.vol_listing.specs.Places.{ends_in_slash, joined, place_of, directory_below, below, AllBelow};
 
 use crate::directories::{is_directory, names};
 use pdp_words::Image;
@@ -30,7 +30,7 @@ pub(crate) fn all_below(
     geometry: &Geometry,
     start: &ListedNode,
 ) -> Result<Vec<ListedNode>, AllocError>
-    requires { IsVolume geometry.now image.now }
+    requires { Fits geometry.now image.now }
     ensures { IfOk result (λ places. AllBelow (tree geometry.now image.now) start.now places.items) }
 {
     let mut places = Vec::new(alloc);
@@ -51,7 +51,7 @@ fn push_below(
     place: &ListedNode,
     pending: &mut Vec<ListedNode>,
 ) -> Result<(), AllocError>
-    requires { IsVolume geometry.now image.now }
+    requires { Fits geometry.now image.now }
     ensures { OnOk result (reverse pending.new.items ≡ below (tree geometry.now image.now) place.now ++ reverse pending.old.items) }
 {
     let mut below = below(alloc, image, geometry, place)?;
@@ -69,7 +69,7 @@ fn below(
     geometry: &Geometry,
     place: &ListedNode,
 ) -> Result<Vec<ListedNode>, AllocError>
-    requires { IsVolume geometry.now image.now }
+    requires { Fits geometry.now image.now }
     ensures { IfOk result (λ places. places.items ≡ below (tree geometry.now image.now) place.now) }
 {
     let path = place.path.as_slice();

@@ -228,7 +228,7 @@ fn push_change(
 }
 
 /// Returns the bytes of a field in an image.
-fn field_bytes<'a>(image: &'a Image, field: &Field) -> &'a [u8]
+pub fn field_bytes<'a>(image: &'a Image, field: &Field) -> &'a [u8]
     requires { field.now.spot.start + field.now.spot.bytes ≤ length image.now }
     ensures { result.now ≡ field_bytes image.now field.now }
 {
@@ -268,14 +268,14 @@ fn push_old_value(
 }
 
 /// True if a field of the new image is one of the old image too, in a block of the same role.
-fn is_kept(was: Role, is: Role, former: &Field, field: &Field) -> bool
+pub fn is_kept(was: Role, is: Role, former: &Field, field: &Field) -> bool
     ensures { result ≡ is_kept was is former.now field.now }
 {
     is_same_field(former, field) && is_moved(was, is, 0)
 }
 
 /// Returns what a field was: the role of its block if that differs, otherwise the name of the other field at its first byte.
-fn former_text(alloc: Global, was: Role, is: Role, name: Name) -> Result<String, AllocError>
+pub fn former_text(alloc: Global, was: Role, is: Role, name: Name) -> Result<String, AllocError>
     ensures { IfOk result (λ text. string_bytes text ≡ former_text was is name) }
 {
     if is_moved(was, is, 0) {
@@ -352,7 +352,7 @@ fn push_bytes(
 
 /// Returns the bytes from `from` up to `to` that differ.
 #[tactic(auto, unfolding(crate::specs::DiffLines::changed_bytes))]
-fn changed_bytes(
+pub fn changed_bytes(
     alloc: Global,
     old: &Image,
     new: &Image,
@@ -390,7 +390,7 @@ fn count_text(alloc: Global, count: usize, first: usize, last: usize) -> Result<
 }
 
 /// Returns how far the byte at place `k` of a list is from byte `start`.
-fn place_in(start: usize, changed: &[usize], k: usize) -> usize
+pub fn place_in(start: usize, changed: &[usize], k: usize) -> usize
     ensures { result ≡ slice_index changed.now k - start }
 {
     match changed.get(k) {

@@ -17,8 +17,11 @@ use crate::role::Role;
 use crate::role_changes::{block_joins, changed_blocks};
 use std::alloc::{AllocError, Global};
 
-/// The fewest fields of an array that are one line.
-const MANY: usize = 9;
+/// The fewest fields of an array that are shown as one.
+pub const MANY: usize = 9;
+
+/// The fewest neighbours whose roles changed alike that are shown as one.
+pub const FEW: usize = 2;
 
 /// Returns the lines of the differences between two images: first their lengths, then the roles of their blocks, then the fields of the new image whose
 /// bytes differ. Nine or more fields of one array are one line, and so are neighbours whose roles changed alike; with `all` each is a line.
@@ -43,7 +46,7 @@ pub fn diff_text(
 }
 
 /// Returns the fewest entries that are shown as one.
-fn least(all: bool, few: usize) -> usize
+pub fn least(all: bool, few: usize) -> usize
     ensures { result ≡ least all few }
 {
     if all { usize::MAX } else { few }
@@ -55,7 +58,7 @@ fn blocks_text(alloc: Global, old: &[Role], new: &[Role], all: bool) -> Result<V
 {
     let blocks = changed_blocks(alloc, old, new)?;
     let joins = block_joins(alloc, old, new, &blocks)?;
-    let groups = groups_of(alloc, &joins, least(all, 2))?;
+    let groups = groups_of(alloc, &joins, least(all, FEW))?;
     blocks_lines(alloc, old, new, &blocks, &groups)
 }
 

@@ -39,7 +39,7 @@ pub fn field_at(image: &Image, geometry: &Geometry, roles: &[Role], n: usize) ->
 }
 
 /// Returns the role of block `b`.
-pub(crate) fn role_at(roles: &[Role], b: usize) -> Role
+pub fn role_at(roles: &[Role], b: usize) -> Role
     ensures { result ≡ role_at roles.now b }
 {
     match roles.get(b) {

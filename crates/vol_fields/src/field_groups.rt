@@ -9,7 +9,7 @@ use std::alloc::{AllocError, Global};
 
 /// Returns, for each of these fields, whether the next one is in the same array.
 #[tactic(auto, unfolding(crate::specs::FieldGroups::field_joins))]
-pub(crate) fn field_joins(alloc: Global, fields: &[Field]) -> Result<Vec<bool>, AllocError>
+pub fn field_joins(alloc: Global, fields: &[Field]) -> Result<Vec<bool>, AllocError>
     ensures { IfOk result (λ joins. joins.items ≡ field_joins fields.now) }
 {
     (0..fields.len())

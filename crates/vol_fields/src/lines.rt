@@ -299,7 +299,7 @@ impl Row {
 }
 
 /// Returns the bytes of the first field of a row.
-fn first_bytes<'a>(image: &'a Image, row: &Row) -> &'a [u8]
+pub fn first_bytes<'a>(image: &'a Image, row: &Row) -> &'a [u8]
     requires { row.now.start + row.now.bytes ≤ length image.now }
     ensures { result.now ≡ first_bytes image.now row.now }
 {

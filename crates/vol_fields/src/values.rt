@@ -61,7 +61,7 @@ pub(crate) fn push_value(
 }
 
 /// Returns the number that a field with these bytes has.
-pub(crate) fn number_in(bytes: &[u8]) -> Option<u32>
+pub fn number_in(bytes: &[u8]) -> Option<u32>
     ensures { result ≡ number_in bytes.now }
 {
     match bytes.len() {
@@ -214,7 +214,7 @@ impl fmt::Display for Role {
 }
 
 /// Returns the bytes of a name that are shown: those before its first zero, but all if others than zeros follow.
-pub(crate) fn shown_name(bytes: &[u8]) -> &[u8]
+pub fn shown_name(bytes: &[u8]) -> &[u8]
     ensures { result.now ≡ shown_name bytes.now }
 {
     let Some(end) = first_zero(bytes) else {

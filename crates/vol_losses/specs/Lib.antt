@@ -6,3 +6,4 @@ pub mod LossTexts
 pub mod Laws
 pub mod Names
 pub mod Ranges
+pub mod Spans

@@ -7,6 +7,7 @@ pub mod given_sizes;
 pub mod laws;
 pub mod loss_texts;
 pub mod ranges;
+pub mod spans;
 pub mod sure_blocks;
 
 pub use bad_images::{RescueFault, rescued};
@@ -14,4 +15,5 @@ pub use cut_images::{CutFault, CutImage, MOST_MISSING, completed, filled};
 pub use given_sizes::VolumeSizes;
 pub use loss_texts::loss_text;
 pub use ranges::{LostRange, losses};
+pub use spans::{LostSpan, lost_spans};
 pub use sure_blocks::{is_lost, is_node_lost, is_unsure, is_whole, next_block};

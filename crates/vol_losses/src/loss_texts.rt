@@ -2,7 +2,7 @@
 ghost use Rattle.std.specs.Prelude.{◌≡◌, ◌+◌, ◌*◌, ◌≤◌, ◌^◌, ◌++◌, IfOk, OnOk, length, map, min, string_bytes};
 ghost use Rattle.std.specs.List.{flat_map, sum};
 ghost use Rattle.vol_layout.specs.Geometry.{Fits};
-ghost use Rattle.vol_losses.specs.LossTexts.{IsLossText, counts_text, next_text, range_bytes, range_text, ranges_text};
+ghost use Rattle.vol_losses.specs.LossTexts.{AreLosses, IsLossText, counts_text, next_text, range_bytes, range_text, ranges_text};
 
 use crate::ranges::{LostRange, losses};
 use crate::sure_blocks::body_size;
@@ -29,11 +29,30 @@ pub fn loss_text(
     requires last { i ≤ geometry.now.last_inode }
     ensures { IfOk result (λ text. IsLossText geometry.now image.now lost.now i text.items) }
 {
-    let bytes = body_size(image, geometry, i);
-    let end = bytes.div_ceil(BLOCK as u32);
-    let ranges = losses(alloc, image, geometry, lost, i, end)?;
-    let text = losses_text(alloc, bytes, &ranges)?;
+    let ranges = body_losses(alloc, image, geometry, lost, i)?;
+    let text = losses_text(alloc, body_size(image, geometry, i), &ranges)?;
     Ok(text)
+}
+
+/// Returns the ranges of the logical blocks within the size of i-node `i`, an i-number of the volume whose block isn't lost, that can't be trusted.
+///
+/// Costs what [`losses`] costs. An error: memory ran out.
+pub(crate) fn body_losses(
+    alloc: Global,
+    image: &Image,
+    geometry: &Geometry,
+    lost: &[bool],
+    i: u16,
+) -> Result<Vec<LostRange>, AllocError>
+    requires fits { Fits geometry.now image.now }
+    requires first { 1 ≤ i }
+    requires last { i ≤ geometry.now.last_inode }
+    ensures exact { IfOk result (λ ranges. AreLosses geometry.now image.now lost.now i ranges.items) }
+    ensures few { IfOk result (λ ranges. length ranges.items ≤ 2 ^ 32) }
+{
+    let end = body_size(image, geometry, i).div_ceil(BLOCK as u32);
+    let ranges = losses(alloc, image, geometry, lost, i, end)?;
+    Ok(ranges)
 }
 
 /// Returns the number of lost bytes of a file of this size, and the ranges.
@@ -77,7 +96,7 @@ fn range_bytes(bytes: u32, range: &LostRange) -> u32
 }
 
 /// Returns the first byte after a range, or the size of the file if the range goes on past it.
-fn end_of(bytes: u32, range: &LostRange) -> u64
+pub(crate) fn end_of(bytes: u32, range: &LostRange) -> u64
     ensures { result ≡ min (512 * range.now.end) bytes }
 {
     (BLOCK as u64 * u64::from(range.end)).min(u64::from(bytes))

@@ -1,2 +1,3 @@
 pub mod KeptEntries
 pub mod RightMembers
+pub mod RightPaths

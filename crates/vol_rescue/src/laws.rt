@@ -1,5 +1,6 @@
-//! Laws about the members of an archive of an image with lost blocks. The functions do nothing; their proved contracts are the laws.
+//! Laws about the entries of an image with lost blocks, and about the members of its archive. The functions do nothing; their proved contracts are the laws.
 ghost use Rattle.vol_rescue.specs.Laws.{ArchivesAreRight, CutArchivesAreRight, MembersAreRight};
+ghost use Rattle.vol_rescue.specs.Paths.{PathsLeadRight};
 
 /// What is exported without the damaged files is right, whatever the lost blocks held.
 pub fn members_are_right()
@@ -10,4 +11,9 @@ pub fn members_are_right()
 /// What is exported of a cut image without the damaged files is what the whole image holds.
 pub fn cut_archives_are_right()
     ensures { CutArchivesAreRight }
+{}
+
+/// The path of each member leads where it leads, whatever the lost blocks held, if no directory above it has damage.
+pub fn paths_are_right()
+    ensures { PathsLeadRight }
 {}

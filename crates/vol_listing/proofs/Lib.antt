@@ -2,6 +2,8 @@ pub mod Calendar
 pub mod Columns
 pub mod Dated
 pub mod Descents
+pub mod KnownData
+pub mod KnownLaws
 pub mod ListingValues
 pub mod NamesListed
 pub mod NodesRead

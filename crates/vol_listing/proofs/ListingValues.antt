@@ -1,5 +1,5 @@
 -- The values of a listing as JSON.
-use Rattle.std.proofs.Common.{◌≡◌, ℕ, zero, suc, ◌+◌, ◌/◌, ◌%◌, ◌<◌, Bool, true, false, ◌||◌, if◌then◌else◌, List, [], ◌∷◌, ◌++◌, map, nat_le, nat_lt, Option, None, Some, slice_index, refl, ap, ◌∙◌, arith}
+use Rattle.std.proofs.Common.{◌≡◌, ℕ, zero, suc, ◌+◌, ◌/◌, ◌%◌, ◌<◌, Bool, true, false, ◌||◌, if◌then◌else◌, List, [], ◌∷◌, ◌++◌, map, nat_le, nat_lt, Option, None, Some, slice_index, refl, ap, arith}
 use Rattle.std.specs.Prelude.{◌==◌, ◌&&◌, codes}
 use Rattle.std.specs.List.{flat_map}
 use Rattle.std.specs.Str.{IsAscii, IsUtf8}
@@ -16,9 +16,9 @@ use Rattle.vol_listing.specs.Json.{listed}
 use Rattle.vol_listing.specs.ListingJson.{all_data, device_members, entries_data, entry_data, row_data, with_device, with_file, with_numbers}
 use Rattle.vol_listing.specs.Places.{joined, names_under}
 use Rattle.vol_listing.specs.Rows.{row_of}
-use Rattle.vol_listing.specs.Sums.{is_left, met_data, sum_at, sum_data, summed_data, sums_data}
-use Rattle.vol_archive.specs.declared.met_entries.MetEntry.{MetEntry}
+use Rattle.vol_listing.specs.Sums.{span_data, sum_data, summed_data, with_losses}
 use Rattle.escaped_text.specs.Escape.{escaped, escaped_byte}
+use Rattle.vol_losses.specs.declared.spans.LostSpan.{LostSpan}
 use Rattle.vol_listing.specs.declared.options.Depth.{Depth}
 use Rattle.vol_listing.specs.declared.places.ListedNode.{ListedNode}
 use Rattle.vol_listing.specs.declared.rows.Row.{Row}
@@ -85,7 +85,7 @@ unfolding row_data
 row_whole path row = device_whole row.sort _ refl
 
 -- none of these values has a fraction
-abbrev AreWhole : List Data → Type 0
+abbrev pub AreWhole : List Data → Type 0
 AreWhole ds = items_have_float (items_of ds) ≡ false
 
 -- if some entries have no fraction, the object with them has none
@@ -93,11 +93,11 @@ pub listed_whole : (ds : List Data) → items_have_float (items_of ds) ≡ false
 listed_whole ds whole = rw whole refl
 
 -- if a value and a list of values have no fraction, the list with the value before it has none
-whole_more : (d : Data) (ds : List Data) → has_float d ≡ false → AreWhole ds → AreWhole (d ∷ ds)
+pub whole_more : (d : Data) (ds : List Data) → has_float d ≡ false → AreWhole ds → AreWhole (d ∷ ds)
 whole_more d ds here rest = rw here rest
 
 -- if two lists of values have no fraction, the lists joined have none
-whole_append : (ds es : List Data) → AreWhole ds → AreWhole es → AreWhole (ds ++ es)
+pub whole_append : (ds es : List Data) → AreWhole ds → AreWhole es → AreWhole (ds ++ es)
 whole_append [] es whole rest = rest
 whole_append (d ∷ ds) es whole rest = both (has_float d) (items_have_float (items_of ds)) (items_have_float (items_of (ds ++ es))) whole (whole_append ds es)
   where
@@ -131,33 +131,32 @@ all_whole tree depth place places =
       | false ↦ whole_more (row_data place.path (row_of place.inode (node_at tree place.inode))) [] (row_whole place.path (row_of place.inode (node_at tree place.inode))) refl
     ]
 
--- the object of a node with its sum has no fraction
-summed_by : (sum : Option (List ℕ)) (sort : Sort) (path : List ℕ) (row : Row)
-    → has_float (object (put (codes "sha256") (sum_data sum) (with_device sort (with_file path row (with_numbers row no_members))))) ≡ false
+-- the lost bytes of a file have no fraction
+spans_whole : (spans : List LostSpan) → AreWhole (map span_data spans)
+spans_whole [] = refl
+spans_whole (span ∷ spans) = whole_more (span_data span) (map span_data spans) refl (spans_whole spans)
+
+-- the object of a node with its sum and its lost bytes has no fraction
+summed_by : (sum : Option (List ℕ)) (losses : Option (List LostSpan)) (sort : Sort) (path : List ℕ) (row : Row)
+    → has_float (object (with_losses losses (put (codes "sha256") (sum_data sum) (with_device sort (with_file path row (with_numbers row no_members)))))) ≡ false
 unfolding with_file with_numbers
-summed_by None sorts.Regular path row = refl
-summed_by None sorts.Directory path row = refl
-summed_by None (sorts.Character device) path row = refl
-summed_by None (sorts.Block device) path row = refl
-summed_by (Some sum) sorts.Regular path row = refl
-summed_by (Some sum) sorts.Directory path row = refl
-summed_by (Some sum) (sorts.Character device) path row = refl
-summed_by (Some sum) (sorts.Block device) path row = refl
+summed_by None None sorts.Regular path row = refl
+summed_by None None sorts.Directory path row = refl
+summed_by None None (sorts.Character device) path row = refl
+summed_by None None (sorts.Block device) path row = refl
+summed_by (Some sum) None sorts.Regular path row = refl
+summed_by (Some sum) None sorts.Directory path row = refl
+summed_by (Some sum) None (sorts.Character device) path row = refl
+summed_by (Some sum) None (sorts.Block device) path row = refl
+summed_by None (Some spans) sorts.Regular path row = rw (spans_whole spans) refl
+summed_by None (Some spans) sorts.Directory path row = rw (spans_whole spans) refl
+summed_by None (Some spans) (sorts.Character device) path row = rw (spans_whole spans) refl
+summed_by None (Some spans) (sorts.Block device) path row = rw (spans_whole spans) refl
+summed_by (Some sum) (Some spans) sorts.Regular path row = rw (spans_whole spans) refl
+summed_by (Some sum) (Some spans) sorts.Directory path row = rw (spans_whole spans) refl
+summed_by (Some sum) (Some spans) (sorts.Character device) path row = rw (spans_whole spans) refl
+summed_by (Some sum) (Some spans) (sorts.Block device) path row = rw (spans_whole spans) refl
 
-summed_whole : (sum : Option (List ℕ)) (row : Row) (path : List ℕ) → has_float (summed_data sum row path) ≡ false
+pub summed_whole : (sum : Option (List ℕ)) (losses : Option (List LostSpan)) (row : Row) (path : List ℕ) → has_float (summed_data sum losses row path) ≡ false
 unfolding summed_data
-summed_whole sum row path = summed_by sum row.sort path row
-
--- the objects of a manifest have no fraction
-met_whole : (tree : Tree) (top : List ℕ) (found : MetEntry) → AreWhole (met_data tree top found)
-met_whole tree top found =
-    let node = summed_data (sum_at tree found.inode) (row_of found.inode (node_at tree found.inode)) (joined top found.path) in
-    elim (is_left found.role) as (λ b. AreWhole (if b then [] else node ∷ [])) [
-      | true ↦ refl
-      | false ↦ whole_more node [] (summed_whole (sum_at tree found.inode) (row_of found.inode (node_at tree found.inode)) (joined top found.path)) refl
-    ]
-
-pub sums_whole : (tree : Tree) (top : List ℕ) (founds : List MetEntry) → AreWhole (sums_data tree top founds)
-sums_whole tree top [] = refl
-sums_whole tree top (found ∷ founds) =
-    whole_append (met_data tree top found) (sums_data tree top founds) (met_whole tree top found) (sums_whole tree top founds)
+summed_whole sum losses row path = summed_by sum losses row.sort path row

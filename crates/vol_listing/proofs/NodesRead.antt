@@ -4,7 +4,8 @@ use Rattle.std.specs.Option.{is_some, option_map, option_map_or, unwrap_or}
 use Rattle.std.proofs.lemmas.Bool.Decides.{nat_tests}
 use Rattle.sha2.specs.Sha256.{sha256}
 use Rattle.vol_layout.specs.Body.{body}
-use Rattle.vol_layout.specs.Inode.{inode_of, inode_place}
+use Rattle.vol_layout.specs.BlockPointers.{mode_of}
+use Rattle.vol_layout.specs.Inode.{inode_of, inode_place, kind_of}
 use Rattle.vol_layout.specs.declared.geometry.Geometry.{Geometry}
 use Rattle.vol_layout.specs.declared.i_node.Inode.{Inode}
 use Rattle.vol_layout.specs.declared.mode.Kind.{Kind}
@@ -19,12 +20,21 @@ use Rattle.vol_dir.proofs.WalkLaws.{node_inside}
 use Rattle.vol_change.specs.Nodes.{names_at, no_node, node_at}
 use Rattle.vol_listing.specs.Rows.{row_of, row_with, special_sort}
 use Rattle.vol_listing.specs.Sums.{sum_at, sum_of}
+use Rattle.vol_listing.specs.declared.rows.Row.{Row}
 use Rattle.vol_listing.specs.declared.rows.Sort.{Sort}
 use Rattle.vol_listing.specs.declared.rows.Sort.TheVariants as sorts
 
 -- the node of an i-number of the volume, from the kind of its i-node
 abbrev node_by : Geometry → List ℕ → ℕ → Kind → Node
 node_by geometry image i kind = unwrap_or (option_map (node_with (inode_of geometry.edition image i)) (content_of geometry image i kind)) no_node
+
+-- the row of i-node i of this kind, with these fields and this mode
+abbrev pub row_by : ℕ → Kind → Inode → ℕ → Row
+row_by i kinds.Free node mode = row_of i no_node
+row_by i kinds.Odd node mode = row_of i no_node
+row_by i kinds.Regular node mode = row_with i node sorts.Regular 0
+row_by i kinds.Directory node mode = row_with i node sorts.Directory 0
+row_by i kinds.Special node mode = row_with i node (special_sort (mode / 4096) (slice_index node.addresses 0 % 65536)) (mode / 4096)
 
 module _ (geometry : Geometry) (image : List ℕ) (i : ℕ) where
   -- an i-number outside the volume has no node
@@ -77,6 +87,19 @@ module _ (geometry : Geometry) (image : List ℕ) (i : ℕ) where
       ∙ (ap (λ (n : Inode). row_with i n (special_sort (n.mode.bits / 4096) (slice_index n.addresses 0 % 65536)) (n.mode.bits / 4096)) stored
       ∙ (ap (λ bits. row_with i (inode_of geometry.edition image i) (special_sort (bits / 4096) device) (bits / 4096)) mode
       ∙ ap (row_of i) (sym (node_is kinds.Special number is))))
+
+  row_kind : (kind : Kind)
+      → row_of i (node_by geometry image i kind) ≡ row_by i kind (inode_of geometry.edition image i) (mode_of geometry image i)
+  row_kind kinds.Free = refl
+  row_kind kinds.Odd = refl
+  row_kind kinds.Regular = refl
+  row_kind kinds.Directory = refl
+  row_kind kinds.Special = refl
+
+  -- the row of an i-node depends on its fields and its mode
+  pub row_is : is_number geometry i ≡ true
+      → row_of i (node_at (tree geometry image) i) ≡ row_by i (kind_of geometry.edition (mode_of geometry image i)) (inode_of geometry.edition image i) (mode_of geometry image i)
+  row_is number = ap (row_of i) (node_is (kind_at geometry image i) number refl) ∙ row_kind (kind_at geometry image i)
 
   -- an i-number outside the volume is no directory
   pub directory_outside : is_number geometry i ≡ false → is_directory (node_at (tree geometry image) i) ≡ false

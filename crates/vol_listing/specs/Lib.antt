@@ -9,6 +9,7 @@ pub mod Dates
 pub mod Depths
 pub mod Digits
 pub mod Json
+pub mod KnownSums
 pub mod Laws
 pub mod Lines
 pub mod Listings

@@ -1,19 +1,21 @@
 -- Manifests: the attributes of nodes, with the SHA-256 of each file.
-use Rattle.std.specs.Prelude.{ℕ, Bool, true, false, if◌then◌else◌, List, [], ◌∷◌, ◌++◌, codes, Option, None, Some}
+use Rattle.std.specs.Prelude.{ℕ, Bool, true, false, if◌then◌else◌, List, [], ◌∷◌, ◌++◌, codes, map, Option, None, Some}
 use Rattle.std.specs.List.{flat_map}
 use Rattle.std.specs.Option.{option_map_or}
 use Rattle.hex.specs.Hex.{encode_lower}
-use Rattle.serde_json.specs.Data.{Data, null, string, object, no_members, put}
+use Rattle.serde_json.specs.Data.{Data, Members, array, null, string, object, no_members, put}
+use Rattle.serde_json.specs.View.{items_of}
 use Rattle.sha2.specs.Sha256.{sha256}
 use Rattle.escaped_text.specs.Escape.{escaped}
 use Rattle.vol_archive.specs.declared.met_entries.MetEntry.{MetEntry}
 use Rattle.vol_archive.specs.declared.met_entries.Role.{Role}
 use Rattle.vol_archive.specs.declared.met_entries.Role.TheVariants as roles
 use Rattle.vol_change.specs.Nodes.{node_at}
+use Rattle.vol_losses.specs.declared.spans.LostSpan.{LostSpan}
 use Rattle.vol_dir.specs.Tree.{Content, Body, Directory, Device, Node, Tree}
 use Rattle.vol_listing.specs.Dates.{moment_text}
 use Rattle.vol_listing.specs.Digits.{padded_number}
-use Rattle.vol_listing.specs.Json.{entries_text}
+use Rattle.vol_listing.specs.Json.{count, entries_text}
 use Rattle.vol_listing.specs.ListingJson.{with_device, with_file, with_numbers}
 use Rattle.vol_listing.specs.LongLines.{column, mode_text, size_text}
 use Rattle.vol_listing.specs.Places.{joined}
@@ -70,15 +72,25 @@ abbrev pub sum_data : Option (List ℕ) → Data
 sum_data None = null
 sum_data (Some sum) = string (encode_lower sum)
 
--- the object of a node at a path: the members that it has in a listing, and its sum (this project)
-unfoldable pub summed_data : Option (List ℕ) → Row → List ℕ → Data
-summed_data sum row path = object (put (codes "sha256") (sum_data sum) (with_device row.sort (with_file path row (with_numbers row no_members))))
+-- lost bytes of a file: the first, and the one after the last (this project)
+abbrev pub span_data : LostSpan → Data
+span_data span = array (items_of (count span.first ∷ count span.end ∷ []))
+
+-- the members of an object, with the lost bytes of a file added, if some are lost (this project)
+abbrev pub with_losses : Option (List LostSpan) → Members → Members
+with_losses None members = members
+with_losses (Some spans) members = put (codes "lost") (array (items_of (map span_data spans))) members
+
+-- the object of a node at a path: the members that it has in a listing, its sum, and the bytes of it that are lost (this project)
+unfoldable pub summed_data : Option (List ℕ) → Option (List LostSpan) → Row → List ℕ → Data
+summed_data sum losses row path =
+    object (with_losses losses (put (codes "sha256") (sum_data sum) (with_device row.sort (with_file path row (with_numbers row no_members)))))
 
 -- the object of an entry that the walk found below the directory at path `top`, unless it is left out (this project)
 abbrev pub met_data : Tree → List ℕ → MetEntry → List Data
 met_data tree top found =
     if is_left found.role then []
-    else summed_data (sum_at tree found.inode) (row_of found.inode (node_at tree found.inode)) (joined top found.path) ∷ []
+    else summed_data (sum_at tree found.inode) None (row_of found.inode (node_at tree found.inode)) (joined top found.path) ∷ []
 
 -- the objects of the entries that the walk found below the directory at a path (this project)
 abbrev pub sums_data : Tree → List ℕ → List MetEntry → List Data

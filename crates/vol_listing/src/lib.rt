@@ -4,6 +4,7 @@
 mod dates;
 mod directories;
 pub mod json;
+mod known_sums;
 pub mod laws;
 mod lines;
 pub mod listing;

@@ -21,6 +21,7 @@ use Rattle.command_reads.specs.Export.{ExportsFrom, begun}
 use Rattle.command_reads.specs.Find.{found_sights}
 use Rattle.command_reads.specs.Losses.{IsUnreadEnding, TellsIncomplete}
 use Rattle.command_reads.specs.Print.{IsTold, IsToldWith, Shows}
+use Rattle.command_reads.specs.Sums.{sums_sights}
 use Rattle.command_reads.specs.declared.bad_looks.BadBlocks.{BadBlocks}
 use Rattle.command_reads.specs.declared.bad_looks.BadBlocks.TheVariants as bads
 use Rattle.command_reads.specs.declared.bad_looks.BadLook.{BadLook}
@@ -33,6 +34,7 @@ use Rattle.command_reads.specs.declared.looks.Look.TheVariants as looks
 abbrev pub whole_look : BadLook → Look
 whole_look (bad_looks.Export path options) = looks.Export path options
 whole_look (bad_looks.Find path name lost form) = looks.Find path name lost form
+whole_look (bad_looks.Sums path form lost) = looks.Sums path form lost
 
 -- the words for a line by its number (this project)
 unfoldable pub line_start : ℕ → List ℕ
@@ -88,6 +90,8 @@ ShowsRescued edition image lost screen streams status (bad_looks.Export path opt
     ExportsFrom edition image lost options screen streams status (begun options.lost edition image path.now)
 ShowsRescued edition image lost screen streams status (bad_looks.Find path name orphans form) =
     Shows (found_sights edition image lost path.now (option_map (λ word. word.now) name) orphans form screen) streams status
+ShowsRescued edition image lost screen streams status (bad_looks.Sums path form orphans) =
+    Shows (sums_sights edition image lost path.now form orphans) streams status
 
 -- part of the image of which only the bytes in the ranges were read is shown, or a fault is reported (this project)
 abbrev pub LooksRescued : Edition → List ℕ → List ReadRange → ℕ → Option VolumeSizes → BadLook → Screen → Streams → ℕ → Type 0

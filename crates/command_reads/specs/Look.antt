@@ -26,7 +26,7 @@ use Rattle.vol_listing.specs.declared.options.Screen.{Screen}
 -- what a look may come to, for all but an export, of which `Exports` says it (this project)
 abbrev pub seen : Edition → List ℕ → Screen → Look → Sights
 seen edition image screen (looks.Export path options) = nothing
-seen edition image screen (looks.Sums path form lost) = telling 1 (IsManifest edition image path.now form lost) (IsManifestFault edition image path.now lost)
+seen edition image screen (looks.Sums path form lost) = telling 1 (IsManifest edition image [] path.now form lost) (IsManifestFault edition image path.now lost)
 seen edition image screen (looks.Block block form) = plainly (IsBlockText edition image block form) (IsBlockFault edition image block)
 seen edition image screen (looks.Dump target radix) = plainly (IsDumpText edition image target radix) (IsDumpFault edition image target)
 seen edition image screen (looks.Free form) = plainly (IsChainText edition image form) (IsChainFault edition image)

@@ -8,6 +8,7 @@ use crate::export::{export_read, unread};
 use crate::find::find_in;
 use crate::looks::{ExportOptions, Look, OutputForm};
 use crate::print::print;
+use crate::sums::sums_of;
 use bad_maps::{LineFault, MapFault, ReadRange};
 use command_faults::status::{BAD_COMMAND_LINE, BAD_FILE};
 use command_faults::{Ending, Fault};
@@ -54,6 +55,12 @@ pub enum BadLook<'a> {
         lost: bool,
         form: OutputForm,
     },
+    /// A manifest of everything below a directory, as for [`Look::Sums`].
+    Sums {
+        path: &'a str,
+        form: OutputForm,
+        lost: bool,
+    },
 }
 
 impl<'a> BadLook<'a> {
@@ -76,6 +83,7 @@ impl<'a> BadLook<'a> {
                 lost,
                 form,
             },
+            BadLook::Sums { path, form, lost } => Look::Sums { path, form, lost },
         }
     }
 }
@@ -139,6 +147,10 @@ fn show_rescued<O: Sink>(
                 form,
                 screen,
             );
+            print(shown, output)
+        }
+        BadLook::Sums { path, form, lost } => {
+            let shown = sums_of(alloc, edition, &read.image, &read.lost, path, form, lost);
             print(shown, output)
         }
     }

@@ -3,6 +3,7 @@ use Rattle.std.specs.Prelude.{option_map}
 use Rattle.command_faults.specs.Streams.{Streams, streams}
 use Rattle.command_reads.specs.Find.{found_sights}
 use Rattle.command_reads.specs.Print.{IsSight}
+use Rattle.command_reads.specs.Sums.{sums_sights}
 use Rattle.command_reads.proofs.Printed.{showing}
 use Rattle.command_reads.proofs.bad_looks.show_rescued.Goals as goal
 
@@ -15,3 +16,10 @@ returns-in-Find g c errors hears =
     rw c.in-Find.is (showing _ both _ _ _ refl
     (subst (λ (marks : List Bool). IsSight (found_sights c.args.edition c.args.read.now.image marks c.in-Find.path.now (option_map (λ word. word.now) c.in-Find.name) c.in-Find.lost c.in-Find.form c.args.screen) c.find_in-shown.result) c.deref.ensures.value
     c.find_in-shown.ensures) (c.print.ensures.printed errors hears) (c.print.ensures.told errors hears))
+
+pub returns-in-Sums : goal.returns-in-Sums
+returns-in-Sums g c errors hears =
+    let both : Streams = streams g.O.Sink.contents g.O.Sink.failed c.args.output.now c.print-in-Sums.new.output errors in
+    rw c.in-Sums.is (showing _ both _ _ _ refl
+    (subst (λ (marks : List Bool). IsSight (sums_sights c.args.edition c.args.read.now.image marks c.in-Sums.path.now c.in-Sums.form c.in-Sums.lost) c.sums_of-shown.result) c.deref-in-Sums.ensures.value
+    c.sums_of-shown.ensures) (c.print-in-Sums.ensures.printed errors hears) (c.print-in-Sums.ensures.told errors hears))

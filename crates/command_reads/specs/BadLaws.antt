@@ -1,0 +1,35 @@
+-- Statements on what `find` and `sums` print of an image of which some blocks couldn't be read.
+use Rattle.std.specs.Prelude.{◌≡◌, ℕ, Bool, false, List, Option, All, Some, Ok}
+use Rattle.bad_maps.specs.declared.maps.ReadRange.{ReadRange}
+use Rattle.vol_archive.specs.Laws.{members_of}
+use Rattle.vol_dir.specs.declared.directories.FoundDirectory.{FoundDirectory}
+use Rattle.vol_archive.specs.declared.met_entries.MetEntry.{MetEntry}
+use Rattle.vol_dir.specs.Access.{user}
+use Rattle.vol_dir.specs.Entries.{IsDirectory}
+use Rattle.vol_dir.specs.Tree.{tree}
+use Rattle.vol_dir.specs.Walk.{components, walk_from}
+use Rattle.vol_layout.specs.Geometry.{Fits}
+use Rattle.vol_layout.specs.declared.edition.Edition.{Edition}
+use Rattle.vol_layout.specs.declared.geometry.Geometry.{Geometry}
+use Rattle.vol_listing.specs.KnownSums.{known_sum}
+use Rattle.vol_listing.specs.Sums.{sum_at}
+use Rattle.vol_losses.specs.BadImages.{HasRead, IsRescued}
+use Rattle.vol_losses.specs.declared.given_sizes.VolumeSizes.{VolumeSizes}
+use Rattle.vol_rescue.specs.Paths.{AreSoundAbove}
+use Rattle.command_reads.specs.Export.{AreFound}
+
+-- the path of each entry that `find` prints, of one with an i-node and a name that a path can have, leads from the directory to the entry's i-number in
+-- every volume that has the bytes of the known blocks, if there is no line about a directory above it; whatever the lost blocks held (this project)
+abbrev pub FoundPathsLeadRight : Type 0
+FoundPathsLeadRight = (edition : Edition) (ranges : List ReadRange) (at : ℕ) (sizes : Option VolumeSizes) (bytes volume image : List ℕ) (lost : List Bool)
+    (start : FoundDirectory) (founds : List MetEntry) → IsRescued edition ranges at sizes bytes image lost → HasRead sizes ranges at bytes volume → Fits start.geometry image
+    → IsDirectory start.geometry image start.inode → AreFound false start.geometry image start.inode founds
+    → All (λ (found : MetEntry). AreSoundAbove start.geometry image lost start.inode founds found.path
+    → walk_from (tree start.geometry volume) user start.inode (components found.path) ≡ Ok found.inode) (members_of founds)
+
+-- each sum that `sums` prints is that of the file's bytes in every volume that has the bytes of the known blocks, whatever the lost blocks held (this
+-- project)
+abbrev pub BadSumsAreRight : Type 0
+BadSumsAreRight = (edition : Edition) (ranges : List ReadRange) (at : ℕ) (sizes : Option VolumeSizes) (bytes volume image : List ℕ) (lost : List Bool)
+    (geometry : Geometry) (i : ℕ) (sum : List ℕ) → IsRescued edition ranges at sizes bytes image lost → HasRead sizes ranges at bytes volume → Fits geometry image
+    → known_sum geometry image lost i ≡ Some sum → sum_at (tree geometry volume) i ≡ Some sum

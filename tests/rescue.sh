@@ -1,6 +1,6 @@
 #!/usr/bin/env bash
-# Runs `export`, `find` and `repair` of the built program with `--cut`, `--bad`, `--bad-blocks`, `--sizes` and `--like` on volumes that were cut off, or of
-# which blocks couldn't be read, and compares what it writes with what the whole volume holds.
+# Runs `export`, `find`, `sums` and `repair` of the built program with `--cut`, `--bad`, `--bad-blocks`, `--sizes` and `--like` on volumes that were cut off, or
+# of which blocks couldn't be read, and compares what it writes with what the whole volume holds.
 # Usage: tests/rescue.sh PROGRAM. It prints a line for each row that fails, and ends with 'N passed, N failed'.
 . "$(dirname "$0")/rows.sh"
 linux="$samples/linux_made.v7"
@@ -409,10 +409,53 @@ has 'its line' 1 "$(grep -c '^unixvol: .: names may be missing: 160 of 672 bytes
 has 'find --lost has the i-nodes whose names are lost' 10 "$(wc -l < found)"
 refuses 3 'unixvol: bad.map: line 3: the range begins before the end of the one above' find --bad bad.map 7 b.img
 
+# `sums` has the digest of each file of which nothing is lost, a dash for the others, and the lines of an export.
+for edition in 6 7; do
+    "$program" mkfs "$edition" b.img 4872 100 0 0 0
+    "$program" put "$edition" b.img -t / f1 f2 f3 f4 f5 f6 f7 f8 0
+    head -c 450000 b.img > cut.img
+    "$program" sums "$edition" b.img > whole.sums
+    sed '/ f[4-8]$/s/^[0-9a-f]*/-/' whole.sums > cut.sums
+    exports 5 cut.tar "$edition" cut.img --cut
+    cp error told
+    refuses 1 'unixvol: unsound, rule 1' sums "$edition" cut.img
+    for words in '--cut cut.img' '--bad half.map b.img' '--bad-blocks 878-4871 b.img' '--cut --bad-blocks 878-4871 cut.img'; do
+        # shellcheck disable=SC2086
+        "$program" sums "$edition" ${words##* } ${words% *} > found 2> error
+        has "the status of sums $words of edition $edition" 5 $?
+        cmp -s found cut.sums && cmp -s error told
+        has "sums $words of edition $edition" 0 $?
+    done
+    "$program" sums "$edition" b.img --cut > found 2> error
+    has "sums --cut of a whole image of edition $edition" 0 $?
+    cmp -s found whole.sums && [ ! -s error ]
+    has "its manifest, of edition $edition" 0 $?
+done
+"$program" sums 7 cut.img --cut --json > found 2> error
+has 'the status of sums --json' 5 $?
+has 'the lost bytes of a file' 1 "$(grep -o '"lost":\[\[89600,100000\]\],"mtime"' found | wc -l)"
+has 'the files of which all bytes are lost' 4 "$(grep -o '"lost":\[\[0,100000\]\],"mtime"' found | wc -l)"
+has 'the files without a digest' 5 "$(grep -o '"sha256":null' found | wc -l)"
+"$program" sums 7 copy.img --bad rescue.map --json > found 2> error
+has 'each range of lost bytes' 2 "$(grep -o '"lost":\[\[22016,23040\]\]\|"lost":\[\[80384,80896\]\]' found | wc -l)"
+"$program" sums 7 b.img --json > whole.json
+"$program" sums 7 b.img --bad-blocks 4871 --json > found 2> error
+has 'sums --json where a free block is lost' '1 unixvol: 1 of 4872 blocks are lost' "$? $(cat error)"
+cmp -s found whole.json
+has 'its objects' 0 $?
+"$program" sums 7 many.img --bad-blocks 3 > found 2> error
+has 'the line of an entry whose i-node is lost' 1 "$(grep -c '^unixvol: e9: i-node 11 is lost$' error)"
+has 'no line of the manifest is of it' 0 "$(grep -c ' e9$' found)"
+"$program" sums 7 dir.img --bad-blocks "$last" --json > found 2> error
+has 'the lost bytes of a directory' 1 "$(grep -o '"kind":"directory","links":[0-9]*,"lost":\[\[512,672\]\]' found | wc -l)"
+refuses 3 'unixvol: bad.map: line 3: the range begins before the end of the one above' sums --bad bad.map 7 b.img
+misread "error: the argument '--like' cannot be used with '--sizes'" sums --like rk05 --sizes 4872,100 7 b.img
+
 # Random volumes of both editions, of which random blocks are lost and have random bytes: each member is in the whole volume with the same header and
-# bytes, each file that is no member has a line, and of damaged files the bytes outside the ranges are right.
+# bytes, each file that is no member has a line, and of damaged files the bytes outside the ranges are right. Each line of a manifest that has a digest is
+# one of the whole volume's, the others but for the digest; and each path below whole directories has the i-number that it has there.
 python3 - "$program" > error << 'PYTHON'
-import os, random, re, subprocess, sys, tarfile
+import json, os, random, re, subprocess, sys, tarfile
 
 program, count = sys.argv[1], 0
 random.seed(1979)
@@ -460,6 +503,14 @@ def lose(at):
         for k in range(blocks):
             print(f"{512 * (at + k):#010x}  0x00000200  {random.choice('?*/-') if k in lost else '+'}", file=file)
 
+def listed(edition, image, *words):
+    """The lines of a manifest, as pairs of a digest and the rest."""
+    return [tuple(line.split(b" ", 1)) for line in run("sums", edition, image, *words).stdout.splitlines()]
+
+def paths(edition, image, *words):
+    """The paths with their i-numbers."""
+    return {entry["path"]: entry["ino"] for entry in json.loads(run("find", "--json", edition, image, *words).stdout)["entries"]}
+
 def outside(body, line):
     """The bytes of a file outside the ranges that a line names."""
     kept = bytearray(body)
@@ -489,6 +540,14 @@ for round in range(50):
     for name in whole:
         if name not in kept and name not in lines and not any(d == "." or name.startswith(d + "/") for d in short):
             print(round, "no line for", name)
+    all_lines = listed(edition, "r.img")
+    for digest, rest in listed(edition, "r.bad", *words):
+        if (digest, rest) not in all_lines if digest != b"-" else rest not in [r for _, r in all_lines]:
+            print(round, "a line of the manifest is wrong:", digest, rest)
+    all_paths = paths(edition, "r.img")
+    for path, ino in paths(edition, "r.bad", *words).items():
+        if all_paths.get(path) != ino and not any(d == "." or path.startswith(f"/{d}/") for d in short):
+            print(round, "a path is wrong:", path, ino)
     again, damaged = exported(edition, "r.bad", "d.tar", *words, "--damaged")
     if again.stderr != done.stderr:
         print(round, "other lines with --damaged")

@@ -34,3 +34,11 @@ pub repair_asked : (clock : Option ℕ) (given : Words) (volume : VolumeFile) (c
     → AsksFor clock verbs.Repair given (repair_at volume copy repairing bad)
 repair_asked clock given volume copy repairing None is none = (refl, (is, none))
 repair_asked clock given volume copy repairing (Some image) is bad = (refl, (is, bad))
+
+-- the words of `sums` ask for its invocation
+pub sums_asked : (clock : Option ℕ) (given : Words) (volume : VolumeFile) (path : Bor (List ℕ)) (form : OutputForm) (lost : Bool) (bad : Option BadImage)
+    → IsVolumeGiven given volume → path.now ≡ the_word given (codes "PATH") → IsFormGiven given form → lost ≡ is_set (given (codes "lost"))
+    → IsBadImageGiven given volume.edition (is_set (given (codes "cut"))) bad
+    → AsksFor clock verbs.Sums given (look_at volume (bad_looks.Sums path form lost) bad)
+sums_asked clock given volume path form lost None named is shown orphans none = (refl, (named, (is, shown, orphans, none)))
+sums_asked clock given volume path form lost (Some image) named is shown orphans bad = (refl, (named, (is, shown, orphans, bad)))

@@ -30,6 +30,7 @@ is_rescuer : Verb → Bool
 is_rescuer verbs.Export = true
 is_rescuer verbs.Find = true
 is_rescuer verbs.Repair = true
+is_rescuer verbs.Sums = true
 is_rescuer _ = false
 
 -- an option without a word isn't given
@@ -65,13 +66,15 @@ one_way clock given (invocations.Copy volume (copies.Put directory files keep no
 one_way clock given (invocations.Work volume (works.Check checkers.Blocks workers form)) read is both = absurd (true≢false (sym read))
 one_way clock given (invocations.Look volume (looks.Export path options)) read is both = none_two given V7 is.1.1 both
 one_way clock given (invocations.Look volume (looks.Find path name lost form)) read is both = none_two given V7 is.1.4 both
+one_way clock given (invocations.Look volume (looks.Sums path form lost)) read is both = none_two given V7 is.1.3 both
 one_way clock given (invocations.LookBad volume image (bad_looks.Export p options)) read is both = image_two given volume.edition false image is.1.1 both
 one_way clock given (invocations.LookBad volume image (bad_looks.Find p name lost form)) read is both = image_two given volume.edition _ image is.1.4 both
 one_way clock given (invocations.Repair volume copy repairing) read is both = none_two given V7 is.1 both
 one_way clock given (invocations.RepairBad volume image copy repairing) read is both = image_two given volume.edition _ image is.1 both
+one_way clock given (invocations.LookBad volume image (bad_looks.Sums p form lost)) read is both = image_two given volume.edition _ image is.1.3 both
 one_way clock given invocation read is both = absurd (true≢false (sym read))
 
--- if the words about the image aren't valid, no such command has an invocation
+-- if the words about the image aren't valid, none of these commands has an invocation
 pub export_wrong : (clock : Option ℕ) (given : Words) → IsBadWrong given → AsksForNothing clock verbs.Export given
 unfolding AsksForNothing is_rescuer
 export_wrong clock given (inl list) = no_value clock verbs.Export given (inr (inr (inr (inr (inr (inr (inr (inl list))))))))
@@ -92,3 +95,10 @@ repair_wrong clock given (inl list) = no_value clock verbs.Repair given (inr (in
 repair_wrong clock given (inr (inl sizes)) = no_value clock verbs.Repair given (inr (inr (inr (inr (inr (inr (inr (inr (inr (inr (inr (inl sizes))))))))))))
 repair_wrong clock given (inr (inr (inl disk))) = no_value clock verbs.Repair given (inr (inr (inr (inr (inr (inr (inr (inr (inr (inr (inr (inr (inl disk)))))))))))))
 repair_wrong clock given (inr (inr (inr both))) = λ invocation asks. one_way clock given invocation (sym (ap is_rescuer asks.0)) asks.1 both
+
+pub sums_wrong : (clock : Option ℕ) (given : Words) → IsBadWrong given → AsksForNothing clock verbs.Sums given
+unfolding AsksForNothing is_rescuer
+sums_wrong clock given (inl list) = no_value clock verbs.Sums given (inr (inr (inr (inr (inr (inr (inr (inl list))))))))
+sums_wrong clock given (inr (inl sizes)) = no_value clock verbs.Sums given (inr (inr (inr (inr (inr (inr (inr (inr (inl sizes)))))))))
+sums_wrong clock given (inr (inr (inl disk))) = no_value clock verbs.Sums given (inr (inr (inr (inr (inr (inr (inr (inr (inr (inl disk))))))))))
+sums_wrong clock given (inr (inr (inr both))) = λ invocation asks. one_way clock given invocation (sym (ap is_rescuer asks.0)) asks.1 both

@@ -466,7 +466,7 @@ IsExportGiven given path options = (path ≡ the_word given (codes "PATH")) × (
 abbrev pub IsLookGiven : Words → Look → Type 0
 IsLookGiven given (looks.Export path options) = IsExportGiven given path.now options × IsBadImageGiven given V7 false None
 IsLookGiven given (looks.Sums path form lost) = (path.now ≡ the_word given (codes "PATH")) × IsFormGiven given form
-    × (lost ≡ is_set (given (codes "lost")))
+    × (lost ≡ is_set (given (codes "lost"))) × IsBadImageGiven given V7 (is_set (given (codes "cut"))) None
 IsLookGiven given (looks.Inode node form) = IsNodeGiven (the_word given (codes "INO")) node × IsFormGiven given form
 IsLookGiven given (looks.Super form) = IsFormGiven given form
 IsLookGiven given (looks.Free form) = IsFormGiven given form
@@ -495,6 +495,8 @@ IsBadLookGiven given edition image (bad_looks.Export path options) =
 IsBadLookGiven given edition image (bad_looks.Find path name lost form) = (path.now ≡ the_word given (codes "PATH"))
     × (option_map (λ word. word.now) name ≡ slice_get (given (codes "name")) 0) × (lost ≡ is_set (given (codes "lost"))) × IsFormGiven given form
     × IsBadImageGiven given edition (is_set (given (codes "cut"))) (Some image)
+IsBadLookGiven given edition image (bad_looks.Sums path form lost) = (path.now ≡ the_word given (codes "PATH")) × IsFormGiven given form
+    × (lost ≡ is_set (given (codes "lost"))) × IsBadImageGiven given edition (is_set (given (codes "cut"))) (Some image)
 
 -- the invocation that shows part of an image, of which some blocks may not have been read (this project)
 abbrev pub look_at : VolumeFile → BadLook → Option BadImage → Invocation

@@ -113,7 +113,7 @@ row_of verbs.Export = (
   codes "export",
   on_volume (maybe_path ∷ option (codes "lost") ∷ option (codes "cut") ∷ with_bad (option (codes "damaged") ∷ option (codes "status") ∷ [])),
 )
-row_of verbs.Sums = (codes "sums", on_volume (maybe_path ∷ option (codes "lost") ∷ option (codes "json") ∷ []))
+row_of verbs.Sums = (codes "sums", on_volume (maybe_path ∷ option (codes "lost") ∷ option (codes "cut") ∷ with_bad (option (codes "json") ∷ [])))
 row_of verbs.Inode = (codes "inode", on_volume (node ∷ option (codes "json") ∷ []))
 row_of verbs.Super = (codes "super", on_volume (option (codes "json") ∷ []))
 row_of verbs.Free = (codes "free", on_volume (option (codes "json") ∷ []))

@@ -1,5 +1,5 @@
 -- The end of a command that shows part of an image of which some blocks couldn't be read.
-use Rattle.std.proofs.Common.{ℕ, Bool, true, List, Option, inl, inr, arith}
+use Rattle.std.proofs.Common.{ℕ, Bool, true, false, List, Option, inl, inr, arith}
 use Rattle.std.specs.Prelude.{option_map}
 use Rattle.bad_maps.specs.declared.maps.ReadRange.{ReadRange}
 use Rattle.command_faults.specs.Faults.{no_memory}
@@ -7,7 +7,8 @@ use Rattle.command_faults.specs.Streams.{Streams}
 use Rattle.command_reads.specs.BadLooks.{LooksBad, LooksRescued, ShowsRescued, TellsUnrescued}
 use Rattle.command_reads.specs.Export.{begun, told_status}
 use Rattle.command_reads.specs.Find.{found_sights}
-use Rattle.command_reads.specs.Losses.{TellsIncomplete}
+use Rattle.command_reads.specs.Losses.{TellsIncomplete, is_graded}
+use Rattle.command_reads.specs.Sums.{sums_sights}
 use Rattle.command_reads.specs.declared.bad_looks.BadBlocks.{BadBlocks}
 use Rattle.command_reads.specs.declared.bad_looks.BadBlocks.TheVariants as reads
 use Rattle.command_reads.specs.declared.bad_looks.BadLook.{BadLook}
@@ -43,6 +44,12 @@ ends_rescued edition image lost screen streams status (bad_looks.Find path name 
     (λ text wanted lines is.
     let told = told_few true is.0 in
     lines_few 6 (told_status true is.0) wanted lines told.0 told.1 is.2) shows
+ends_rescued edition image lost screen streams status (bad_looks.Sums path form orphans) shows =
+    ends_shows 6 (sums_sights edition image lost path.now form orphans) streams status (omega arith)
+    (λ text wanted lines is.
+    let graded = is_graded false lost in
+    let told = told_few graded is.0.short in
+    lines_few 6 (told_status graded is.0.short) wanted lines told.0 told.1 is.1) shows
 
 ends_read : (edition : Edition) (bytes : List ℕ) (ranges : List ReadRange) (at : ℕ) (sizes : Option VolumeSizes) (look : BadLook) (screen : Screen) (streams : Streams)
     (status : ℕ) → LooksRescued edition bytes ranges at sizes look screen streams status → IsEndWithin 6 streams status

@@ -1,5 +1,6 @@
 -- Looks at images of which some blocks couldn't be read, by the images that are rescued.
-use Rattle.std.proofs.Common.{ℕ, List, Bool, Option, inl, inr}
+use Rattle.std.proofs.Common.{ℕ, List, Bool, Option, Result, Ok, Err, inl, inr}
+use Rattle.std.specs.Prelude.{IfErr}
 use Rattle.vol_layout.specs.declared.edition.Edition.{Edition}
 use Rattle.vol_listing.specs.declared.options.Screen.{Screen}
 use Rattle.vol_losses.specs.declared.given_sizes.VolumeSizes.{VolumeSizes}
@@ -9,6 +10,11 @@ use Rattle.command_reads.specs.BadLooks.{LooksBad, ShowsRescued}
 use Rattle.command_reads.specs.declared.bad_looks.BadBlocks.{BadBlocks}
 use Rattle.command_reads.specs.declared.bad_looks.BadBlocks.TheVariants as bads
 use Rattle.command_reads.specs.declared.bad_looks.BadLook.{BadLook}
+
+-- what an error implies
+pub if_err : {A B : Type 0} {P Q : B → Type 0} (result : Result A B) → ((fault : B) → P fault → Q fault) → IfErr result P → IfErr result Q
+if_err (Ok value) implies holds = tt
+if_err (Err fault) implies holds = implies fault holds
 
 -- what was read of an image is shown
 pub looks_rescued : (edition : Edition) (bytes : List ℕ) (sizes : Option VolumeSizes) (look : BadLook) (screen : Screen) (streams : Streams) (status : ℕ)

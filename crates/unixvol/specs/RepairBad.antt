@@ -6,7 +6,7 @@ use Rattle.command_changes.specs.Repair.{IsUnrepaired}
 use Rattle.command_changes.specs.RepairLosses.{IsRescueReported, losses_status}
 use Rattle.command_changes.specs.declared.repair.Repairing.{Repairing}
 use Rattle.command_faults.specs.Faults.{no_memory}
-use Rattle.command_faults.specs.Streams.{Gets, Streams}
+use Rattle.command_faults.specs.Streams.{Streams}
 use Rattle.command_faults.specs.declared.fault.Fault.{Fault}
 use Rattle.command_reads.specs.BadImages.{IsBadRescued, TellsBadUnread}
 use Rattle.command_reads.specs.Print.{IsTold, PrintsTelling}
@@ -14,6 +14,7 @@ use Rattle.command_reads.specs.declared.bad_looks.BadBlocks.{BadBlocks}
 use Rattle.command_words.specs.declared.invocation.BadImage.{BadImage}
 use Rattle.command_words.specs.declared.invocation.VolumeFile.{VolumeFile}
 use Rattle.host_files.specs.declared.image_file.Stamp.{Stamp}
+use Rattle.unixvol.specs.Exits.{Exits, ToEnd}
 use Rattle.unixvol.specs.LookBad.{IsBadRead, IsKnownRead}
 use Rattle.unixvol.specs.Reports.{IsOneFile}
 use Rattle.unixvol.specs.Runs.{HostFiles, IsEndWithin, IsStatusOfFileOrMemory, RunsNothing, but_remarks}
@@ -58,7 +59,5 @@ RunsRepairBad streams files volume image copy repairing status =
 -- it runs to its end; its status is at most 6, and if it is 0, no output failed, and nothing was reported, unless a file is named for the copy (this project)
 abbrev pub RepairsBadToEnd : {A : Type 0} → HostFiles → Option (List ℕ) → Option (List ℕ) → VolumeFile → BadImage → Option A → Repairing → ℕ → Type 0
 RepairsBadToEnd files output errors volume image copy repairing end =
-    (new : Option (List ℕ)) × (failed : Bool) × (told : Option (List ℕ)) × (untold : Bool) × (status : ℕ)
-    × RunsRepairBad (record { old = output; new = new; had_failed = false; failed = failed; said = Gets untold errors told }) files volume image copy repairing status
-    × IsEndWithin 6 (but_remarks (is_some copy) (record { old = output; new = new; had_failed = false; failed = failed; said = Gets untold errors told })) status
-    × ((end ≡ status) ⊎ (end ≡ 3))
+    ToEnd output errors (λ streams status. RunsRepairBad streams files volume image copy repairing status)
+    (λ streams status. IsEndWithin 6 (but_remarks (is_some copy) streams) status) Exits end

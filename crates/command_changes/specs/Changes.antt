@@ -29,8 +29,8 @@ use Rattle.command_changes.specs.Salvage.{IsUnsalvaged}
 use Rattle.command_changes.specs.Touch.{HasTimes, touch_call}
 use Rattle.command_changes.specs.Traced.{TracesCalls, TracesImport}
 use Rattle.command_changes.specs.declared.kept.GivenFile.{GivenFile}
-use Rattle.command_changes.specs.declared.changes.Change.{Change}
-use Rattle.command_changes.specs.declared.changes.Change.TheVariants as changes
+use Rattle.command_terms.specs.declared.changes.Change.{Change}
+use Rattle.command_terms.specs.declared.changes.Change.TheVariants as changes
 
 -- the outcomes of calls: the bytes that they make, with their trace if it is wanted, or a reason not to make them (this project)
 abbrev pub of_calls : Edition → List ℕ → List Call → Bool → Outcomes

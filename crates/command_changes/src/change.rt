@@ -4,7 +4,6 @@ ghost use Rattle.command_faults.specs.Streams.{heard, streams};
 ghost use Rattle.command_changes.specs.Changes.{changed};
 
 use crate::boot::boot;
-use crate::changes::Change;
 use crate::chmod::chmod;
 use crate::chown::chown;
 use crate::import::import_archive;
@@ -20,6 +19,7 @@ use crate::touch::touch;
 use crate::traced::traced;
 use command_faults::answer::{conclude, tell, unremarked};
 use command_faults::{Answer, Fault, Remarked};
+use command_terms::Change;
 use pdp_words::Sink;
 use std::alloc::Global;
 use vol_dir::Cred;

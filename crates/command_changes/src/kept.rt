@@ -1,16 +1,5 @@
 //! What a file that is put keeps of the host's file, besides its bytes.
 
-/// What to keep of the host's file, besides its bytes.
-#[derive(Clone, Copy)]
-pub enum Keep {
-    /// Nothing: a new file has permissions 0644, and an existing one keeps its own.
-    Nothing,
-    /// The execute bits.
-    Execution,
-    /// The permissions and the time of last modification.
-    All,
-}
-
 /// What a file that is put gets from the host's file, besides its bytes.
 #[derive(Clone, Copy)]
 pub enum Kept {

@@ -6,23 +6,13 @@ ghost use Rattle.command_changes.specs.Migrate.{IsObstacle, Migrates, of_migrati
 
 use command_faults::answer::{conclude, tell, unremarked};
 use command_faults::{Answer, Fault};
+use command_terms::Migration;
 use pdp_words::{Image, Sink};
 use std::alloc::Global;
 use vol_dir::Refusal;
 use vol_judge::judge;
 use vol_layout::Edition;
 use vol_migrate::MigrateFault;
-
-/// The sizes and the time of the volume that `migrate` makes.
-#[derive(Clone, Copy)]
-pub struct Migration {
-    /// The number of its blocks, of 512 bytes.
-    pub blocks: u32,
-    /// The number of blocks in its i-list.
-    pub list_blocks: u16,
-    /// The time of its super-block and of its i-nodes' last change, in seconds since the beginning of 1970.
-    pub now: u32,
-}
 
 /// Migrates a volume as [`migrate_image`] does, and writes the line of a fault to `errors`. Writes nothing to `_output`.
 pub fn migrate_command<O: Sink, E: Sink>(

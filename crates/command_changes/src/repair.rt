@@ -6,6 +6,7 @@ ghost use Rattle.command_changes.specs.Repair.{IsLongerReported, IsLongerUnrepai
 
 use crate::salvage::ReportedVolume;
 use command_faults::Fault;
+use command_terms::Repairing;
 use pdp_words::Image;
 use std::alloc::{AllocError, Global};
 use vol_dir::Refusal;
@@ -14,15 +15,6 @@ use vol_repair::{LengthFault, RepairFault, lengthened, repair, text_of};
 
 /// The line for an image that is kept as it is, since its copy isn't sound, or a file that fits would have changed.
 pub const NOT_REPAIRED: &[u8] = b"unixvol: 112 NotRepaired\n";
-
-/// The least size and the time of a repaired copy.
-#[derive(Clone, Copy)]
-pub struct Repairing {
-    /// The fewest blocks that the copy has, of 512 bytes; it has all of the volume's.
-    pub blocks: u32,
-    /// The time of new i-nodes, in seconds since the beginning of 1970.
-    pub now: u32,
-}
 
 /// Repairs an image, and reports all that differs in the copy, in lines. If the volume has fewer than `blocks` blocks, the image is made longer before, and
 /// the lines tell what differs from that. The fault is `Bounds` if the edition has no volume of so many blocks; rule 1 or 2 if the image breaks that;

@@ -6,10 +6,11 @@ ghost use Rattle.command_faults.specs.Faults.{line_after};
 ghost use Rattle.command_changes.specs.Repair.{IsLongerUnrepaired, IsUnrepaired};
 ghost use Rattle.command_changes.specs.RepairLosses.{IsLostReported, IsRescueReported, TellsLost, losses_status};
 
-use crate::repair::{Repairing, longer_image, repair_image};
+use crate::repair::{longer_image, repair_image};
 use crate::salvage::ReportedVolume;
 use command_faults::status::DONE;
 use command_faults::{Ending, Fault};
+use command_terms::Repairing;
 use pdp_words::Image;
 use std::alloc::{AllocError, Global};
 use vol_layout::{Edition, Geometry};

@@ -16,9 +16,9 @@ use Rattle.vol_listing.specs.declared.options.Depth.{Depth}
 use Rattle.vol_listing.specs.declared.options.Depth.TheVariants as depths
 use Rattle.vol_listing.specs.declared.options.Lines.{Lines}
 use Rattle.vol_listing.specs.declared.options.Lines.TheVariants as lines
-use Rattle.command_reads.specs.declared.bad_looks.BadLook.TheVariants as bad_looks
-use Rattle.command_reads.specs.declared.looks.Look.TheVariants as looks
-use Rattle.command_changes.specs.declared.changes.Change.TheVariants as changes
+use Rattle.command_terms.specs.declared.bad_looks.BadLook.TheVariants as bad_looks
+use Rattle.command_terms.specs.declared.looks.Look.TheVariants as looks
+use Rattle.command_terms.specs.declared.changes.Change.TheVariants as changes
 use Rattle.vol_check.specs.declared.checker.Checker.TheVariants as checkers
 use Rattle.vol_layout.specs.declared.edition.Edition.{Edition}
 use Rattle.vol_layout.specs.declared.edition.Edition.TheVariants.{V6, V7}

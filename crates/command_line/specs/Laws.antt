@@ -8,7 +8,7 @@ use Rattle.command_line.specs.CommandLine.{MetAsks}
 use Rattle.command_line.specs.Words.{AreEditions, command_in, faults_of, unixvol_app}
 use Rattle.vol_listing.specs.declared.options.Depth.TheVariants as depths
 use Rattle.vol_listing.specs.declared.options.Lines.TheVariants as lines
-use Rattle.command_reads.specs.declared.looks.Look.TheVariants as looks
+use Rattle.command_terms.specs.declared.looks.Look.TheVariants as looks
 use Rattle.vol_layout.specs.declared.edition.Edition.{Edition}
 
 -- a word that doesn't begin with a hyphen (this project)

@@ -9,7 +9,7 @@ use Rattle.command_reads.specs.BadImages.{IsBadRescued, TellsBadUnread}
 use Rattle.command_reads.specs.BadLooks.{LooksBad, ShowsRescued}
 use Rattle.command_reads.specs.declared.bad_looks.BadBlocks.{BadBlocks}
 use Rattle.command_reads.specs.declared.bad_looks.BadBlocks.TheVariants as bads
-use Rattle.command_reads.specs.declared.bad_looks.BadLook.{BadLook}
+use Rattle.command_terms.specs.declared.bad_looks.BadLook.{BadLook}
 
 -- what an error implies
 pub if_err : {A B : Type 0} {P Q : B → Type 0} (result : Result A B) → ((fault : B) → P fault → Q fault) → IfErr result P → IfErr result Q

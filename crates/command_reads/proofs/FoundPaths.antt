@@ -8,7 +8,7 @@ use Rattle.command_reads.specs.Export.{told_status}
 use Rattle.command_reads.specs.Find.{AreFound, found_sights}
 use Rattle.command_reads.specs.Print.{IsSight, telling}
 use Rattle.command_reads.specs.Sums.{IsManifestFault}
-use Rattle.command_reads.specs.declared.looks.OutputForm.{OutputForm}
+use Rattle.command_terms.specs.declared.looks.OutputForm.{OutputForm}
 use Rattle.command_reads.specs.declared.print.Shown.{Shown}
 
 -- if no block is lost, the lines are about entries that are left out, and the status is 5 if there are any

@@ -4,7 +4,7 @@ use Rattle.vol_layout.specs.declared.edition.Edition.{Edition}
 use Rattle.command_faults.specs.declared.fault.Fault.{Fault}
 use Rattle.command_reads.specs.Print.{IsSight, telling}
 use Rattle.command_reads.specs.Sums.{IsManifest, IsManifestFault, sums_sights}
-use Rattle.command_reads.specs.declared.looks.OutputForm.{OutputForm}
+use Rattle.command_terms.specs.declared.looks.OutputForm.{OutputForm}
 use Rattle.command_reads.specs.declared.print.Shown.{Shown}
 
 -- if no block is lost, the status is 1 if there are lines

@@ -24,17 +24,11 @@ use Rattle.command_reads.specs.Print.{IsTold, IsToldWith, Shows}
 use Rattle.command_reads.specs.Sums.{sums_sights}
 use Rattle.command_reads.specs.declared.bad_looks.BadBlocks.{BadBlocks}
 use Rattle.command_reads.specs.declared.bad_looks.BadBlocks.TheVariants as bads
-use Rattle.command_reads.specs.declared.bad_looks.BadLook.{BadLook}
-use Rattle.command_reads.specs.declared.bad_looks.BadLook.TheVariants as bad_looks
+use Rattle.command_terms.specs.declared.bad_looks.BadLook.{BadLook}
+use Rattle.command_terms.specs.declared.bad_looks.BadLook.TheVariants as bad_looks
 use Rattle.command_reads.specs.declared.bad_looks.BadMap.{BadMap}
-use Rattle.command_reads.specs.declared.looks.Look.{Look}
-use Rattle.command_reads.specs.declared.looks.Look.TheVariants as looks
-
--- what a command shows of an image that was read whole (this project)
-abbrev pub whole_look : BadLook → Look
-whole_look (bad_looks.Export path options) = looks.Export path options
-whole_look (bad_looks.Find path name lost form) = looks.Find path name lost form
-whole_look (bad_looks.Sums path form lost) = looks.Sums path form lost
+use Rattle.command_terms.specs.declared.looks.Look.{Look}
+use Rattle.command_terms.specs.declared.looks.Look.TheVariants as looks
 
 -- the words for a line by its number (this project)
 unfoldable pub line_start : ℕ → List ℕ

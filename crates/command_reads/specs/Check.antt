@@ -10,8 +10,8 @@ use Rattle.vol_layout.specs.declared.edition.Edition.{Edition}
 use Rattle.command_faults.specs.Faults.{no_memory}
 use Rattle.command_reads.specs.CheckJson.{report_json}
 use Rattle.command_reads.specs.Print.{Sights, silently}
-use Rattle.command_reads.specs.declared.looks.OutputForm.{OutputForm}
-use Rattle.command_reads.specs.declared.looks.OutputForm.TheVariants as forms
+use Rattle.command_terms.specs.declared.looks.OutputForm.{OutputForm}
+use Rattle.command_terms.specs.declared.looks.OutputForm.TheVariants as forms
 
 -- the status of a check: 0 if all twelve rules hold, else 1, or 6 if the status is graded and the image has no geometry (this project)
 abbrev pub verdict_status : Bool → Bool → Bool → ℕ

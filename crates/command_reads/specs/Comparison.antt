@@ -5,8 +5,8 @@ use Rattle.command_faults.specs.Streams.{Streams}
 use Rattle.command_reads.specs.Diff.{field_differences}
 use Rattle.command_reads.specs.Print.{Shows, ShowsInPieces}
 use Rattle.command_reads.specs.TreeDiff.{tree_differences}
-use Rattle.command_reads.specs.declared.comparison.Comparison.{Comparison}
-use Rattle.command_reads.specs.declared.comparison.Comparison.TheVariants as comparisons
+use Rattle.command_terms.specs.declared.comparison.Comparison.{Comparison}
+use Rattle.command_terms.specs.declared.comparison.Comparison.TheVariants as comparisons
 use Rattle.command_reads.specs.declared.diff.NamedImage.{NamedImage}
 
 -- two images are compared in this way: the differences between trees are shown piece by piece, and those between fields as a whole; or a fault is

@@ -29,8 +29,8 @@ use Rattle.command_faults.specs.declared.fault.Fault.{Fault}
 use Rattle.command_faults.specs.declared.fault.Fault.TheVariants as faults
 use Rattle.command_reads.specs.Faults.{unmeasured}
 use Rattle.command_reads.specs.declared.dump.Span.{Span}
-use Rattle.command_reads.specs.declared.looks.DumpTarget.{DumpTarget}
-use Rattle.command_reads.specs.declared.looks.DumpTarget.TheVariants as targets
+use Rattle.command_terms.specs.declared.looks.DumpTarget.{DumpTarget}
+use Rattle.command_terms.specs.declared.looks.DumpTarget.TheVariants as targets
 
 -- the place of a block (manual section 5, file system)
 abbrev pub block_span : Geometry → ℕ → Result Span Refusal

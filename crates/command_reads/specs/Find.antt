@@ -18,8 +18,8 @@ use Rattle.command_reads.specs.Export.{AreFound as AreVisited, begun, told_statu
 use Rattle.command_reads.specs.Print.{Sights}
 use Rattle.command_reads.specs.Remarks.{limit_lines}
 use Rattle.command_reads.specs.Sums.{IsManifestFault}
-use Rattle.command_reads.specs.declared.looks.OutputForm.{OutputForm}
-use Rattle.command_reads.specs.declared.looks.OutputForm.TheVariants as forms
+use Rattle.command_terms.specs.declared.looks.OutputForm.{OutputForm}
+use Rattle.command_terms.specs.declared.looks.OutputForm.TheVariants as forms
 
 -- true if the last name of a path matches the pattern, or if there is no pattern (find)
 abbrev pub is_wanted : Option (List ℕ) → List ℕ → Bool

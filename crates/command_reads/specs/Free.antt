@@ -14,8 +14,8 @@ use Rattle.command_faults.specs.declared.fault.Fault.{Fault}
 use Rattle.command_reads.specs.Faults.{uninspected}
 use Rattle.command_reads.specs.Json.{counts}
 use Rattle.command_reads.specs.SuperBlock.{fault_data}
-use Rattle.command_reads.specs.declared.looks.OutputForm.{OutputForm}
-use Rattle.command_reads.specs.declared.looks.OutputForm.TheVariants as forms
+use Rattle.command_terms.specs.declared.looks.OutputForm.{OutputForm}
+use Rattle.command_terms.specs.declared.looks.OutputForm.TheVariants as forms
 
 -- a link of the chain: the block that holds it, its numbers, and its count (this project)
 abbrev pub link_data : FreeLink → Data

@@ -18,9 +18,9 @@ use Rattle.command_faults.specs.declared.fault.Fault.{Fault}
 use Rattle.command_reads.specs.Faults.{uninspected}
 use Rattle.command_reads.specs.Node.{node_fault}
 use Rattle.command_reads.specs.Print.{Sights, plainly}
-use Rattle.command_reads.specs.declared.looks.OutputForm.{OutputForm}
+use Rattle.command_terms.specs.declared.looks.OutputForm.{OutputForm}
 use Rattle.command_reads.specs.declared.node.NodeFault.{NodeFault}
-use Rattle.command_reads.specs.declared.looks.OutputForm.TheVariants as forms
+use Rattle.command_terms.specs.declared.looks.OutputForm.TheVariants as forms
 
 -- the word for a kind of i-node; that of a special file is by its type (this project)
 abbrev pub word_of : Kind → ℕ → List ℕ

@@ -18,8 +18,8 @@ use Rattle.command_reads.specs.Queries.{IsObstacle}
 use Rattle.command_reads.specs.Slots.{IsSlotsFault, IsSlotsText}
 use Rattle.command_reads.specs.Sums.{IsManifest, IsManifestFault}
 use Rattle.command_reads.specs.SuperBlock.{IsSuperFault, IsSuperText}
-use Rattle.command_reads.specs.declared.looks.Look.{Look}
-use Rattle.command_reads.specs.declared.looks.Look.TheVariants as looks
+use Rattle.command_terms.specs.declared.looks.Look.{Look}
+use Rattle.command_terms.specs.declared.looks.Look.TheVariants as looks
 use Rattle.command_reads.specs.declared.super_block.SuperPart.TheVariants as parts
 use Rattle.vol_listing.specs.declared.options.Screen.{Screen}
 

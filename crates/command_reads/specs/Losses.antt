@@ -14,7 +14,7 @@ use Rattle.command_faults.specs.Streams.{Streams}
 use Rattle.command_faults.specs.declared.fault.Fault.{Fault}
 use Rattle.command_reads.specs.Print.{IsTold, IsToldWith}
 use Rattle.command_reads.specs.Remarks.{TellsAll}
-use Rattle.command_reads.specs.declared.looks.ExportOptions.{ExportOptions}
+use Rattle.command_terms.specs.declared.looks.ExportOptions.{ExportOptions}
 
 -- the image that these bytes are read as, and its lost blocks: with `cut`, an image that was cut off is completed; else the bytes are the image, and no
 -- block is lost (this project)

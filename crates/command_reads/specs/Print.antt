@@ -9,8 +9,8 @@ use Rattle.command_faults.specs.Faults.{fault_status, fault_line, line_after, no
 use Rattle.command_faults.specs.Streams.{Streams}
 use Rattle.command_faults.specs.declared.fault.Fault.{Fault}
 use Rattle.command_faults.specs.declared.fault.Fault.TheVariants as faults
-use Rattle.command_reads.specs.declared.looks.OutputForm.{OutputForm}
-use Rattle.command_reads.specs.declared.looks.OutputForm.TheVariants as forms
+use Rattle.command_terms.specs.declared.looks.OutputForm.{OutputForm}
+use Rattle.command_terms.specs.declared.looks.OutputForm.TheVariants as forms
 use Rattle.command_reads.specs.declared.print.Shown.{Shown}
 
 -- what a command that prints may come to: texts, each with a status and the lines about it; or faults (this project)

@@ -19,8 +19,8 @@ use Rattle.vol_listing.specs.Lines.{shown}
 use Rattle.vol_listing.specs.declared.options.Screen.{Screen}
 use Rattle.command_faults.specs.declared.fault.Fault.{Fault}
 use Rattle.command_reads.specs.Export.{unstarted}
-use Rattle.command_reads.specs.declared.looks.OutputForm.{OutputForm}
-use Rattle.command_reads.specs.declared.looks.OutputForm.TheVariants as forms
+use Rattle.command_terms.specs.declared.looks.OutputForm.{OutputForm}
+use Rattle.command_terms.specs.declared.looks.OutputForm.TheVariants as forms
 use Rattle.command_reads.specs.declared.slots.SlotForm.{SlotForm}
 use Rattle.command_reads.specs.declared.slots.SlotForm.TheVariants as slot_forms
 

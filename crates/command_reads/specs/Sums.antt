@@ -15,9 +15,9 @@ use Rattle.command_faults.specs.declared.fault.Fault.{Fault}
 use Rattle.command_reads.specs.Export.{AreFound, begun, told_status, unstarted}
 use Rattle.command_reads.specs.Losses.{TellsExport, is_graded}
 use Rattle.command_reads.specs.Print.{Sights}
-use Rattle.command_reads.specs.declared.looks.ExportOptions.{ExportOptions}
-use Rattle.command_reads.specs.declared.looks.OutputForm.{OutputForm}
-use Rattle.command_reads.specs.declared.looks.OutputForm.TheVariants as forms
+use Rattle.command_terms.specs.declared.looks.ExportOptions.{ExportOptions}
+use Rattle.command_terms.specs.declared.looks.OutputForm.{OutputForm}
+use Rattle.command_terms.specs.declared.looks.OutputForm.TheVariants as forms
 
 -- the options of the export that has the same entries and the same remarks (this project)
 abbrev pub as_exported : Bool → ExportOptions

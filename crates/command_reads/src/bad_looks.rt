@@ -6,12 +6,12 @@ ghost use Rattle.command_reads.specs.BadLooks.{IsMisreadEnding, IsUnrescuedEndin
 use crate::bad_images::rescue_image;
 use crate::export::{export_read, unread};
 use crate::find::find_in;
-use crate::looks::{ExportOptions, Look, OutputForm};
 use crate::print::print;
 use crate::sums::sums_of;
 use bad_maps::{LineFault, MapFault, ReadRange};
 use command_faults::status::{BAD_COMMAND_LINE, BAD_FILE};
 use command_faults::{Ending, Fault};
+use command_terms::BadLook;
 use escaped_text::push_escaped;
 use pdp_words::Sink;
 use std::alloc::{AllocError, Global};
@@ -38,54 +38,6 @@ pub enum BadBlocks<'a> {
     Map(BadMap<'a>),
     /// Ranges of bytes of the volume: each block of which no range has all bytes.
     Outside(Vec<ReadRange>),
-}
-
-/// What a command shows of an image of which some blocks couldn't be read.
-#[derive(Clone, Copy)]
-pub enum BadLook<'a> {
-    /// Everything below a directory, as an archive.
-    Export {
-        path: &'a str,
-        options: ExportOptions,
-    },
-    /// The paths of everything below a directory, as for [`Look::Find`].
-    Find {
-        path: &'a str,
-        name: Option<&'a str>,
-        lost: bool,
-        form: OutputForm,
-    },
-    /// A manifest of everything below a directory, as for [`Look::Sums`].
-    Sums {
-        path: &'a str,
-        form: OutputForm,
-        lost: bool,
-    },
-}
-
-impl<'a> BadLook<'a> {
-    ghost use Rattle.command_reads.specs.BadLooks.{whole_look};
-
-    /// Returns what a command shows of an image that was read whole.
-    pub fn whole(self) -> Look<'a>
-        ensures { result ≡ whole_look self.entry }
-    {
-        match self {
-            BadLook::Export { path, options } => Look::Export { path, options },
-            BadLook::Find {
-                path,
-                name,
-                lost,
-                form,
-            } => Look::Find {
-                path,
-                name,
-                lost,
-                form,
-            },
-            BadLook::Sums { path, form, lost } => Look::Sums { path, form, lost },
-        }
-    }
 }
 
 /// Shows part of an image of which only some blocks were read. A block of which a byte wasn't read is lost, whatever the image has in its place. An

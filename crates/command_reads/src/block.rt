@@ -6,8 +6,8 @@ ghost use Rattle.command_reads.specs.Block.{IsBlockFault, IsBlockText, owners_da
 
 use crate::faults::uninspected;
 use crate::json::list;
-use crate::looks::OutputForm;
 use command_faults::Fault;
+use command_terms::OutputForm;
 use pdp_words::Image;
 use serde_json::{Value, json};
 use std::alloc::{AllocError, Global};

@@ -4,11 +4,11 @@ ghost use Rattle.command_reads.specs.Print.{IsSight};
 ghost use Rattle.command_reads.specs.Check.{checked, verdict_status, IsJsonReport, IsReportIn};
 
 use crate::check_json::report_json;
-use crate::looks::OutputForm;
 use crate::print::{Shown, silent};
 use crate::statuses::NO_VOLUME;
 use command_faults::Fault;
 use command_faults::status::{DONE, REFUSED};
+use command_terms::OutputForm;
 use pdp_words::Image;
 use std::alloc::{AllocError, Global};
 use vol_findings::{RuleReport, are_held, check_rules, lines_of, make_report};

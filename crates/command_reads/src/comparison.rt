@@ -6,18 +6,10 @@ use crate::diff::{NamedImage, diff_fields};
 use crate::print::print;
 use crate::tree_diff::show_tree_diff;
 use command_faults::Ending;
+use command_terms::Comparison;
 use pdp_words::Sink;
 use std::alloc::Global;
 use vol_layout::Edition;
-
-/// The way in which two images are compared.
-#[derive(Clone, Copy)]
-pub enum Comparison {
-    /// By their trees. With `times` the times of the last read and of the last change are compared too.
-    Tree { times: bool },
-    /// Field by field. With `all` each field is a line.
-    Fields { all: bool },
-}
 
 /// Shows how two images differ, one line each: their paths, as [`show_tree_diff`] does, or their fields. The images must keep rules 1 and 2, and may
 /// be any bytes otherwise. The status is 0 if they don't differ, 1 if they do or one of them breaks one of these rules; 3 if `output` failed, 4 if

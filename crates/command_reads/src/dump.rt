@@ -6,8 +6,8 @@ ghost use Rattle.command_reads.specs.Dump.{IsDump, IsDumpFault, IsDumpText, mean
 ghost use Rattle.command_reads.specs.Dump.{inode_span, block_span, path_span};
 
 use crate::faults::unmeasured;
-use crate::looks::DumpTarget;
 use command_faults::Fault;
+use command_terms::DumpTarget;
 use pdp_words::{BLOCK, Image};
 use std::alloc::{AllocError, Global};
 use vol_dir::{Cred, Refusal, walk};

@@ -10,19 +10,16 @@ ghost use Rattle.command_reads.specs.Losses.{IsUnreadEnding};
 ghost use Rattle.command_reads.specs.Export.{AreFound, begun, Exports, ExportsFrom, ExportsTo, ExportsBelow, WritesBelow, told_status, unstarted, unstarted_status, unwritten};
 
 use crate::faults::unmeasured;
-use crate::looks::ExportOptions;
 use crate::losses::{is_graded, read_as, remarks_on, short_fault};
 use crate::remarks::Remarks;
 use crate::statuses::{NO_VOLUME, SHORT};
 use command_faults::status::{DONE, REFUSED};
 use command_faults::{Ending, Fault};
+use command_terms::ExportOptions;
 use pdp_words::{Image, Sink};
 use std::alloc::{AllocError, Global};
 use vol_archive::{Rescue, WriteFault, lost_start_of, put_archive, rescue_below, walk};
-use vol_dir::{
-    DirectoryFault, FoundDirectory, Refusal,
-    find_directory,
-};
+use vol_dir::{DirectoryFault, FoundDirectory, Refusal, find_directory};
 use vol_inspect::lost_inodes;
 use vol_layout::{Edition, Geometry};
 use vol_listing::Screen;

@@ -10,11 +10,11 @@ ghost use Rattle.command_reads.specs.Remarks.{limit_lines};
 ghost use Rattle.command_reads.specs.Sums.{IsManifestFault};
 
 use crate::export::{begun, ending_with, unstarted, walk_all};
-use crate::looks::OutputForm;
 use crate::losses::losses_on;
 use crate::print::Shown;
 use crate::remarks::{Remarks, push_limits};
 use command_faults::Fault;
+use command_terms::OutputForm;
 use name_patterns::{is_like, last_name};
 use pdp_words::Image;
 use serde_json::{Value, json};

@@ -5,9 +5,9 @@ ghost use Rattle.command_reads.specs.Free.{chain_data, chain_in, chain_json, IsC
 
 use crate::faults::uninspected;
 use crate::json::list;
-use crate::looks::OutputForm;
 use crate::super_block::fault_value;
 use command_faults::Fault;
+use command_terms::OutputForm;
 use pdp_words::Image;
 use serde_json::{Value, json};
 use std::alloc::{AllocError, Global};

@@ -13,12 +13,12 @@ ghost use Rattle.command_reads.specs.Json.{count_or_null, extent_data, listed_te
 
 use crate::faults::uninspected;
 use crate::json::list;
-use crate::looks::{NodeName, OutputForm};
 use crate::node::number_of;
 use crate::pieces::put_items;
 use crate::print::{ending_after, plain_string, print, put};
 use command_faults::status::DONE;
 use command_faults::{Ending, Fault};
+use command_terms::{NodeName, OutputForm};
 use pdp_words::{Image, Sink};
 use serde_json::{Value, json};
 use std::alloc::{AllocError, Global};

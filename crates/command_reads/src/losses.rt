@@ -8,9 +8,9 @@ ghost use Rattle.command_faults.specs.Faults.{fault_line};
 ghost use Rattle.command_reads.specs.Losses.{IsReadAs, TellsExport, is_graded, short_line};
 ghost use Rattle.command_reads.specs.Remarks.{AreOutOfReach};
 
-use crate::looks::ExportOptions;
 use crate::remarks::{Remarks, tell_all};
 use command_faults::Fault;
+use command_terms::ExportOptions;
 use pdp_words::Image;
 use std::alloc::{AllocError, Global};
 use vol_archive::{MetEntry, Rescue};

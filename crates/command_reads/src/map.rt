@@ -4,8 +4,8 @@ ghost use Rattle.vol_layout.specs.Geometry.{Fits, geometry_read};
 ghost use Rattle.command_reads.specs.Map.{blocks_for, blocks_shown, file_node, is_coloured, map_text, node_within, scale_end, scale_text, width_on, IsMap, IsPictureFault};
 
 use crate::faults::unmeasured;
-use crate::looks::Picture;
 use command_faults::Fault;
+use command_terms::Picture;
 use pdp_words::Image;
 use std::alloc::{AllocError, Global};
 use vol_dir::{Cred, Refusal, walk};

@@ -11,10 +11,10 @@ ghost use Rattle.command_reads.specs.Print.{ShowsInPieces, plainly};
 ghost use Rattle.command_reads.specs.Slots.{is_blank, slot_columns, slot_data, slot_item, slot_line, slot_lines, slot_text, slots_in, slots_json, IsSlotsFault, IsSlotsText};
 
 use crate::export::unstarted;
-use crate::looks::OutputForm;
 use crate::print::{ending_after, put};
 use command_faults::Ending;
 use command_faults::status::DONE;
+use command_terms::OutputForm;
 use pdp_words::{BLOCK, Image, Sink};
 use serde_json::{Value, json};
 use std::alloc::{AllocError, Global};

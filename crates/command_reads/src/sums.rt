@@ -6,10 +6,10 @@ ghost use Rattle.command_reads.specs.Print.{IsSight, telling};
 ghost use Rattle.command_reads.specs.Sums.{AreSumsIn, IsManifest, IsManifestFault, as_exported, sums_sights};
 
 use crate::export::{begun, ending_with, unstarted, walk_all};
-use crate::looks::{ExportOptions, LossOptions, OutputForm};
 use crate::losses::{is_graded, remarks_on};
 use crate::print::Shown;
 use command_faults::Fault;
+use command_terms::{ExportOptions, LossOptions, OutputForm};
 use pdp_words::Image;
 use std::alloc::{AllocError, Global};
 use vol_archive::MetEntry;

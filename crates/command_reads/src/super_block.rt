@@ -5,8 +5,8 @@ ghost use Rattle.command_reads.specs.SuperBlock.{fault_data, part_data, part_tex
 
 use crate::faults::uninspected;
 use crate::json::list;
-use crate::looks::OutputForm;
 use command_faults::Fault;
+use command_terms::OutputForm;
 use pdp_words::Image;
 use serde_json::{Map, Value, json, put};
 use std::alloc::{AllocError, Global};

@@ -2,11 +2,11 @@
 use Rattle.std.proofs.Common.{◌≡◌, ℕ, Bool, false, List, Option, None, Some, codes, slice_get, refl}
 use Rattle.std.specs.Borrow.{Bor}
 use Rattle.std.specs.Prelude.{option_map}
-use Rattle.command_reads.specs.declared.bad_looks.BadLook.TheVariants as bad_looks
-use Rattle.command_reads.specs.declared.looks.ExportOptions.{ExportOptions}
-use Rattle.command_reads.specs.declared.looks.OutputForm.{OutputForm}
+use Rattle.command_terms.specs.declared.bad_looks.BadLook.TheVariants as bad_looks
+use Rattle.command_terms.specs.declared.looks.ExportOptions.{ExportOptions}
+use Rattle.command_terms.specs.declared.looks.OutputForm.{OutputForm}
 use Rattle.command_words.specs.BadWords.{IsBadImageGiven}
-use Rattle.command_changes.specs.declared.repair.Repairing.{Repairing}
+use Rattle.command_terms.specs.declared.options.Repairing.{Repairing}
 use Rattle.command_words.specs.Invocations.{AsksFor, IsExportGiven, IsFormGiven, IsRepairGiven, IsVolumeGiven, Words, is_set, look_at, repair_at, the_word}
 use Rattle.command_words.specs.declared.invocation.BadImage.{BadImage}
 use Rattle.command_words.specs.declared.invocation.MadeFile.{MadeFile}

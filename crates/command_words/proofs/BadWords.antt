@@ -5,9 +5,9 @@ use Rattle.vol_check.specs.declared.checker.Checker.TheVariants as checkers
 use Rattle.vol_layout.specs.declared.edition.Edition.{Edition}
 use Rattle.vol_layout.specs.declared.edition.Edition.TheVariants.{V7}
 use Rattle.vol_losses.specs.declared.given_sizes.VolumeSizes.{VolumeSizes}
-use Rattle.command_changes.specs.declared.changes.Change.TheVariants as changes
-use Rattle.command_reads.specs.declared.bad_looks.BadLook.TheVariants as bad_looks
-use Rattle.command_reads.specs.declared.looks.Look.TheVariants as looks
+use Rattle.command_terms.specs.declared.changes.Change.TheVariants as changes
+use Rattle.command_terms.specs.declared.bad_looks.BadLook.TheVariants as bad_looks
+use Rattle.command_terms.specs.declared.looks.Look.TheVariants as looks
 use Rattle.command_words.specs.BadWords.{AreBothGiven, IsBadGiven, IsBadImageGiven, IsBadWrong, IsImageGiven, IsSizesGiven}
 use Rattle.command_words.specs.Invocations.{AsksForNothing, IsGiven, Words, verb_of}
 use Rattle.command_words.specs.declared.invocation.BadImage.{BadImage}

@@ -19,10 +19,10 @@ use Rattle.vol_mkfs.specs.declared.blank.NewVolume.{NewVolume}
 use Rattle.command_words.specs.declared.invocation.Work.TheVariants as works
 use Rattle.command_words.specs.declared.verbs.Verb.{Verb}
 use Rattle.command_words.specs.declared.verbs.Verb.TheVariants as verbs
-use Rattle.command_reads.specs.declared.bad_looks.BadLook.TheVariants as bad_looks
-use Rattle.command_reads.specs.declared.looks.Look.TheVariants as looks
+use Rattle.command_terms.specs.declared.bad_looks.BadLook.TheVariants as bad_looks
+use Rattle.command_terms.specs.declared.looks.Look.TheVariants as looks
 use Rattle.vol_check.specs.declared.checker.Checker.TheVariants as checkers
-use Rattle.command_changes.specs.declared.changes.Change.TheVariants as changes
+use Rattle.command_terms.specs.declared.changes.Change.TheVariants as changes
 
 -- true if the command is `mkfs`
 is_mkfs : Verb → Bool

@@ -4,8 +4,8 @@ use Rattle.std.specs.Borrow.{Bor}
 use Rattle.std.proofs.lemmas.List.{length-map}
 use Rattle.bad_maps.specs.Lists.{bytes_around}
 use Rattle.vol_layout.specs.declared.edition.Edition.TheVariants.{V7}
-use Rattle.command_reads.specs.declared.bad_looks.BadLook.TheVariants as bad_looks
-use Rattle.command_reads.specs.declared.looks.Look.TheVariants as looks
+use Rattle.command_terms.specs.declared.bad_looks.BadLook.TheVariants as bad_looks
+use Rattle.command_terms.specs.declared.looks.Look.TheVariants as looks
 use Rattle.command_words.specs.Invocations.{AreValues, AsksForNothing, IsGiven, IsOneWrong, IsVolumeWrong, NameAsksFor, Words, is_set, verb_of}
 use Rattle.command_words.specs.Verbs.{Argument, IsNoCommand, arguments_of, on_volume, verb_name}
 use Rattle.command_words.specs.declared.invocation.Invocation.{Invocation}

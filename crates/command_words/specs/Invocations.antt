@@ -34,34 +34,34 @@ use Rattle.command_words.specs.declared.invocation.Work.{Work}
 use Rattle.command_words.specs.declared.invocation.Work.TheVariants as works
 use Rattle.command_words.specs.declared.verbs.Verb.{Verb}
 use Rattle.command_words.specs.declared.verbs.Verb.TheVariants as verbs
-use Rattle.command_reads.specs.BadLooks.{whole_look}
-use Rattle.command_reads.specs.declared.bad_looks.BadLook.{BadLook}
-use Rattle.command_reads.specs.declared.bad_looks.BadLook.TheVariants as bad_looks
-use Rattle.command_reads.specs.declared.comparison.Comparison.{Comparison}
-use Rattle.command_reads.specs.declared.comparison.Comparison.TheVariants as comparisons
-use Rattle.command_reads.specs.declared.looks.ExportOptions.{ExportOptions}
-use Rattle.command_reads.specs.declared.looks.OutputForm.{OutputForm}
-use Rattle.command_reads.specs.declared.looks.OutputForm.TheVariants as forms
+use Rattle.command_terms.specs.BadLooks.{whole_look}
+use Rattle.command_terms.specs.declared.bad_looks.BadLook.{BadLook}
+use Rattle.command_terms.specs.declared.bad_looks.BadLook.TheVariants as bad_looks
+use Rattle.command_terms.specs.declared.comparison.Comparison.{Comparison}
+use Rattle.command_terms.specs.declared.comparison.Comparison.TheVariants as comparisons
+use Rattle.command_terms.specs.declared.looks.ExportOptions.{ExportOptions}
+use Rattle.command_terms.specs.declared.looks.OutputForm.{OutputForm}
+use Rattle.command_terms.specs.declared.looks.OutputForm.TheVariants as forms
 use Rattle.vol_listing.specs.declared.options.Depth.{Depth}
 use Rattle.vol_listing.specs.declared.options.Depth.TheVariants as depths
 use Rattle.vol_listing.specs.declared.options.Lines.{Lines}
 use Rattle.vol_listing.specs.declared.options.Lines.TheVariants as lines
-use Rattle.command_reads.specs.declared.looks.Look.{Look}
-use Rattle.command_reads.specs.declared.looks.Look.TheVariants as looks
-use Rattle.command_reads.specs.declared.looks.DumpTarget.{DumpTarget}
-use Rattle.command_reads.specs.declared.looks.DumpTarget.TheVariants as targets
-use Rattle.command_reads.specs.declared.looks.NodeName.{NodeName}
-use Rattle.command_reads.specs.declared.looks.NodeName.TheVariants as nodes
-use Rattle.command_reads.specs.declared.looks.Picture.{Picture}
-use Rattle.command_reads.specs.declared.looks.Picture.TheVariants as pictures
+use Rattle.command_terms.specs.declared.looks.Look.{Look}
+use Rattle.command_terms.specs.declared.looks.Look.TheVariants as looks
+use Rattle.command_terms.specs.declared.looks.DumpTarget.{DumpTarget}
+use Rattle.command_terms.specs.declared.looks.DumpTarget.TheVariants as targets
+use Rattle.command_terms.specs.declared.looks.NodeName.{NodeName}
+use Rattle.command_terms.specs.declared.looks.NodeName.TheVariants as nodes
+use Rattle.command_terms.specs.declared.looks.Picture.{Picture}
+use Rattle.command_terms.specs.declared.looks.Picture.TheVariants as pictures
 use Rattle.vol_check.specs.declared.checker.Checker.{Checker}
 use Rattle.vol_check.specs.declared.checker.Checker.TheVariants as checkers
-use Rattle.command_changes.specs.declared.kept.Keep.{Keep}
-use Rattle.command_changes.specs.declared.kept.Keep.TheVariants as keeps
-use Rattle.command_changes.specs.declared.changes.Change.{Change}
-use Rattle.command_changes.specs.declared.changes.Change.TheVariants as changes
-use Rattle.command_changes.specs.declared.migrate.Migration.{Migration}
-use Rattle.command_changes.specs.declared.repair.Repairing.{Repairing}
+use Rattle.command_terms.specs.declared.options.Keep.{Keep}
+use Rattle.command_terms.specs.declared.options.Keep.TheVariants as keeps
+use Rattle.command_terms.specs.declared.changes.Change.{Change}
+use Rattle.command_terms.specs.declared.changes.Change.TheVariants as changes
+use Rattle.command_terms.specs.declared.options.Migration.{Migration}
+use Rattle.command_terms.specs.declared.options.Repairing.{Repairing}
 use Rattle.vol_fields.specs.declared.lines.Radix.{Radix}
 use Rattle.vol_fields.specs.declared.lines.Radix.TheVariants as radixes
 use Rattle.vol_import.specs.declared.import_options.ImportOptions.{ImportOptions}

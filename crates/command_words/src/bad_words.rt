@@ -9,7 +9,7 @@ use crate::given::{Given, excluded, wrong};
 use crate::invocation::{BadImage, GivenBad, Invocation, VolumeFile};
 use crate::parameters::{Need, Parameter, ValueName, WordKind};
 use bad_maps::{ListFault, ReadRange, read_list};
-use command_reads::BadLook;
+use command_terms::BadLook;
 use line_words::{Pieces, number_in};
 use std::alloc::{AllocError, Global};
 use vol_layout::Edition;

@@ -14,7 +14,7 @@ use crate::moment::moment_of;
 use crate::octal::permissions_of;
 use crate::owners::owner_of;
 use crate::texts;
-use command_reads::{DumpTarget, NodeName};
+use command_terms::{DumpTarget, NodeName};
 use std::alloc::{AllocError, Global};
 use vol_dir::Cred;
 use vol_fields::Radix;

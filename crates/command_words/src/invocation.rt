@@ -3,8 +3,9 @@ ghost use Rattle.std.specs.Prelude.{◌≡◌};
 ghost use Rattle.command_words.specs.Invocations.{volume_of, with_volume};
 
 use bad_maps::ReadRange;
-use command_changes::{Change, Keep, Migration, Repairing};
-use command_reads::{BadLook, Comparison, Look, NodeName, OutputForm};
+use command_terms::{
+    BadLook, Change, Comparison, Keep, Look, Migration, NodeName, OutputForm, Repairing,
+};
 use vol_check::Checker;
 use vol_layout::Edition;
 use vol_losses::VolumeSizes;

@@ -7,7 +7,7 @@ use crate::fault::WordFault;
 use crate::given::{EditionWord, Given, edition_in, flag_in, long_or, text_in};
 use crate::invocation::{Invocation, MadeFile, VolumeFile};
 use crate::verbs::{Verb, list_commands};
-use command_reads::OutputForm;
+use command_terms::OutputForm;
 use std::alloc::Global;
 
 /// Reads the words after a command. `clock` is the time of the program's clock, in seconds since the beginning of 1970, if it has one; it is used if

@@ -11,8 +11,8 @@ use Rattle.command_reads.specs.Losses.{TellsIncomplete, is_graded}
 use Rattle.command_reads.specs.Sums.{sums_sights}
 use Rattle.command_reads.specs.declared.bad_looks.BadBlocks.{BadBlocks}
 use Rattle.command_reads.specs.declared.bad_looks.BadBlocks.TheVariants as reads
-use Rattle.command_reads.specs.declared.bad_looks.BadLook.{BadLook}
-use Rattle.command_reads.specs.declared.bad_looks.BadLook.TheVariants as bad_looks
+use Rattle.command_terms.specs.declared.bad_looks.BadLook.{BadLook}
+use Rattle.command_terms.specs.declared.bad_looks.BadLook.TheVariants as bad_looks
 use Rattle.command_words.specs.declared.invocation.BadImage.{BadImage}
 use Rattle.command_words.specs.declared.invocation.VolumeFile.{VolumeFile}
 use Rattle.host_files.specs.declared.image_file.Stamp.{Stamp}

@@ -1,7 +1,7 @@
 -- The end of a checker's run.
 use Rattle.std.proofs.Common.{ℕ, ◌≤◌, Bool, true, false, if◌then◌else◌, List, Option, inl, inr, sym, subst, arith}
 use Rattle.command_reads.specs.Checkers.{findings}
-use Rattle.command_reads.specs.declared.looks.OutputForm.{OutputForm}
+use Rattle.command_terms.specs.declared.looks.OutputForm.{OutputForm}
 use Rattle.command_faults.specs.Streams.{Streams}
 use Rattle.vol_check.specs.declared.checker.Checker.{Checker}
 use Rattle.vol_layout.specs.declared.edition.Edition.{Edition}

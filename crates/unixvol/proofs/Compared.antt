@@ -5,8 +5,8 @@ use Rattle.command_reads.specs.Comparison.{ShowsComparison}
 use Rattle.command_reads.specs.Diff.{diff_status, field_differences}
 use Rattle.command_reads.specs.Print.{Shows, ShowsInPieces}
 use Rattle.command_reads.specs.TreeDiff.{AreRemarks, tree_differences}
-use Rattle.command_reads.specs.declared.comparison.Comparison.{Comparison}
-use Rattle.command_reads.specs.declared.comparison.Comparison.TheVariants as comparisons
+use Rattle.command_terms.specs.declared.comparison.Comparison.{Comparison}
+use Rattle.command_terms.specs.declared.comparison.Comparison.TheVariants as comparisons
 use Rattle.command_reads.specs.declared.diff.NamedImage.{NamedImage}
 use Rattle.command_faults.specs.Streams.{Streams}
 use Rattle.command_words.specs.declared.invocation.VolumeFile.{VolumeFile}

@@ -4,8 +4,8 @@ use Rattle.std.specs.Io.KnownBytes.{Keeps}
 use Rattle.command_faults.proofs.Concluded.{fault_few}
 use Rattle.command_faults.specs.Faults.{fault_status}
 use Rattle.command_reads.specs.Get.{Asks, Prints}
-use Rattle.command_changes.specs.declared.changes.Needs.{Needs}
-use Rattle.command_changes.specs.declared.changes.Needs.TheVariants as needs
+use Rattle.command_terms.specs.declared.changes.Needs.{Needs}
+use Rattle.command_terms.specs.declared.changes.Needs.TheVariants as needs
 use Rattle.command_faults.specs.Streams.{Streams}
 use Rattle.command_faults.specs.declared.fault.Fault.{Fault}
 use Rattle.command_faults.specs.declared.fault.Fault.TheVariants as faults

@@ -15,16 +15,16 @@ use Rattle.vol_layout.specs.declared.edition.Edition.{Edition}
 use Rattle.command_reads.specs.Check.{checked, verdict_status}
 use Rattle.command_reads.specs.Export.{begun, Exports, ExportsBelow, ExportsFrom, ExportsTo, told_status, unstarted_status, whole, broken, short, unbegun}
 use Rattle.command_reads.specs.Losses.{IsReadAs, is_graded}
-use Rattle.command_reads.specs.declared.looks.ExportOptions.{ExportOptions}
+use Rattle.command_terms.specs.declared.looks.ExportOptions.{ExportOptions}
 use Rattle.command_reads.specs.Inode.{found}
 use Rattle.command_reads.specs.Node.{number_of}
 use Rattle.command_reads.specs.declared.node.NodeFault.{NodeFault}
 use Rattle.command_reads.specs.Look.{Looks, seen}
-use Rattle.command_reads.specs.declared.looks.OutputForm.{OutputForm}
-use Rattle.command_reads.specs.declared.looks.OutputForm.TheVariants as forms
+use Rattle.command_terms.specs.declared.looks.OutputForm.{OutputForm}
+use Rattle.command_terms.specs.declared.looks.OutputForm.TheVariants as forms
 use Rattle.command_reads.specs.Print.{IsBrokenOff, IsTold, PrintsTelling, Shows, ShowsIn, ShowsInPieces, Sights}
-use Rattle.command_reads.specs.declared.looks.Look.{Look}
-use Rattle.command_reads.specs.declared.looks.Look.TheVariants as looks
+use Rattle.command_terms.specs.declared.looks.Look.{Look}
+use Rattle.command_terms.specs.declared.looks.Look.TheVariants as looks
 use Rattle.vol_listing.specs.declared.options.Screen.{Screen}
 use Rattle.vol_listing.specs.declared.options.Screen.TheVariants as screens
 use Rattle.unixvol.specs.Runs.{IsEndWithin, IsUnread, RunsLook, highest_status, host_files}

@@ -2,7 +2,7 @@
 use Rattle.std.proofs.Common.{ℕ, ◌≤◌, Bool, true, false, List, ◌++◌, [], Option, None, Some, inl, inr, refl, sym, subst, arith}
 use Rattle.std.specs.Option.{is_some}
 use Rattle.command_changes.specs.RepairLosses.{losses_status}
-use Rattle.command_changes.specs.declared.repair.Repairing.{Repairing}
+use Rattle.command_terms.specs.declared.options.Repairing.{Repairing}
 use Rattle.command_faults.specs.Faults.{no_memory}
 use Rattle.command_faults.specs.Streams.{Streams}
 use Rattle.command_reads.specs.BadImages.{TellsBadUnread}

@@ -3,8 +3,8 @@ use Rattle.std.specs.Prelude.{◌≡◌, ◌⊎◌, ℕ, ◌≤◌, Bool, false,
 use Rattle.command_faults.specs.Streams.{Streams}
 use Rattle.command_reads.specs.Comparison.{ShowsComparison}
 use Rattle.command_reads.specs.TreeDiff.{AreRemarks}
-use Rattle.command_reads.specs.declared.comparison.Comparison.{Comparison}
-use Rattle.command_reads.specs.declared.comparison.Comparison.TheVariants as comparisons
+use Rattle.command_terms.specs.declared.comparison.Comparison.{Comparison}
+use Rattle.command_terms.specs.declared.comparison.Comparison.TheVariants as comparisons
 use Rattle.command_reads.specs.declared.diff.NamedImage.{NamedImage}
 use Rattle.command_words.specs.declared.invocation.VolumeFile.{VolumeFile}
 use Rattle.unixvol.specs.Exits.{Exits, ToEnd}

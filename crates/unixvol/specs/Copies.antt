@@ -19,7 +19,7 @@ use Rattle.command_reads.specs.GetFiles.{GetsFiles}
 use Rattle.command_changes.specs.Import.{of_import}
 use Rattle.command_changes.specs.Put.{calls_to_put}
 use Rattle.command_reads.specs.declared.get.FileRead.{FileRead}
-use Rattle.command_changes.specs.declared.kept.Keep.{Keep}
+use Rattle.command_terms.specs.declared.options.Keep.{Keep}
 use Rattle.command_changes.specs.declared.put.NewFile.{NewFile}
 use Rattle.unixvol.specs.Exits.{ExitsAfterSaving, ToEnd}
 use Rattle.unixvol.specs.Runs.{Ends, HostFiles, IsGivenFile, IsStatusOfFileOrMemory, RunsNothing}

@@ -4,7 +4,7 @@ use Rattle.command_faults.specs.Streams.{Streams}
 use Rattle.command_reads.specs.BadLooks.{LooksBad}
 use Rattle.command_reads.specs.declared.bad_looks.BadBlocks.{BadBlocks}
 use Rattle.command_reads.specs.declared.bad_looks.BadBlocks.TheVariants as reads
-use Rattle.command_reads.specs.declared.bad_looks.BadLook.{BadLook}
+use Rattle.command_terms.specs.declared.bad_looks.BadLook.{BadLook}
 use Rattle.command_words.specs.declared.invocation.BadImage.{BadImage}
 use Rattle.command_words.specs.declared.invocation.GivenBad.{GivenBad}
 use Rattle.command_words.specs.declared.invocation.GivenBad.TheVariants as bads

@@ -4,7 +4,7 @@ use Rattle.std.specs.Option.{is_some}
 use Rattle.std.specs.Io.KnownBytes.{Keeps}
 use Rattle.command_changes.specs.Repair.{IsUnrepaired}
 use Rattle.command_changes.specs.RepairLosses.{IsRescueReported, losses_status}
-use Rattle.command_changes.specs.declared.repair.Repairing.{Repairing}
+use Rattle.command_terms.specs.declared.options.Repairing.{Repairing}
 use Rattle.command_faults.specs.Faults.{no_memory}
 use Rattle.command_faults.specs.Streams.{Streams}
 use Rattle.command_faults.specs.declared.fault.Fault.{Fault}

@@ -14,21 +14,21 @@ use Rattle.vol_layout.specs.Ids.{is_bad_id}
 use Rattle.pdp_words.specs.Devices.{LosesFront}
 use Rattle.command_reads.specs.Get.{GetsFile}
 use Rattle.command_reads.specs.Look.{Looks}
-use Rattle.command_reads.specs.declared.looks.Look.{Look}
-use Rattle.command_reads.specs.declared.looks.OutputForm.{OutputForm}
-use Rattle.command_reads.specs.declared.looks.Look.TheVariants as looks
+use Rattle.command_terms.specs.declared.looks.Look.{Look}
+use Rattle.command_terms.specs.declared.looks.OutputForm.{OutputForm}
+use Rattle.command_terms.specs.declared.looks.Look.TheVariants as looks
 use Rattle.vol_listing.specs.declared.options.Screen.{Screen}
 use Rattle.vol_listing.specs.declared.options.Screen.TheVariants as screens
 use Rattle.command_changes.specs.Changes.{changed}
 use Rattle.command_changes.specs.declared.kept.GivenFile.{GivenFile}
-use Rattle.command_changes.specs.declared.kept.Keep.{Keep}
-use Rattle.command_changes.specs.declared.kept.Keep.TheVariants as keeps
+use Rattle.command_terms.specs.declared.options.Keep.{Keep}
+use Rattle.command_terms.specs.declared.options.Keep.TheVariants as keeps
 use Rattle.command_changes.specs.declared.kept.Kept.{Kept}
 use Rattle.command_changes.specs.declared.kept.Kept.TheVariants as kepts
-use Rattle.command_changes.specs.Needs.{needs_of}
-use Rattle.command_changes.specs.declared.changes.Change.{Change}
-use Rattle.command_changes.specs.declared.changes.Needs.{Needs}
-use Rattle.command_changes.specs.declared.changes.Needs.TheVariants as needs
+use Rattle.command_terms.specs.Needs.{needs_of}
+use Rattle.command_terms.specs.declared.changes.Change.{Change}
+use Rattle.command_terms.specs.declared.changes.Needs.{Needs}
+use Rattle.command_terms.specs.declared.changes.Needs.TheVariants as needs
 use Rattle.command_reads.specs.Checkers.{Checks}
 use Rattle.command_reads.specs.Cat.{PrintsNode, IsNoWriters, cat_status}
 use Rattle.command_reads.specs.Node.{number_of}
@@ -51,7 +51,7 @@ use Rattle.vol_findings.specs.Reports.{other_edition}
 use Rattle.command_faults.specs.declared.answer.Answer.{Answer}
 use Rattle.command_reads.specs.declared.cat.CatFault.{CatFault}
 use Rattle.command_reads.specs.declared.cat.CatFault.TheVariants.{Writer}
-use Rattle.command_reads.specs.declared.looks.NodeName.{NodeName}
+use Rattle.command_terms.specs.declared.looks.NodeName.{NodeName}
 use Rattle.command_words.specs.declared.invocation.Invocation.{Invocation}
 use Rattle.command_words.specs.declared.invocation.Invocation.TheVariants as invocations
 use Rattle.command_words.specs.declared.invocation.NewPlace.{NewPlace}
@@ -61,8 +61,8 @@ use Rattle.command_words.specs.declared.invocation.Work.{Work}
 use Rattle.command_words.specs.declared.invocation.Work.TheVariants as works
 use Rattle.vol_check.specs.declared.checker.Checker.{Checker}
 use Rattle.command_changes.specs.declared.mkfs.MadeVolume.{MadeVolume}
-use Rattle.command_changes.specs.declared.migrate.Migration.{Migration}
-use Rattle.command_changes.specs.declared.repair.Repairing.{Repairing}
+use Rattle.command_terms.specs.declared.options.Migration.{Migration}
+use Rattle.command_terms.specs.declared.options.Repairing.{Repairing}
 use Rattle.vol_mkfs.specs.declared.blank.NewVolume.{NewVolume}
 use Rattle.host_files.specs.OpenedFiles.{IsOpened}
 use Rattle.host_files.specs.Packs.{IsMovedTo, IsReadFrom}

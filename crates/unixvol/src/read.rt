@@ -11,8 +11,9 @@ use crate::explain::{
 };
 use crate::host::Surroundings;
 use crate::sizes::HEAD;
-use command_changes::{GivenFile, Keep, Kept};
+use command_changes::{GivenFile, Kept};
 use command_line::VolumeFile;
+use command_terms::Keep;
 use host_files::{
     FileKind, FrontFault, ImageFiles, MoveFault, Noted, OpenFault, Stamp, UpTo, expect_image,
     modified_in, moved_to, noted_reader, open_image, open_stamped, permissions_of, read_on,

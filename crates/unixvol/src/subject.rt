@@ -1,8 +1,7 @@
 //! The subjects of commands.
 
-use command_changes::Change;
 use command_line::{Copying, Invocation, NewPlace, VolumeFile, Work};
-use command_reads::{DumpTarget, Look, NodeName};
+use command_terms::{Change, DumpTarget, Look, NodeName};
 use command_words::Verb;
 use vol_check::Checker;
 use vol_layout::Edition;

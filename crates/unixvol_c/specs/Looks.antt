@@ -6,24 +6,24 @@ use Rattle.command_reads.specs.Comparison.{ShowsComparison}
 use Rattle.command_reads.specs.Export.{Exports}
 use Rattle.command_reads.specs.BadLooks.{LooksBad}
 use Rattle.command_reads.specs.Look.{Looks}
-use Rattle.command_reads.specs.declared.comparison.Comparison.{Comparison}
-use Rattle.command_reads.specs.declared.comparison.Comparison.TheVariants as comparisons
+use Rattle.command_terms.specs.declared.comparison.Comparison.{Comparison}
+use Rattle.command_terms.specs.declared.comparison.Comparison.TheVariants as comparisons
 use Rattle.command_reads.specs.declared.diff.NamedImage.{NamedImage}
 use Rattle.command_reads.specs.declared.bad_looks.BadBlocks.TheVariants as bads
-use Rattle.command_reads.specs.declared.bad_looks.BadLook.{BadLook}
-use Rattle.command_reads.specs.declared.bad_looks.BadLook.TheVariants as bad_looks
+use Rattle.command_terms.specs.declared.bad_looks.BadLook.{BadLook}
+use Rattle.command_terms.specs.declared.bad_looks.BadLook.TheVariants as bad_looks
 use Rattle.command_reads.specs.declared.bad_looks.BadMap.{BadMap}
-use Rattle.command_reads.specs.declared.looks.DumpTarget.{DumpTarget}
-use Rattle.command_reads.specs.declared.looks.DumpTarget.TheVariants as targets
-use Rattle.command_reads.specs.declared.looks.ExportOptions.{ExportOptions}
-use Rattle.command_reads.specs.declared.looks.Look.{Look}
-use Rattle.command_reads.specs.declared.looks.Look.TheVariants as looks
-use Rattle.command_reads.specs.declared.looks.NodeName.{NodeName}
-use Rattle.command_reads.specs.declared.looks.NodeName.TheVariants as nodes
-use Rattle.command_reads.specs.declared.looks.OutputForm.{OutputForm}
-use Rattle.command_reads.specs.declared.looks.OutputForm.TheVariants as forms
-use Rattle.command_reads.specs.declared.looks.Picture.{Picture}
-use Rattle.command_reads.specs.declared.looks.Picture.TheVariants as pictures
+use Rattle.command_terms.specs.declared.looks.DumpTarget.{DumpTarget}
+use Rattle.command_terms.specs.declared.looks.DumpTarget.TheVariants as targets
+use Rattle.command_terms.specs.declared.looks.ExportOptions.{ExportOptions}
+use Rattle.command_terms.specs.declared.looks.Look.{Look}
+use Rattle.command_terms.specs.declared.looks.Look.TheVariants as looks
+use Rattle.command_terms.specs.declared.looks.NodeName.{NodeName}
+use Rattle.command_terms.specs.declared.looks.NodeName.TheVariants as nodes
+use Rattle.command_terms.specs.declared.looks.OutputForm.{OutputForm}
+use Rattle.command_terms.specs.declared.looks.OutputForm.TheVariants as forms
+use Rattle.command_terms.specs.declared.looks.Picture.{Picture}
+use Rattle.command_terms.specs.declared.looks.Picture.TheVariants as pictures
 use Rattle.vol_fields.specs.declared.lines.Radix.TheVariants.{Hex}
 use Rattle.vol_layout.specs.declared.edition.Edition.{Edition}
 use Rattle.vol_listing.specs.declared.options.ListOptions.{ListOptions}

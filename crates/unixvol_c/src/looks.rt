@@ -4,7 +4,7 @@ ghost use Rattle.std.specs.Str.{IsUtf8};
 ghost use Rattle.vol_fields.specs.declared.lines.Radix.TheVariants.{Hex};
 ghost use Rattle.vol_listing.specs.declared.options.Screen.TheVariants.{Stream};
 ghost use Rattle.command_reads.specs.Look.{Looks};
-ghost use Rattle.command_reads.specs.declared.looks.Look.TheVariants as looks;
+ghost use Rattle.command_terms.specs.declared.looks.Look.TheVariants as looks;
 ghost use Rattle.unixvol_c.specs.Calls.{edition_of, IsNoEdition};
 ghost use Rattle.unixvol_c.specs.Kept.{HandsOut, IsKept};
 ghost use Rattle.unixvol_c.specs.Looks.{Compares, ComparesAs, IsAsked, IsComparison, IsDumpAt, IsGiven, IsNodeAt, LooksAt, RescuesAs};
@@ -21,9 +21,10 @@ use crate::{
 use command_faults::answer::tell;
 use command_reads::bad_looks::look_bad;
 use command_reads::diff::NamedImage;
-use command_reads::{
-    BadBlocks, BadLook, BadMap, Comparison, DumpTarget, ExportOptions, Look, LossOptions, NodeName,
-    OutputForm, Picture, look, show_comparison,
+use command_reads::{BadBlocks, BadMap, look, show_comparison};
+use command_terms::{
+    BadLook, Comparison, DumpTarget, ExportOptions, Look, LossOptions, NodeName, OutputForm,
+    Picture,
 };
 use pdp_words::IntoWrite;
 use std::alloc::{AllocError, Global};

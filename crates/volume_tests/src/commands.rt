@@ -1,12 +1,13 @@
 //! Commands as functions with streams for their output and faults. The program calls the functions beside these, and prints the faults itself.
 use crate::fixtures::{Stream, copied, stream, taken};
 use command_changes::{
-    Change, GivenFile, Kept, Migration, NewFile, do_change, migrate_command, mkfs_command, put_all,
+    GivenFile, Kept, NewFile, do_change, migrate_command, mkfs_command, put_all,
 };
 use command_faults::Answer;
 use command_reads::cat::cat;
 use command_reads::checkers::check;
-use command_reads::{Look, NodeName, OutputForm, get_files, look};
+use command_reads::{get_files, look};
+use command_terms::{Change, Look, Migration, NodeName, OutputForm};
 use pdp_words::FromRead;
 use pdp_words::test_streams::ScriptedReader;
 use std::alloc::Global;

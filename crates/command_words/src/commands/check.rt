@@ -9,7 +9,7 @@ use crate::given::{Given, flag_in};
 use crate::invocation::Invocation;
 use crate::parameters::{AT, EDITION, IMAGE, JSON, Need, Parameter, WordKind};
 use crate::read_words::{form_in, volume_in};
-use command_reads::Look;
+use command_terms::Look;
 use std::alloc::Global;
 
 pub(crate) const NAME: &str = "check";

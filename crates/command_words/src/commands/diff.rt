@@ -9,7 +9,7 @@ use crate::given::{Given, flag_in, text_in};
 use crate::invocation::Invocation;
 use crate::parameters::{EDITION, IMAGE, Need, Parameter, ValueName, WordKind};
 use crate::read_words::volume_in;
-use command_reads::Comparison;
+use command_terms::Comparison;
 use std::alloc::Global;
 
 pub(crate) const NAME: &str = "diff";

@@ -9,7 +9,7 @@ use crate::given::{Given, flag_in, text_in};
 use crate::invocation::Invocation;
 use crate::parameters::{AT, BELOW, EDITION, IMAGE, LOST, Need, Parameter, WordKind};
 use crate::read_words::volume_in;
-use command_reads::{BadLook, ExportOptions, LossOptions};
+use command_terms::{BadLook, ExportOptions, LossOptions};
 use std::alloc::Global;
 
 pub(crate) const NAME: &str = "export";

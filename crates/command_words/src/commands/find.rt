@@ -11,7 +11,7 @@ use crate::parameters::{
     AT, BELOW, EDITION, IMAGE, JSON, LOST, Need, Parameter, ValueName, WordKind,
 };
 use crate::read_words::{form_in, volume_in};
-use command_reads::BadLook;
+use command_terms::BadLook;
 use std::alloc::Global;
 
 pub(crate) const NAME: &str = "find";

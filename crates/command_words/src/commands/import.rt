@@ -11,7 +11,7 @@ use crate::parameters::{
     AT, CALL_NOW, EDITION, IMAGE, Need, Parameter, TRACE, ValueName, WordKind,
 };
 use crate::read_words::volume_in;
-use command_changes::Change;
+use command_terms::Change;
 use std::alloc::Global;
 use vol_import::ImportOptions;
 

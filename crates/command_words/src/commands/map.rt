@@ -8,7 +8,7 @@ use crate::given::{Given, excluded, flag_in};
 use crate::invocation::Invocation;
 use crate::parameters::{AT, EDITION, IMAGE, JSON, Need, Parameter, ValueName, WordKind};
 use crate::read_words::volume_in;
-use command_reads::{Look, Picture};
+use command_terms::{Look, Picture};
 use std::alloc::Global;
 
 pub(crate) const NAME: &str = "map";

@@ -10,7 +10,7 @@ use crate::invocation::Invocation;
 use crate::parameters::{Need, Parameter, UNREPLACED, ValueName, WordKind};
 use crate::read_words::made_in;
 use crate::texts;
-use command_changes::Migration;
+use command_terms::Migration;
 use std::alloc::Global;
 
 pub(crate) const NAME: &str = "migrate";

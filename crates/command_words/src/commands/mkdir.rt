@@ -11,7 +11,7 @@ use crate::parameters::{
     AT, CALL_NOW, DIRECTORY, EDITION, IMAGE, Need, Parameter, TRACE, WordKind,
 };
 use crate::read_words::volume_in;
-use command_changes::Change;
+use command_terms::Change;
 use std::alloc::Global;
 
 pub(crate) const NAME: &str = "mkdir";

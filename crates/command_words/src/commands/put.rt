@@ -10,7 +10,7 @@ use crate::parameters::{AT, EDITION, IMAGE, Need, Parameter, TRACE, ValueName, W
 use crate::read_words::volume_in;
 use crate::several::{PutFiles, file_in, files_in, no_more, not_empty};
 use crate::texts;
-use command_changes::{Change, Keep};
+use command_terms::{Change, Keep};
 use std::alloc::Global;
 
 pub(crate) const NAME: &str = "put";

@@ -10,7 +10,7 @@ use crate::given::{Given, flag_in, long_or, missing, moment_in};
 use crate::invocation::{BadImage, Invocation, MadeFile, VolumeFile};
 use crate::parameters::{AT, EDITION, IMAGE, Need, Parameter, UNREPLACED, ValueName, WordKind};
 use crate::read_words::volume_in;
-use command_changes::Repairing;
+use command_terms::Repairing;
 use std::alloc::Global;
 
 pub(crate) const NAME: &str = "repair";

@@ -9,7 +9,7 @@ use crate::given::{Given, flag_in, moment_in, text_in};
 use crate::invocation::Invocation;
 use crate::parameters::{AT, CALL_NOW, DIRECTORY, EDITION, IMAGE, Parameter, TRACE};
 use crate::read_words::volume_in;
-use command_changes::Change;
+use command_terms::Change;
 use std::alloc::Global;
 
 pub(crate) const NAME: &str = "rmdir";

@@ -9,7 +9,7 @@ use crate::given::{Given, flag_in, text_in};
 use crate::invocation::Invocation;
 use crate::parameters::{AT, BELOW, EDITION, IMAGE, JSON, LOST, Parameter};
 use crate::read_words::{form_in, volume_in};
-use command_reads::BadLook;
+use command_terms::BadLook;
 use std::alloc::Global;
 
 pub(crate) const NAME: &str = "sums";

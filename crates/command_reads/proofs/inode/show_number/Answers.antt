@@ -2,8 +2,8 @@ use Rattle.std.proofs.Common.{refl, subst, sym}
 use Rattle.command_faults.specs.Streams.{Streams, streams}
 use Rattle.command_reads.specs.Inode.{IsInodeText, IsInodeFault}
 use Rattle.command_reads.specs.Print.{ShowsIn, plainly}
-use Rattle.command_reads.specs.declared.looks.OutputForm.{OutputForm}
-use Rattle.command_reads.specs.declared.looks.OutputForm.TheVariants as forms
+use Rattle.command_terms.specs.declared.looks.OutputForm.{OutputForm}
+use Rattle.command_terms.specs.declared.looks.OutputForm.TheVariants as forms
 use Rattle.command_reads.proofs.Printed.{showing, string_sight}
 use Rattle.command_reads.proofs.inode.show_number.Goals as goal
 

@@ -4,7 +4,7 @@ use Rattle.vol_listing.specs.Listings.{shown_path}
 use Rattle.command_reads.specs.Export.{begun, told_status}
 use Rattle.command_reads.specs.Losses.{TellsExport, is_graded}
 use Rattle.command_reads.specs.Sums.{AreSumsIn, IsManifest}
-use Rattle.command_reads.specs.declared.looks.ExportOptions.{ExportOptions}
+use Rattle.command_terms.specs.declared.looks.ExportOptions.{ExportOptions}
 use Rattle.command_reads.proofs.sums.sums_of.Goals as goal
 
 pub returns : goal.returns

@@ -1,7 +1,7 @@
 use Rattle.std.proofs.Common.{[], ◌∙◌, ap, inl, inr, refl, rules, subst, sym}
 use Rattle.std.proofs.KnownBytes.{Keeps-refl}
 use Rattle.command_changes.specs.Changes.{changed}
-use Rattle.command_changes.specs.Needs.{needs_of}
+use Rattle.command_terms.specs.Needs.{needs_of}
 use Rattle.command_faults.specs.Streams.{still}
 use Rattle.unixvol.specs.Runs.{GaveArchive, GavePut, IsGivenTo, IsUngiven, IsUnread, wants_terminal}
 use Rattle.unixvol.proofs.Concluded.{ends_unread}

@@ -2,8 +2,8 @@ use Rattle.std.proofs.Common.{◌∙◌, ap, codes, inl, inr, refl, Some}
 use Rattle.command_faults.specs.Streams.{ErrorStream}
 use Rattle.vol_listing.specs.declared.options.Screen.TheVariants.{Stream}
 use Rattle.command_reads.specs.Look.{Looks}
-use Rattle.command_reads.specs.declared.bad_looks.BadLook.TheVariants as bad_looks
-use Rattle.command_reads.specs.declared.looks.Look.TheVariants as looks
+use Rattle.command_terms.specs.declared.bad_looks.BadLook.TheVariants as bad_looks
+use Rattle.command_terms.specs.declared.looks.Look.TheVariants as looks
 use Rattle.unixvol_c.specs.Looks.{RescuesAs, rescue_options}
 use Rattle.unixvol_c.proofs.KeptStreams.{kept_as, kept_shown}
 use Rattle.unixvol_c.proofs.looks.kept_rescue.Goals as goal

@@ -1,9 +1,9 @@
 -- What changes need besides the image.
-use Rattle.command_changes.specs.declared.changes.Change.{Change}
-use Rattle.command_changes.specs.declared.changes.Change.TheVariants as changes
-use Rattle.command_changes.specs.declared.changes.Needs.{Needs}
-use Rattle.command_changes.specs.declared.changes.Needs.TheVariants as needs
-use Rattle.command_changes.specs.declared.kept.Keep.TheVariants as keeps
+use Rattle.command_terms.specs.declared.changes.Change.{Change}
+use Rattle.command_terms.specs.declared.changes.Change.TheVariants as changes
+use Rattle.command_terms.specs.declared.changes.Needs.{Needs}
+use Rattle.command_terms.specs.declared.changes.Needs.TheVariants as needs
+use Rattle.command_terms.specs.declared.options.Keep.TheVariants as keeps
 
 -- what a change needs: `put` and `boot` their file, `import` an archive, and all others nothing (this project)
 abbrev pub needs_of : Change → Needs

@@ -1,0 +1,2 @@
+pub mod BadLooks
+pub mod Needs

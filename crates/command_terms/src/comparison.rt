@@ -1,0 +1,10 @@
+//! The ways in which `diff` compares two images.
+
+/// The way in which two images are compared.
+#[derive(Clone, Copy)]
+pub enum Comparison {
+    /// By their trees. With `times` the times of the last read and of the last change are compared too.
+    Tree { times: bool },
+    /// Field by field. With `all` each field is a line.
+    Fields { all: bool },
+}

@@ -10,7 +10,7 @@ use Rattle.command_faults.specs.declared.fault.Fault.TheVariants as faults
 -- the new image has a program in block 0, and zeros after it there; all other bytes are those of the old one (manual section 8, boot procedures)
 pub record HasProgram (program old new : List ℕ) : Type 0 where
   pub len : length new ≡ length old
-  pub program : (k : ℕ) → k < length program → slice_index new k ≡ slice_index program k
+  pub put : (k : ℕ) → k < length program → slice_index new k ≡ slice_index program k
   pub zeros : (k : ℕ) → length program ≤ k → k < 512 → slice_index new k ≡ 0
   pub others : (k : ℕ) → 512 ≤ k → slice_index new k ≡ slice_index old k
 

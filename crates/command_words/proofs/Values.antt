@@ -3,11 +3,15 @@ use Rattle.std.proofs.Common.{rules, ◌≡◌, ◌∙◌, ◌≤◌, ◌∷◌,
 use Rattle.std.specs.Borrow.{Bor}
 use Rattle.std.proofs.lemmas.List.{length-map}
 use Rattle.bad_maps.specs.Lists.{bytes_around}
+use Rattle.vol_layout.specs.declared.edition.Edition.{Edition}
 use Rattle.vol_layout.specs.declared.edition.Edition.TheVariants.{V7}
 use Rattle.command_terms.specs.declared.bad_looks.BadLook.TheVariants as bad_looks
 use Rattle.command_terms.specs.declared.looks.Look.TheVariants as looks
+use Rattle.command_words.specs.BadWords.{IsBadImageGiven, IsImageGiven, IsReadIfAny, sizes_of}
+use Rattle.command_words.specs.Disks.{disk_blocks}
 use Rattle.command_words.specs.Invocations.{AreValues, AsksForNothing, IsGiven, IsOneWrong, IsVolumeWrong, NameAsksFor, Words, is_set, verb_of}
 use Rattle.command_words.specs.Verbs.{Argument, IsNoCommand, arguments_of, on_volume, verb_name}
+use Rattle.command_words.specs.declared.invocation.BadImage.{BadImage}
 use Rattle.command_words.specs.declared.invocation.Invocation.{Invocation}
 use Rattle.command_words.specs.declared.invocation.Invocation.TheVariants as invocations
 use Rattle.command_words.specs.declared.verbs.Verb.{Verb}
@@ -22,6 +26,16 @@ scripts_value items words are least most =
       subst (λ (n : ℕ). 1 ≤ n) (sym same_length) least,
       subst (λ (n : ℕ). n ≤ 64) (sym same_length) most,
     )
+
+-- the words about an image with lost blocks are valid
+abbrev AreLostValues : Words → Type 0
+AreLostValues given = IsReadIfAny bytes_around (given (codes "bad-blocks")) × (IsReadIfAny sizes_of (given (codes "sizes")) × IsReadIfAny disk_blocks (given (codes "like")))
+
+none_values : (given : Words) → IsBadImageGiven given V7 (is_set (given (codes "cut"))) None → AreLostValues given
+none_values given none = (none_read bytes_around _ none.0.1, sizes_value given V7 None none.1)
+
+image_values : (given : Words) (edition : Edition) (image : BadImage) → IsImageGiven given edition (is_set (given (codes "cut"))) image → AreLostValues given
+image_values given edition image is = (list_value given edition (is_set (given (codes "cut"))) image is, sizes_value given edition image.sizes is.0)
 
 -- the words of an invocation are valid for its command's arguments: the search is made at each invocation
 pub values_given : (clock : Option ℕ) (given : Words) (invocation : Invocation) → IsGiven clock given invocation
@@ -43,14 +57,12 @@ values_given clock given (invocations.LookBad volume image (bad_looks.Find path 
     let sizes = sizes_value given volume.edition image.sizes is.1.4.0 in
     let list = list_value given volume.edition (is_set (given (codes "cut"))) image is.1.4 in
     search (rules, list, sizes)
-values_given clock given (invocations.Repair volume copy repairing) is =
-    let sizes = sizes_value given V7 None is.1.1 in
-    let list = none_read bytes_around _ is.1.0.1 in
-    search (rules, list, sizes)
+values_given clock given (invocations.Look volume (looks.Sums path form lost)) is = let whole = none_values given is.1.3 in search (rules, whole)
+values_given clock given (invocations.LookBad volume image (bad_looks.Sums path form lost)) is =
+    let whole = image_values given volume.edition image is.1.3 in search (rules, whole)
+values_given clock given (invocations.Repair volume copy repairing) is = let whole = none_values given is.1 in search (rules, whole)
 values_given clock given (invocations.RepairBad volume image copy repairing) is =
-    let sizes = sizes_value given volume.edition image.sizes is.1.0 in
-    let list = list_value given volume.edition (is_set (given (codes "cut"))) image is.1 in
-    search (rules, list, sizes)
+    let whole = image_values given volume.edition image is.1 in search (rules, whole)
 values_given clock given invocation is = search (rules, scripts_value)
 
 -- if all words are valid, none of them is wrong

@@ -7,7 +7,7 @@ use Rattle.command_changes.proofs.TouchedNodes.{touch_leaves}
 use Rattle.command_changes.proofs.TracedCalls.{calls_among, leaving_among, removal_among}
 use Rattle.command_changes.proofs.change.perform.Goals as goal
 use Rattle.command_changes.proofs.change.perform.Goals.{in-Put, in-RmAll, in-MkdirAll, in-Mv, in-Touch, in-Rm, in-Rmdir, in-Mkdir, in-Ln, in-Chmod, in-Chown}
-use Rattle.std.proofs.Common.{refl}
+use Rattle.std.proofs.Common.{refl, sym}
 
 pub returns-in-Import : goal.returns-in-Import
 returns-in-Import c = rw c.in-Import.is
@@ -19,7 +19,7 @@ returns-in-Salvage c = rw c.in-Salvage.is
 
 pub returns-in-Boot : goal.returns-in-Boot
 returns-in-Boot c = rw c.in-Boot.is
-    (among _ _ _ _ _ refl c.boot.ensures.booted c.boot.ensures.fault c.unremarked.ensures)
+    (rw (sym c.deref.ensures.value) (among _ _ _ _ _ refl c.boot.ensures.booted c.boot.ensures.fault c.unremarked.ensures))
 
 pub returns : goal.returns
 returns c = elim c.match-change.branch [

@@ -19,7 +19,7 @@ returns-in-Salvage c = rw c.in-Salvage.is
 
 pub returns-in-Boot : goal.returns-in-Boot
 returns-in-Boot c = rw c.in-Boot.is
-    (rw (sym c.deref.ensures.value) (among _ _ _ _ _ refl c.boot.ensures.booted c.boot.ensures.fault c.unremarked.ensures))
+    (rw (sym c.deref.ensures.value) (among _ _ _ _ _ refl c.boot.ensures.booted c.boot.ensures.fault c.unremarked-in-Boot.ensures))
 
 pub returns : goal.returns
 returns c = elim c.match-change.branch [

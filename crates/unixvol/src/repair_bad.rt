@@ -12,6 +12,7 @@ use crate::look_bad::{read_bad, read_known};
 use crate::save::{explain_there, is_kept, save_over};
 use crate::subject::Subject;
 use command_changes::repair_losses::{ending_with, ending_with_report};
+use command_changes::salvage::ReportedVolume;
 use command_changes::{RescuedVolume, repair_rescued};
 use command_faults::status::DONE;
 use command_faults::{Ending, Fault};
@@ -114,7 +115,11 @@ fn repair_read<R: ImageFiles + Clock + Eprint + AllocGlobal, O: Sink>(
     };
     match copy {
         Some(copy) => save_rescued(host, output, copy, old, repaired),
-        None => print_text(&repaired.made.report, ending_with(repaired.losses), output),
+        None => {
+            let RescuedVolume { made, losses } = repaired;
+            let ending = ending_with(losses);
+            print_text(&made.report, ending, output)
+        }
     }
 }
 
@@ -137,8 +142,10 @@ fn save_rescued<R: ImageFiles + Clock + Eprint + AllocGlobal, O: Sink>(
             fault: None,
         };
     }
+    let RescuedVolume { made, losses } = repaired;
+    let ReportedVolume { bytes, report } = made;
     let is_output = is_output(host.rt, copy.path);
-    let status = save_over(host, copy.path, old, &repaired.made.bytes, DONE);
+    let status = save_over(host, copy.path, old, &bytes, DONE);
     if status != DONE {
         return Ending {
             status,
@@ -146,9 +153,10 @@ fn save_rescued<R: ImageFiles + Clock + Eprint + AllocGlobal, O: Sink>(
         };
     }
     if !is_output {
-        return print_text(&repaired.made.report, ending_with(repaired.losses), output);
+        let ending = ending_with(losses);
+        return print_text(&report, ending, output);
     }
-    match ending_with_report(repaired.made.report, &repaired.losses) {
+    match ending_with_report(report, &losses) {
         Ok(ending) => print_text(b"", ending, output),
         Err(_) => Ending::from(Fault::Refused(Refusal::NoMemory)),
     }

@@ -32,7 +32,7 @@ _unixvol() {
     while [[ ${before[0]:-} == -* ]]; do before=("${before[@]:1}"); done
     command=${before[0]:-}
     if [ -z "$command" ]; then
-        mapfile -t COMPREPLY < <(compgen -W 'cat ls get find export sums inode super free block dump diff df map check icheck dcheck ncheck mkfs put import rm rmdir mkdir ln mv chmod chown touch salvage repair resize play migrate serve identify help --explain -h --help -V --version' -- "$current")
+        mapfile -t COMPREPLY < <(compgen -W 'cat ls get find export sums inode super free block dump diff df map check icheck dcheck ncheck mkfs put import rm rmdir mkdir ln mv chmod chown touch boot salvage repair resize play migrate serve identify help --explain -h --help -V --version' -- "$current")
         return
     fi
     case $command in
@@ -41,7 +41,7 @@ _unixvol() {
         get) kinds='6,7,any file path any...' options='--at -o --output -p --preserve --explain -h --help' valued='--at=any -o=file --output=file' changing='-o --output' others='6,7,any file path...' ;;
         find) kinds='6,7,any file path' options='--at -g --name --lost --cut --bad --bad-blocks --sizes --like --json --explain -h --help' valued='--at=any -g=any --name=any --bad=file --bad-blocks=any --sizes=any --like=rk05,rk06,rk07,rl01,rl02,rm03,rp03,rp04,rp06,rx01,rx02' ;;
         export) kinds='6,7,any file path' options='--at --lost --cut --bad --bad-blocks --sizes --like --damaged --status --explain -h --help' valued='--at=any --bad=file --bad-blocks=any --sizes=any --like=rk05,rk06,rk07,rl01,rl02,rm03,rp03,rp04,rp06,rx01,rx02' ;;
-        sums) kinds='6,7,any file path' options='--at --lost --json --explain -h --help' valued='--at=any' ;;
+        sums) kinds='6,7,any file path' options='--at --lost --cut --bad --bad-blocks --sizes --like --json --explain -h --help' valued='--at=any --bad=file --bad-blocks=any --sizes=any --like=rk05,rk06,rk07,rl01,rl02,rm03,rp03,rp04,rp06,rx01,rx02' ;;
         inode) kinds='6,7,any file any' options='--at --json --explain -h --help' valued='--at=any' ;;
         super) kinds='6,7,any file' options='--at --json --explain -h --help' valued='--at=any' ;;
         free) kinds='6,7,any file' options='--at --json --explain -h --help' valued='--at=any' ;;
@@ -65,8 +65,9 @@ _unixvol() {
         chmod) kinds='6,7,any file path any any' options='--at --trace --explain -h --help' valued='--at=any' ;;
         chown) kinds='6,7,any file path any any any' options='--at --trace --explain -h --help' valued='--at=any' ;;
         touch) kinds='6,7,any file path any' options='--at --trace --explain -h --help' valued='--at=any' ;;
+        boot) kinds='6,7,any file file' options='--at --explain -h --help' valued='--at=any' ;;
         salvage) kinds='6,7,any file' options='--at -o --output -n --dry-run --explain -h --help' valued='--at=any -o=file --output=file' ;;
-        repair) kinds='6,7,any file file any' options='--at --new -n --dry-run --blocks --explain -h --help' valued='--at=any --blocks=any' ;;
+        repair) kinds='6,7,any file file any' options='--at --new -n --dry-run --blocks --cut --bad --bad-blocks --sizes --like --explain -h --help' valued='--at=any --blocks=any --bad=file --bad-blocks=any --sizes=any --like=rk05,rk06,rk07,rl01,rl02,rm03,rp03,rp04,rp06,rx01,rx02' ;;
         resize) kinds='6,7,any file any' options='--at -n --dry-run --explain -h --help' valued='--at=any' ;;
         play) kinds='6,7,any file file...' options='--at --journal --trace --explain -h --help' valued='--at=any' ;;
         migrate) kinds='file file any any any' options='--new --at --explain -h --help' valued='--at=any' ;;

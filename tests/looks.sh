@@ -506,7 +506,8 @@ keys_of() {
     done > printed
     has "the keys of $1 --json" '' "$(python3 "$data/keys.py" "$samples/../docs/JSON.md" "$1" < printed)"
 }
-for command in ls 'ls --slots' find sums map super df free check; do keys_of "$command" ''; done
+for command in ls 'ls --slots' find map super df free check; do keys_of "$command" ''; done
+keys_of sums '' '--bad-blocks 10-30'
 for command in icheck dcheck ncheck inode; do keys_of $command 1; done
 keys_of block 0 2 5 19
 

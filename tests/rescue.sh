@@ -443,8 +443,8 @@ has 'each range of lost bytes' 2 "$(grep -o '"lost":\[\[22016,23040\]\]\|"lost":
 has 'sums --json where a free block is lost' '1 unixvol: 1 of 4872 blocks are lost' "$? $(cat error)"
 cmp -s found whole.json
 has 'its objects' 0 $?
-"$program" sums 7 many.img --bad-blocks 3 > found 2> error
-has 'the line of an entry whose i-node is lost' 1 "$(grep -c '^unixvol: e9: i-node 11 is lost$' error)"
+"$program" sums 7 many.img --bad-blocks 4 > found 2> error
+has 'the line of an entry whose i-node is lost' 1 "$(grep -c '^unixvol: e9: i-node 24 is lost$' error)"
 has 'no line of the manifest is of it' 0 "$(grep -c ' e9$' found)"
 "$program" sums 7 dir.img --bad-blocks "$last" --json > found 2> error
 has 'the lost bytes of a directory' 1 "$(grep -o '"kind":"directory","links":[0-9]*,"lost":\[\[512,672\]\]' found | wc -l)"
@@ -639,7 +639,7 @@ refuses 3 'unixvol: cannot read missing.map' repair --bad missing.map 7 one.img 
 refuses 3 'unixvol: cannot write cut.img' repair --cut 7 cut.img cut.img
 misread "error: the argument '--bad-blocks' cannot be used with '--bad'" repair --bad-blocks 12 --bad half.map 7 b.img new
 misread "error: the argument '--like' cannot be used with '--sizes'" repair --like rk05 --sizes 4872,100 7 b.img new
-misread "error: invalid value '5-3' for '<bad-blocks>'" repair --bad-blocks 5-3 7 b.img new
+misread "error: invalid value '5-3' for '--bad-blocks <LIST>'" repair --bad-blocks 5-3 7 b.img new
 mends 5 7 cut.img --cut
 cat report error > wanted
 cp new plain

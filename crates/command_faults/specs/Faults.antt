@@ -1,5 +1,7 @@
 -- The faults of commands, with their statuses and lines.
-use Rattle.std.specs.Prelude.{ℕ, ◌+◌, ◌/◌, ◌%◌, ◌++◌, ◌&&◌, true, nat_lt, if◌then◌else◌, List, [], ◌∷◌, Option, None, Some, codes}
+use Rattle.std.specs.Prelude.{ℕ, ◌++◌, true, List, [], Option, None, Some, codes}
+use Rattle.vol_dir.specs.Refusals.{refusal_text}
+use Rattle.vol_judge.specs.RuleTexts.{unsound_text}
 use Rattle.vol_judge.specs.Sound.{IsSound, IsLeastBroken}
 use Rattle.vol_dir.specs.declared.refusal.Refusal.{Refusal}
 use Rattle.vol_dir.specs.declared.refusal.Refusal.TheVariants as refusals
@@ -27,30 +29,11 @@ fault_status faults.Output = 3
 
 -- the line of a refusal: its number and its name (this project)
 abbrev pub line_of_refusal : Refusal → List ℕ
-line_of_refusal refusals.NotOwner = codes "unixvol: 1 NotOwner\n"
-line_of_refusal refusals.NoEntry = codes "unixvol: 2 NoEntry\n"
-line_of_refusal refusals.NoMemory = codes "unixvol: 12 NoMemory\n"
-line_of_refusal refusals.Access = codes "unixvol: 13 Access\n"
-line_of_refusal refusals.Exists = codes "unixvol: 17 Exists\n"
-line_of_refusal refusals.NotDirectory = codes "unixvol: 20 NotDirectory\n"
-line_of_refusal refusals.IsDirectory = codes "unixvol: 21 IsDirectory\n"
-line_of_refusal refusals.Invalid = codes "unixvol: 22 Invalid\n"
-line_of_refusal refusals.TooBig = codes "unixvol: 27 TooBig\n"
-line_of_refusal refusals.NoSpace = codes "unixvol: 28 NoSpace\n"
-line_of_refusal refusals.TooManyLinks = codes "unixvol: 31 TooManyLinks\n"
-line_of_refusal refusals.NotEmpty = codes "unixvol: 101 NotEmpty\n"
-line_of_refusal refusals.NotRegular = codes "unixvol: 102 NotRegular\n"
-line_of_refusal refusals.NoInode = codes "unixvol: 103 NoInode\n"
-line_of_refusal refusals.BadId = codes "unixvol: 104 BadId\n"
-
--- the digits of a number below 100 (this project)
-abbrev pub short_decimal : ℕ → List ℕ
-short_decimal n = if nat_lt n 10 then (48 + n) ∷ [] else (48 + n / 10) ∷ (48 + n % 10) ∷ []
+line_of_refusal refusal = codes "unixvol: " ++ refusal_text refusal ++ codes "\n"
 
 -- the line of a broken rule; a number outside 1 to 12 is left out (this project)
 abbrev pub line_of_rule : ℕ → List ℕ
-line_of_rule rule =
-    if nat_lt 0 rule && nat_lt rule 13 then codes "unixvol: unsound, rule " ++ short_decimal rule ++ codes "\n" else codes "unixvol: unsound\n"
+line_of_rule rule = codes "unixvol: " ++ unsound_text rule ++ codes "\n"
 
 -- the line on standard error of a fault, or the lines (this project)
 abbrev pub fault_line : Fault → List ℕ

@@ -39,22 +39,6 @@ const NOTHING_EXPORTED: &str = "; nothing is exported";
 /// The text for an export that wrote nothing of a volume that was cut off.
 const NOT_CUT: &str = "; nothing is exported: add --cut to read what is there";
 
-/// The twelve rules of soundness, in the order of their numbers.
-static RULES: [Rule; 12] = [
-    Rule::Whole,
-    Rule::Bounded,
-    Rule::Kinds,
-    Rule::Sizes,
-    Rule::Zoned,
-    Rule::Listed,
-    Rule::Apart,
-    Rule::Covered,
-    Rule::Entries,
-    Rule::Dots,
-    Rule::Tree,
-    Rule::Links,
-];
-
 /// Returns the meaning of a fault, with the subject of the command. `sizes` are the sizes in the image, if available. Returns `None` for other faults
 /// in words, such as those of `export` and `import`.
 pub fn meaning_of(
@@ -170,7 +154,7 @@ fn rule_meaning(
     subject: Subject<'_>,
     sizes: Option<Sizes>,
 ) -> Result<Option<String>, AllocError> {
-    let Some(rule) = rule_of(rule) else {
+    let Some(rule) = rule.and_then(Rule::at_number) else {
         return Ok(None);
     };
     let image = shown(alloc, subject.image)?;
@@ -235,12 +219,6 @@ fn sizes_meaning(
     }
     text.push_str(&more)?;
     Ok(text)
-}
-
-/// Returns the rule with a number.
-fn rule_of(number: Option<u8>) -> Option<Rule> {
-    let number = number?;
-    RULES.iter().copied().find(|rule| rule.number() == number)
 }
 
 /// Returns the meaning of a script's line that can't be read.

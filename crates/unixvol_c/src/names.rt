@@ -1,9 +1,20 @@
 //! The meanings of the numbers that the functions return.
 ghost use Rattle.std.specs.Prelude.{◌≡◌, ◌<◌, ◌≤◌, length, take, drop};
-ghost use Rattle.unixvol_c.specs.Numbers.{number_text, own_text, refusal_text, rule_text};
+ghost use Rattle.unixvol_c.specs.Numbers.{number_text, own_text, refusal_text};
 
 use crate::queries::put_text;
 use crate::{DONE, NO_ROOM};
+use vol_dir::Refusal;
+use vol_judge::rules;
+
+macro_rules! rule_text {
+    ($rule:expr, $($name:ident = $number:literal,)*) => {
+        match $rule {
+            $($number => concat!("unsound, rule ", $number),)*
+            _ => "unknown",
+        }
+    };
+}
 
 /// Puts the text of a number that a function returned, such as `NoEntry` or `unsound, rule 7`, into a buffer, and sets `count` to its length. If the
 /// buffer is too short, sets only `count`. Takes no memory.
@@ -24,7 +35,7 @@ fn number_text(number: u16) -> &'static str
     if number < 200 {
         refusal_text(number)
     } else if number < 300 {
-        rule_text(number)
+        rules!(rule_text, number - 200)
     } else {
         own_text(number)
     }
@@ -36,44 +47,11 @@ fn refusal_text(number: u16) -> &'static str
 {
     match number {
         0 => "done",
-        1 => "NotOwner",
-        2 => "NoEntry",
-        12 => "NoMemory",
-        13 => "Access",
-        17 => "Exists",
-        20 => "NotDirectory",
-        21 => "IsDirectory",
-        22 => "Invalid",
-        27 => "TooBig",
-        28 => "NoSpace",
-        31 => "TooManyLinks",
-        101 => "NotEmpty",
-        102 => "NotRegular",
-        103 => "NoInode",
-        104 => "BadId",
         112 => "NotRepaired",
-        _ => "unknown",
-    }
-}
-
-/// Returns the text of a broken rule.
-fn rule_text(number: u16) -> &'static str
-    ensures { result.now ≡ rule_text number }
-{
-    match number {
-        201 => "unsound, rule 1",
-        202 => "unsound, rule 2",
-        203 => "unsound, rule 3",
-        204 => "unsound, rule 4",
-        205 => "unsound, rule 5",
-        206 => "unsound, rule 6",
-        207 => "unsound, rule 7",
-        208 => "unsound, rule 8",
-        209 => "unsound, rule 9",
-        210 => "unsound, rule 10",
-        211 => "unsound, rule 11",
-        212 => "unsound, rule 12",
-        _ => "unknown",
+        _ => match Refusal::at_number(number) {
+            Some(refusal) => refusal.name(),
+            None => "unknown",
+        },
     }
 }
 

@@ -3,7 +3,10 @@ use Rattle.std.specs.Prelude.{◌≡◌, ℕ, ◌&&◌, Bool, true, false, not, 
 use Rattle.std.specs.List.{flat_map, list_all}
 use Rattle.std.specs.Result.{is_ok}
 use Rattle.vol_layout.specs.Geometry.{geometry_read}
+use Rattle.vol_judge.specs.RuleTexts.{rule_number, rule_sentence}
 use Rattle.vol_judge.specs.Sound.{IsSound, IsJudged}
+use Rattle.vol_judge.specs.declared.rules.Rule.{Rule}
+use Rattle.vol_judge.specs.declared.rules.Rule.TheVariants as rules
 use Rattle.vol_layout.specs.declared.edition.Edition.{Edition}
 use Rattle.vol_layout.specs.declared.edition.Edition.TheVariants.{V6, V7}
 use Rattle.vol_findings.specs.Outcomes.{Tells}
@@ -12,38 +15,6 @@ use Rattle.vol_findings.specs.declared.outcome.RuleOutcome.{RuleOutcome}
 use Rattle.vol_findings.specs.declared.outcome.RuleOutcome.TheVariants.{Holds, Broken, NotAsked}
 use Rattle.vol_findings.specs.declared.outcome.RuleOutcomes.{RuleOutcomes}
 use Rattle.vol_findings.specs.declared.report.RuleLine.{RuleLine}
-use Rattle.vol_findings.specs.declared.rules.Rule.{Rule}
-use Rattle.vol_findings.specs.declared.rules.Rule.TheVariants as rules
-
--- the number of a rule (this project)
-abbrev pub rule_number : Rule → ℕ
-rule_number rules.Whole = 1
-rule_number rules.Bounded = 2
-rule_number rules.Kinds = 3
-rule_number rules.Sizes = 4
-rule_number rules.Zoned = 5
-rule_number rules.Listed = 6
-rule_number rules.Apart = 7
-rule_number rules.Covered = 8
-rule_number rules.Entries = 9
-rule_number rules.Dots = 10
-rule_number rules.Tree = 11
-rule_number rules.Links = 12
-
--- the requirement of a rule, in plain words (this project)
-abbrev pub rule_sentence : Rule → List ℕ
-rule_sentence rules.Whole = codes "the image has all blocks of the volume"
-rule_sentence rules.Bounded = codes "the sizes are within their limits"
-rule_sentence rules.Kinds = codes "each mode is known and the root is a directory"
-rule_sentence rules.Sizes = codes "file sizes and link counts are within their limits"
-rule_sentence rules.Zoned = codes "each number that a file names is a data block"
-rule_sentence rules.Listed = codes "the free list names data blocks, each once"
-rule_sentence rules.Apart = codes "no block is used twice"
-rule_sentence rules.Covered = codes "each data block is used or free"
-rule_sentence rules.Entries = codes "each entry has a name of its own and an i-node"
-rule_sentence rules.Dots = codes "each directory has . for itself and .. for its parent"
-rule_sentence rules.Tree = codes "each directory is entered once and reached from the root"
-rule_sentence rules.Links = codes "each link count is the number of entries"
 
 -- the line of a rule: its number, its requirement, and its outcome (this project)
 abbrev pub line_text : RuleLine → List ℕ

@@ -4,13 +4,11 @@
 mod blocks;
 mod outcome;
 mod report;
-mod rules;
 mod texts;
 
 pub use outcome::{RuleOutcome, RuleOutcomes, check_rules};
 pub use report::{
     RuleLine, RuleReport, are_held, edition_number, lines_of, make_report, other_edition,
 };
-pub use rules::Rule;
 pub use texts::{Spot, spot_of, words_of};
-pub use vol_judge::Finding;
+pub use vol_judge::{Finding, Rule};

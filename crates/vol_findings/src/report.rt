@@ -4,10 +4,10 @@ ghost use Rattle.vol_layout.specs.Edition.{constants};
 ghost use Rattle.vol_findings.specs.Reports.{line_text, lines_of, report_text, note_text, other_edition, edition_number, are_held, lines_text, IsReport};
 
 use crate::outcome::{RuleOutcome, RuleOutcomes, check_rules};
-use crate::rules::Rule;
 use pdp_words::Image;
 use std::alloc::{AllocError, Global};
 use std::fmt;
+use vol_judge::Rule;
 use vol_layout::{Edition, Geometry};
 
 /// A rule and its outcome.

@@ -24,6 +24,7 @@ pub mod Lost
 pub mod Marks
 pub mod DirectoryNames
 pub mod Reach
+pub mod RuleTexts
 pub mod SharedBlocks
 pub mod Sound
 pub mod Steps

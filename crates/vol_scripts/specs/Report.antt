@@ -3,7 +3,8 @@ use Rattle.std.specs.Prelude.{ℕ, ◌+◌, ◌++◌, List, [], ◌∷◌, Optio
 use Rattle.vol_dir.specs.declared.refusal.Refusal.TheVariants as refusals
 use Rattle.vol_receipts.specs.declared.receipts.Outcome.{Outcome}
 use Rattle.vol_receipts.specs.declared.receipts.Outcome.TheVariants as outcomes
-use Rattle.vol_scripts.specs.Texts.{done_text, refusal_text, reply_text}
+use Rattle.vol_dir.specs.Refusals.{refusal_text}
+use Rattle.vol_scripts.specs.Texts.{done_text, reply_text}
 use Rattle.vol_scripts.specs.declared.played.Played.{Played}
 use Rattle.vol_scripts.specs.declared.played.Played.TheVariants as played
 

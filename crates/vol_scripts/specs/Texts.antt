@@ -1,8 +1,6 @@
 -- The texts of outcomes.
 use Rattle.std.specs.Prelude.{ℕ, ◌+◌, ◌/◌, ◌%◌, ◌++◌, List, [], ◌∷◌, length, codes, decimal}
 use Rattle.hex.specs.Hex.{encode_lower}
-use Rattle.vol_dir.specs.declared.refusal.Refusal.{Refusal}
-use Rattle.vol_dir.specs.declared.refusal.Refusal.TheVariants as refusals
 use Rattle.vol_layout.specs.declared.mode.Kind.{Kind}
 use Rattle.vol_layout.specs.declared.mode.Kind.TheVariants as kinds
 use Rattle.vol_volume.specs.declared.calls.Done.{Done}
@@ -16,24 +14,6 @@ abbrev pub done_text : Done → List ℕ
 done_text (dones.Made number) = codes "ok " ++ decimal number
 done_text (dones.Wrote count) = codes "ok " ++ decimal count
 done_text dones.Plain = codes "ok 0"
-
--- the number and the name of a refusal (this project)
-abbrev pub refusal_text : Refusal → List ℕ
-refusal_text refusals.NotOwner = codes "1 NotOwner"
-refusal_text refusals.NoEntry = codes "2 NoEntry"
-refusal_text refusals.NoMemory = codes "12 NoMemory"
-refusal_text refusals.Access = codes "13 Access"
-refusal_text refusals.Exists = codes "17 Exists"
-refusal_text refusals.NotDirectory = codes "20 NotDirectory"
-refusal_text refusals.IsDirectory = codes "21 IsDirectory"
-refusal_text refusals.Invalid = codes "22 Invalid"
-refusal_text refusals.TooBig = codes "27 TooBig"
-refusal_text refusals.NoSpace = codes "28 NoSpace"
-refusal_text refusals.TooManyLinks = codes "31 TooManyLinks"
-refusal_text refusals.NotEmpty = codes "101 NotEmpty"
-refusal_text refusals.NotRegular = codes "102 NotRegular"
-refusal_text refusals.NoInode = codes "103 NoInode"
-refusal_text refusals.BadId = codes "104 BadId"
 
 -- the word for a kind of node; anything but a file or a directory is special (this project)
 abbrev pub kind_text : Kind → List ℕ

@@ -4,7 +4,7 @@ ghost use Rattle.std.specs.String.{string_bytes};
 ghost use Rattle.vol_scripts.specs.Report.{line_text, lines_text, step_line_text, outcome_text, totals_text};
 
 use crate::played::Played;
-use crate::texts::{done_text, refusal_text, reply_text};
+use crate::texts::{done_text, reply_text};
 use std::alloc::{AllocError, Global};
 use std::fmt::Write;
 use vol_dir::Refusal;
@@ -16,7 +16,7 @@ fn outcome_text(alloc: Global, outcome: &Outcome) -> Result<String, AllocError>
 {
     match outcome {
         Outcome::Accepted(done) => done_text(alloc, *done),
-        Outcome::Refused(refusal) => String::from_str(alloc, refusal_text(*refusal)),
+        Outcome::Refused(refusal) => String::from_str(alloc, refusal.text()),
         Outcome::Answered(reply) => reply_text(alloc, reply),
     }
 }
@@ -58,7 +58,7 @@ fn push_line(
             let came = format!(in alloc; "cut {first}")?;
             push_came(text, script, line, came.as_str())
         }
-        Played::NoMemory => push_came(text, script, line, refusal_text(Refusal::NoMemory)),
+        Played::NoMemory => push_came(text, script, line, Refusal::NoMemory.text()),
         Played::NotEntered => push_came(text, script, line, "NotEntered"),
         Played::View => Ok(()),
     }

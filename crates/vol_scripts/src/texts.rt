@@ -1,10 +1,9 @@
 //! The texts of outcomes.
 ghost use Rattle.std.specs.Prelude.{◌≡◌, IfOk};
 ghost use Rattle.std.specs.String.{string_bytes};
-ghost use Rattle.vol_scripts.specs.Texts.{bytes_text, done_text, kind_text, node_text, permissions_text, refusal_text, reply_text, stat_text};
+ghost use Rattle.vol_scripts.specs.Texts.{bytes_text, done_text, kind_text, node_text, permissions_text, reply_text, stat_text};
 
 use std::alloc::{AllocError, Global};
-use vol_dir::Refusal;
 use vol_layout::Kind;
 use vol_volume::{Done, Reply, Stat};
 
@@ -92,27 +91,4 @@ pub(crate) fn permissions_text(alloc: Global, bits: u16) -> Result<String, Alloc
     let digits = [bits / 512 % 8, bits / 64 % 8, bits / 8 % 8, bits % 8];
     let [first, second, third, fourth] = digits;
     format!(in alloc; "{first}{second}{third}{fourth}")
-}
-
-/// Returns the number and the name of a refusal.
-pub(crate) fn refusal_text(refusal: Refusal) -> &'static str
-    ensures { result.now ≡ refusal_text refusal }
-{
-    match refusal {
-        Refusal::NotOwner => "1 NotOwner",
-        Refusal::NoEntry => "2 NoEntry",
-        Refusal::NoMemory => "12 NoMemory",
-        Refusal::Access => "13 Access",
-        Refusal::Exists => "17 Exists",
-        Refusal::NotDirectory => "20 NotDirectory",
-        Refusal::IsDirectory => "21 IsDirectory",
-        Refusal::Invalid => "22 Invalid",
-        Refusal::TooBig => "27 TooBig",
-        Refusal::NoSpace => "28 NoSpace",
-        Refusal::TooManyLinks => "31 TooManyLinks",
-        Refusal::NotEmpty => "101 NotEmpty",
-        Refusal::NotRegular => "102 NotRegular",
-        Refusal::NoInode => "103 NoInode",
-        Refusal::BadId => "104 BadId",
-    }
 }

@@ -1,6 +1,6 @@
 //! The twelve rules of soundness, in words.
 ghost use Rattle.std.specs.Prelude.{◌≡◌};
-ghost use Rattle.vol_findings.specs.Reports.{rule_number, rule_sentence};
+ghost use Rattle.vol_judge.specs.RuleTexts.{rule_at, rule_number, rule_sentence};
 
 /// A rule of soundness.
 #[derive(Clone, Copy)]
@@ -31,25 +31,58 @@ pub enum Rule {
     Links,
 }
 
+/// The list of the rules with their numbers: hands it to the macro `$of_each`, after `$given`.
+#[macro_export]
+macro_rules! rules {
+    ($of_each:ident, $given:expr) => {
+        $of_each! {
+            $given,
+            Whole = 1,
+            Bounded = 2,
+            Kinds = 3,
+            Sizes = 4,
+            Zoned = 5,
+            Listed = 6,
+            Apart = 7,
+            Covered = 8,
+            Entries = 9,
+            Dots = 10,
+            Tree = 11,
+            Links = 12,
+        }
+    };
+}
+
+macro_rules! number {
+    ($rule:expr, $($name:ident = $number:literal,)*) => {
+        match $rule {
+            $(Rule::$name => $number,)*
+        }
+    };
+}
+
+macro_rules! at_number {
+    ($wanted:expr, $($name:ident = $number:literal,)*) => {
+        match $wanted {
+            $($number => Some(Rule::$name),)*
+            _ => None,
+        }
+    };
+}
+
 impl Rule {
+    /// Returns the rule with this number.
+    pub fn at_number(number: u8) -> Option<Rule>
+        ensures { result ≡ rule_at number }
+    {
+        rules!(at_number, number)
+    }
+
     /// Returns the rule's number, from 1 to 12.
     pub fn number(self) -> u8
         ensures { result ≡ rule_number self }
     {
-        match self {
-            Rule::Whole => 1,
-            Rule::Bounded => 2,
-            Rule::Kinds => 3,
-            Rule::Sizes => 4,
-            Rule::Zoned => 5,
-            Rule::Listed => 6,
-            Rule::Apart => 7,
-            Rule::Covered => 8,
-            Rule::Entries => 9,
-            Rule::Dots => 10,
-            Rule::Tree => 11,
-            Rule::Links => 12,
-        }
+        rules!(number, self)
     }
 
     /// Returns the rule's requirement, in plain words.

@@ -17,7 +17,8 @@ use Rattle.vol_judge.specs.SharedBlocks.{IsFirstTwice}
 use Rattle.vol_judge.specs.DirectoryTree.{IsFirstTree}
 use Rattle.vol_judge.specs.OutsideBlocks.{IsFirstOutside}
 use Rattle.vol_findings.specs.Outcomes.{Says, Tells, Keeps, HasGeometry}
-use Rattle.vol_findings.specs.Reports.{is_held, lines_of, are_held, first_unheld, rule_number}
+use Rattle.vol_findings.specs.Reports.{is_held, lines_of, are_held, first_unheld}
+use Rattle.vol_judge.specs.RuleTexts.{rule_number}
 use Rattle.vol_judge.specs.declared.finding.Finding.{Finding}
 use Rattle.vol_judge.specs.declared.finding.Finding.TheVariants.{TooShort, BadSizes}
 use Rattle.vol_findings.specs.declared.outcome.RuleOutcome.{RuleOutcome}

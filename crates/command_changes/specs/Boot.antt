@@ -18,8 +18,8 @@ pub record HasProgram (program old new : List ℕ) : Type 0 where
 abbrev pub IsBooted : Edition → List ℕ → List ℕ → List ℕ → Type 0
 IsBooted edition program old new = (length program ≤ 512) × HasProgram program old new × IsSound edition new
 
--- a reason not to put a program into block 0: it is larger than a block; or the first rule that the volume breaks, which doesn't depend on block 0; or
--- out of memory (this project)
+-- a reason not to put a program into block 0: it is larger than a block; or the first rule that the volume with the
+-- program breaks; or out of memory (this project)
 abbrev pub IsUnbooted : Edition → List ℕ → List ℕ → Fault → Type 0
 IsUnbooted edition program old fault =
     ((512 < length program) × (fault ≡ faults.Refused refusals.TooBig))

@@ -1,5 +1,5 @@
 -- The results and the faults of `repair`.
-use Rattle.std.specs.Prelude.{◌≡◌, ◌⊎◌, ℕ, ◌<◌, List, codes}
+use Rattle.std.specs.Prelude.{◌≡◌, ◌⊎◌, ℕ, ◌<◌, ◌≤◌, List, codes}
 use Rattle.vol_dir.specs.declared.refusal.Refusal.TheVariants as refusals
 use Rattle.vol_layout.specs.Edition.{constants}
 use Rattle.vol_layout.specs.declared.edition.Edition.{Edition}
@@ -29,9 +29,10 @@ repair_line repairs.NoMemory = line_of_refusal refusals.NoMemory
 abbrev pub TellsRepair : RepairFault → Fault → Type 0
 TellsRepair why fault = (fault_status fault ≡ repair_status why) × (fault_line fault ≡ repair_line why)
 
--- the fault for an image that isn't made longer: no volume of the edition has so many blocks; or memory ran out (this project)
+-- the fault for an image that isn't made longer: no volume of the edition has so many blocks; or one has, and memory ran out (this project)
 abbrev pub IsUnlengthened : Edition → ℕ → Fault → Type 0
-IsUnlengthened edition blocks fault = ((fault ≡ faults.Bounds) × ((constants edition).block_limit < blocks)) ⊎ (fault ≡ no_memory)
+IsUnlengthened edition blocks fault =
+    ((fault ≡ faults.Bounds) × ((constants edition).block_limit < blocks)) ⊎ ((fault ≡ no_memory) × (blocks ≤ (constants edition).block_limit))
 
 -- the fault for an image that isn't repaired has the status and the line for the reason (this project)
 abbrev pub IsLongerUnrepaired : Edition → List ℕ → Fault → Type 0

@@ -18,8 +18,8 @@ use Rattle.vol_losses.specs.declared.given_sizes.VolumeSizes.{VolumeSizes}
 use Rattle.vol_rescue.specs.Paths.{AreSoundAbove}
 use Rattle.command_reads.specs.Export.{AreFound}
 
--- the path of each entry that `find` prints, of one with an i-node and a name that a path can have, leads from the directory to the entry's i-number in
--- every volume that has the bytes of the known blocks, if there is no line about a directory above it; whatever the lost blocks held (this project)
+-- the path of each entry that `find` prints without `--lost`, and that an archive can hold, leads from the directory that was asked for to the entry's i-number
+-- in every volume that has the bytes of the known blocks, if there is no line about a directory between them; whatever the lost blocks held (this project)
 abbrev pub FoundPathsLeadRight : Type 0
 FoundPathsLeadRight = (edition : Edition) (ranges : List ReadRange) (at : ℕ) (sizes : Option VolumeSizes) (bytes volume image : List ℕ) (lost : List Bool)
     (start : FoundDirectory) (founds : List MetEntry) → IsRescued edition ranges at sizes bytes image lost → HasRead sizes ranges at bytes volume → Fits start.geometry image

@@ -19,21 +19,21 @@ pub(crate) const CUT: Parameter = Parameter {
     name: "cut",
     kind: WordKind::Flag,
     need: Need::Flag(None),
-    help: "Read an image that was cut off, and show what is whole, or right in spite of what is lost",
+    help: "Read an image that was cut off: the blocks that it lacks are lost",
 };
 
 pub(crate) const BAD: Parameter = Parameter {
     name: "bad",
     kind: WordKind::Text,
     need: Need::Value(None, ValueName::Map),
-    help: "Show what is right in what was read of IMAGE, by the map that ddrescue kept of it",
+    help: "Take the blocks as lost that weren't read, by the map that ddrescue kept of IMAGE",
 };
 
 pub(crate) const BAD_BLOCKS: Parameter = Parameter {
     name: "bad-blocks",
     kind: WordKind::BlockList,
     need: Need::Value(None, ValueName::Blocks),
-    help: "Show what is right without these blocks of the volume, as 12,878-4871; not with --bad",
+    help: "Take these blocks of the volume as lost, as 12,878-4871; not with --bad",
 };
 
 pub(crate) const SIZES: Parameter = Parameter {

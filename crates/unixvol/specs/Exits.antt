@@ -2,11 +2,11 @@
 use Rattle.std.specs.Prelude.{◌≡◌, ◌⊎◌, ℕ, Bool, false, List, Option}
 use Rattle.command_faults.specs.Streams.{Gets, Streams}
 
--- the exit status is the status of the run, or 3, if standard output failed at the end (this project)
+-- the exit status is the status of the run, or 3 (this project)
 abbrev pub Exits : ℕ → ℕ → Type 0
 Exits status end = (end ≡ status) ⊎ (end ≡ 3)
 
--- the exit status is the status of the run, or 3 in place of 0, if standard output failed at the end (this project)
+-- the exit status is the status of the run, or 3 in place of 0 (this project)
 abbrev pub ExitsAfterSaving : ℕ → ℕ → Type 0
 ExitsAfterSaving status end = (end ≡ status) ⊎ ((status ≡ 0) × (end ≡ 3))
 

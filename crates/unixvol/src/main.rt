@@ -38,7 +38,7 @@ use std::process::ExitCode;
 use std::rt::Clock;
 use std::time::{SystemTime, UNIX_EPOCH};
 
-/// Reads the words of the command line, and continues in one of ten functions. Each has only the rights that it needs: only commands with several
+/// Reads the words of the command line, and continues in one of several functions. Each has only the rights that it needs: only commands with several
 /// threads may wait, only those that show part of an image may print something and fail, only a change and a server read standard input, and only
 /// those that copy files to the host save several files.
 fn main(rt: HostRuntime) -> ExitCode {

@@ -1,4 +1,4 @@
-//! Makes several calls on a volume, all or none, and those that remove a path and everything below it.
+//! Makes several calls on a volume, up to the first that is refused, and those that remove a path and everything below it.
 #![tactic(auto)]
 
 pub mod batch;

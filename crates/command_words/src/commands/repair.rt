@@ -49,12 +49,12 @@ Each difference has a line:
 A sound volume has no line, and its copy is the same, unless --blocks makes it larger. The lines are on standard error if NEW is standard output.
 
 With --cut, --bad, --bad-blocks, --sizes and --like some blocks of IMAGE are lost, as `unixvol export --help` says. They are
-repaired as zeros. Each file keeps its size and the places of its bytes, so zeros are in place of what is lost of it. What
-is lost has lines on standard error, as `export` has them, with the paths of the copy:
+repaired as zeros. A file that fits keeps its size and the places of its bytes, so zeros are in place of what is lost of it.
+What is lost has lines on standard error, as `export` has them, with the paths of the copy:
   unixvol: 3994 of 4872 blocks are lost
   unixvol: f4: 10400 of 100000 bytes are lost: 89600-99999
-A file that fits and has no such line is right in the copy, whatever the lost blocks held. With --blocks, the image is
-first completed, up to the blocks that its super-block or --sizes states; the blocks appended to that aren't lost.
+Without --blocks, a file that fits and has no such line is right in the copy, whatever the lost blocks held. With
+--blocks, the image is first completed, up to the blocks that its super-block or --sizes states; the blocks appended to that aren't lost.
 
 Status:
   0  the copy is sound and was saved; with -n, it can be made; no block is lost

@@ -49,8 +49,8 @@ is no directory, these are all that is printed.
 With --cut, --bad, --bad-blocks, --sizes and --like, blocks of the image are lost, as `unixvol export --help` says of
 them. A file of which bytes are lost has a dash too, and with --json also \"lost\", its lost bytes: arrays of the first
 and the one after the last; so has a directory. The lines on standard error are then those of that export. Each
-SHA-256 is right, whatever the lost blocks held, and so are the other columns. Names are those that are
-left: an entry whose i-node is lost has only a line on standard error.
+SHA-256 is right, whatever the lost blocks held, and so are the other columns but the path. Names are those that
+are left: an entry whose i-node is lost has only a line on standard error.
 
 Status:
   0  everything is in the manifest, and the volume is sound

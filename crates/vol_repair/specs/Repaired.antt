@@ -1,7 +1,8 @@
 -- A repaired copy of an image, with the lines of what differs.
 use Rattle.std.specs.Prelude.{◌≡◌, ◌⊎◌, ℕ, ◌+◌, ◌*◌, ◌<◌, ◌≤◌, true, false, List, [], length, slice_index}
 use Rattle.std.specs.List.{All, list_any}
-use Rattle.vol_layout.specs.Geometry.{geometry_of}
+use Rattle.std.specs.Result.{is_ok}
+use Rattle.vol_layout.specs.Geometry.{geometry_of, geometry_read}
 use Rattle.vol_layout.specs.Inode.{inode_of}
 use Rattle.vol_layout.specs.declared.edition.Edition.{Edition}
 use Rattle.vol_layout.specs.declared.geometry.Geometry.{Geometry}
@@ -55,10 +56,10 @@ pub record IsRepaired (edition : Edition) (old new : List ℕ) (lines : List Rep
   pub mended : IsMended edition old new lines
   pub same : IsSound edition old → (new ≡ old) × (lines ≡ [])
 
--- the reason why an image isn't repaired: its sizes aren't known, since it breaks rule 1 or 2, whichever is first; it isn't sound, and wasn't mended;
--- or memory ran out (this project)
+-- the reason why an image isn't repaired: its sizes aren't known, since it breaks rule 1 or 2, whichever is first; its sizes are known, it isn't sound, and
+-- it wasn't mended; or memory ran out (this project)
 abbrev pub IsRepairFault : Edition → List ℕ → RepairFault → Type 0
 IsRepairFault edition image (faults.Unsized n) = IsLeastBroken true edition image n × (n ≤ 2)
-IsRepairFault edition image faults.NotRepaired = IsSound edition image → ⊥
-IsRepairFault edition image faults.NoSpace = IsSound edition image → ⊥
+IsRepairFault edition image faults.NotRepaired = (is_ok (geometry_read edition image) ≡ true) × (IsSound edition image → ⊥)
+IsRepairFault edition image faults.NoSpace = (is_ok (geometry_read edition image) ≡ true) × (IsSound edition image → ⊥)
 IsRepairFault edition image faults.NoMemory = Unit {0}

@@ -1,7 +1,8 @@
 //! The repair of a damaged volume, to a copy.
 ghost use Rattle.std.specs.Prelude.{◌≡◌, ◌≤◌, false, length, true, IfOk, IfErr, IfSome};
 ghost use Rattle.std.specs.List.{list_any};
-ghost use Rattle.vol_layout.specs.Geometry.{Fits, geometry_of};
+ghost use Rattle.std.specs.Result.{is_ok};
+ghost use Rattle.vol_layout.specs.Geometry.{Fits, geometry_of, geometry_read};
 ghost use Rattle.vol_judge.specs.Sound.{IsLeastBroken, IsSound};
 ghost use Rattle.vol_losses.specs.Losses.{AgreesOutside, is_lost};
 ghost use Rattle.vol_repair.specs.Repaired.{HasSameFront, HasSameList, IsRepaired, IsRepairFault, TellsAll};
@@ -106,6 +107,7 @@ fn repair_broken(
     rule: u8,
     now: u32,
 ) -> Result<Repaired, RepairFault>
+    requires sized { is_ok (geometry_read edition old.now) ≡ true }
     requires geometry { geometry.now ≡ geometry_of edition old.now }
     requires fits { Fits geometry.now old.now }
     requires broken { IsLeastBroken true edition old.now rule }
@@ -130,6 +132,7 @@ fn told(
     image: Image,
     unfit: &[bool],
 ) -> Result<Repaired, RepairFault>
+    requires sized { is_ok (geometry_read edition old.now) ≡ true }
     requires geometry { geometry.now ≡ geometry_of edition old.now }
     requires old { Fits geometry.now old.now }
     requires new { Fits geometry.now image }

@@ -1,4 +1,5 @@
-use Rattle.std.proofs.Common.{sym, true, arith}
+use Rattle.std.proofs.Common.{ap, sym, true, arith}
+use Rattle.std.specs.Result.{is_ok}
 use Rattle.vol_judge.proofs.RuleNumbers.{judged_short, judged_bounds, read_sizes}
 use Rattle.vol_repair.proofs.repaired_volume.repair.Goals as goal
 
@@ -18,3 +19,6 @@ repair_broken-requires-clause-geometry c = read_sizes c.args.edition c.args.old.
 
 pub repair_broken-requires-clause-broken : goal.repair_broken-requires-clause-broken
 repair_broken-requires-clause-broken c = rw c.in-Ok-Some.field-0-is at c.in-Ok-Some.ensures
+
+pub repair_broken-requires-clause-sized : goal.repair_broken-requires-clause-sized
+repair_broken-requires-clause-sized c = ap is_ok (sym c.in-Ok.ensures.exact)

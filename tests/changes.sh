@@ -281,15 +281,25 @@ END
     "$program" mkfs "$edition" start.img 40 3 0 0 1000
     put start.img 0 "$(repeated 512 EE)"
     tail -c +513 start.img > rest
+    head -c 4096 /dev/urandom > whole.pack
     prints none boot "$edition" start.img hello
     { cat hello; head -c 506 /dev/zero; cat rest; } > wanted
     saves 'a boot block' start.img wanted
+    { head -c 4096 whole.pack; cat start.img; } > pack.img
+    { head -c 4096 whole.pack; cat hello; head -c 506 /dev/zero; cat rest; } > wanted
+    prints none boot any pack.img hello --at 8
+    saves 'the boot block of a volume in a pack' pack.img wanted
+    : > empty
+    prints none boot "$edition" start.img empty
+    { head -c 512 /dev/zero; cat rest; } > wanted
+    saves 'an empty boot block' start.img wanted
     put whole 0 "$(repeated 512 A7)"
     prints none boot "$edition" start.img whole
     cat whole rest > wanted
     saves 'a boot block that is full' start.img wanted
     { cat whole; printf x; } > longer
     refuses 1 'unixvol: 27 TooBig' boot "$edition" start.img longer
+    refuses 1 $'unixvol: 27 TooBig\nunixvol: longer: a boot block has 512 bytes, and the program more' --explain boot "$edition" start.img longer
     refuses 3 'unixvol: cannot read missing' boot "$edition" start.img missing
     changed start.img cut.img 514 '00 00 00 00'
     refuses 1 'unixvol: unsound, rule 2' boot "$edition" cut.img hello

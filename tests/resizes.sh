@@ -204,6 +204,15 @@ saves 'a pack with two smaller volumes' pack before
 "$program" identify pack | head -n 4 > output
 saves 'what identify says of a pack with smaller volumes' output line
 
+# A volume that is cut off keeps its blocks too.
+"$program" mkfs 7 one 100 20 0 0 0
+"$program" mkfs 7 two 100 20 0 0 0
+{ cat one; head -c 30720 two; } > cut.pack
+cp cut.pack before
+refuses 3 'unixvol: cannot write cut.pack' resize 7 cut.pack 110
+refuses 3 'unixvol: cannot write cut.pack' mkfs --at 100 7 cut.pack 40 5 0 0 0
+saves 'a pack with a volume that is cut off' cut.pack before
+
 # Holes stay holes, and a full disk leaves the old file.
 truncate -s $((512 * 4000)) holes
 dd if=first of=holes conv=notrunc status=none

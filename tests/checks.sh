@@ -218,11 +218,12 @@ rows() {
 # drawing WIDTH LETTERS: the letters in rows, one for each block, followed by the legend
 drawing() { rows "$1" 1 "$2" && echo && legend_of "$2"; }
 
-# picture LETTERS: the letters as squares, one for each block, with their tool-tips, followed by the legend, without the colours
+# picture LETTERS: the letters as squares, one for each block, with their tool-tips, followed by the legend; without the colours, and without the i-nodes
 picture() {
     local letters=$1 k top one name count columns=4
     local -A names
     while read -r one name; do names[$one]=$name; done <<< "$legend"
+    names+=([B]='boot block' [f]='data of i-node' [p]='pointers of i-node' [c]='chain block')
     while ((columns < 128 && columns * columns < ${#letters})); do columns=$((columns * 2)); done
     top=$(((${#letters} + columns - 1) / columns * 10 + 10))
     echo "<svg xmlns='http://www.w3.org/2000/svg' viewBox='0 0 $((columns < 32 ? 320 : columns * 10)) $((top + 14 * $(legend_of "$letters" | wc -l)))' role='img'>"
@@ -247,7 +248,7 @@ maps() {
     wants "the map of $2" 0 wanted none
     picture "$3" > wanted
     runs map --svg "$1" image
-    sed -i 's,^\(<style>\).*</style>$,\1,' output
+    sed -i 's,^\(<style>\).*</style>$,\1,; s,\(: directory\|: data of i-node\|: pointers of i-node\) [0-9].*\(</title></path>\)$,\1\2,' output
     wants "the picture of $2" 0 wanted none
 }
 check_map() { maps "$1" "$2" "$(cat lines)"; }

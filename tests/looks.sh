@@ -312,9 +312,26 @@ print("".join(letters))' < extents)" "$(cat shown)"
 has 'the numbers of the blocks of one file' "$(tr -cd f < shown | wc -c) f file
 $(tr -cd p < shown | wc -c) p pointer
 $(tr -cd . < shown | wc -c) . other blocks" "$(cat counted)"
+# The tool-tip of a square for one block is the block's role, that of the i-node's extent if an i-node has it; also if the block isn't shown.
+runs map --svg 7 deep.v7
+sed -n 's,.*><title>\(block .*\)</title></path>$,\1,p' output > titles
+"$program" map --json 7 deep.v7 > runs
+has 'the tool-tips of the squares' same "$(python3 -c '
+import json
+names = {"boot": "boot block", "chain": "chain block", "directory": "directory 2, logical 0"}
+titles = [names.get(it["use"], it["use"]) for it in json.load(open("runs"))["map"] for _ in range(it["count"])]
+node = json.load(open("extents"))
+for it in node["extents"]:
+    for k in range(it["count"]):
+        kind = "pointers of i-node %d, level %d, from logical %d" if it["level"] else "data of i-node %d, %0.0slogical %d"
+        titles[it["block"] + k] = kind % (node["ino"], it["level"], it["logical"] + k)
+wanted = ["block %d: %s" % it for it in enumerate(titles)]
+assert len(titles) == 400 and open("titles").read().splitlines() == wanted
+print("same")')"
 runs map --svg --file / 7 deep.v7
-has 'the squares of the blocks of a directory' 1 "$(grep -c ': directory</title></path>$' output)"
-has 'the other squares' 399 "$(grep -c ": other blocks</title></path>$" output)"
+has 'the tool-tips of the squares of one file' '' "$(sed -n 's,.*><title>\(block .*\)</title></path>$,\1,p' output | diff titles -)"
+has 'the squares of the blocks of a directory' 1 "$(grep -c "^<path class='d' .*: directory 2, logical 0</title></path>$" output)"
+has 'the other squares' 399 "$(grep -c "^<path class='n' .*><title>" output)"
 refuses 1 'unixvol: 2 NoEntry' map --file /none 7 deep.v7
 refuses 1 'unixvol: 20 NotDirectory' map --file /long/x 7 deep.v7
 

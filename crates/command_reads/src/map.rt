@@ -1,7 +1,7 @@
 //! The command that draws the use of each block.
-ghost use Rattle.std.specs.Prelude.{◌≡◌, ◌≤◌, ◌<◌, ◌^◌, Ok, IfErr, IfOk, IfSome, length, option_map, string_bytes};
+ghost use Rattle.std.specs.Prelude.{◌≡◌, ◌*◌, ◌≤◌, ◌<◌, ◌^◌, Ok, IfErr, IfOk, IfSome, length, map, option_map, string_bytes};
 ghost use Rattle.vol_layout.specs.Geometry.{Fits, geometry_read};
-ghost use Rattle.command_reads.specs.Map.{blocks_for, blocks_shown, file_node, is_coloured, map_text, node_within, scale_end, scale_text, width_on, IsMap, IsPictureFault};
+ghost use Rattle.command_reads.specs.Map.{blocks_for, blocks_shown, cells_text, file_node, is_coloured, map_text, node_within, scale_end, scale_text, squares_text, titles_for, width_on, IsMap, IsPictureFault};
 
 use crate::faults::unmeasured;
 use command_faults::Fault;
@@ -9,6 +9,7 @@ use command_terms::Picture;
 use pdp_words::Image;
 use std::alloc::{AllocError, Global};
 use vol_dir::{Cred, Refusal, walk};
+use vol_fields::{block_roles, block_titles};
 use vol_inspect::{Use, draw, node_uses, shown_uses, svg};
 use vol_layout::{Edition, Geometry};
 use vol_listing::Screen;
@@ -107,10 +108,10 @@ fn node_map(
     requires fits { Fits geometry.now image.now }
     requires first { IfSome node (λ i. 1 ≤ i) }
     requires last { IfSome node (λ i. i ≤ geometry.now.last_inode) }
-    ensures { IfOk result (λ text. string_bytes text ≡ map_text (blocks_shown geometry.now image.now node) screen picture) }
+    ensures { IfOk result (λ text. string_bytes text ≡ map_text geometry.now image.now (blocks_shown geometry.now image.now node) screen picture) }
 {
     let blocks = blocks_shown(alloc, image, geometry, node)?;
-    picture_of(alloc, &blocks, picture, screen)
+    picture_of(alloc, image, geometry, &blocks, picture, screen)
 }
 
 /// Returns the blocks of a volume, of which those of an i-node are shown, or all.
@@ -131,20 +132,23 @@ fn blocks_shown(
     }
 }
 
-/// Returns the block map of some blocks.
+/// Returns the block map of some blocks of a volume.
 fn picture_of(
     alloc: Global,
+    image: &Image,
+    geometry: &Geometry,
     blocks: &[Option<Use>],
     picture: Picture,
     screen: Screen,
 ) -> Result<String, AllocError>
+    requires fits { Fits geometry.now image.now }
     requires some { 1 ≤ length blocks.now }
     requires few { length blocks.now < 2 ^ 32 }
-    ensures { IfOk result (λ text. string_bytes text ≡ map_text blocks.now screen picture) }
+    ensures { IfOk result (λ text. string_bytes text ≡ map_text geometry.now image.now blocks.now screen picture) }
 {
     match picture {
         Picture::Cells => letters(alloc, blocks, screen),
-        Picture::Svg => squares(alloc, blocks),
+        Picture::Svg => squares(alloc, image, geometry, blocks),
     }
 }
 
@@ -152,7 +156,7 @@ fn picture_of(
 fn letters(alloc: Global, blocks: &[Option<Use>], screen: Screen) -> Result<String, AllocError>
     requires some { 1 ≤ length blocks.now }
     requires few { length blocks.now < 2 ^ 32 }
-    ensures { IfOk result (λ text. string_bytes text ≡ map_text blocks.now screen Picture.Cells) }
+    ensures { IfOk result (λ text. string_bytes text ≡ cells_text blocks.now (width_on screen) (is_coloured screen) (blocks_for (32 * width_on screen) (length blocks.now))) }
 {
     let width = width_on(screen);
     let each = blocks_for(ROWS * width, blocks.len());
@@ -162,13 +166,38 @@ fn letters(alloc: Global, blocks: &[Option<Use>], screen: Screen) -> Result<Stri
     Ok(text)
 }
 
-/// Returns the block map as squares.
-fn squares(alloc: Global, blocks: &[Option<Use>]) -> Result<String, AllocError>
+/// Returns the block map as squares. If each square is for one block, its tool-tip has the role of the block.
+fn squares(
+    alloc: Global,
+    image: &Image,
+    geometry: &Geometry,
+    blocks: &[Option<Use>],
+) -> Result<String, AllocError>
+    requires fits { Fits geometry.now image.now }
     requires some { 1 ≤ length blocks.now }
     requires few { length blocks.now < 2 ^ 32 }
-    ensures { IfOk result (λ text. string_bytes text ≡ map_text blocks.now Screen.Stream Picture.Svg) }
+    ensures { IfOk result (λ text. string_bytes text ≡ squares_text geometry.now image.now blocks.now (blocks_for 16384 (length blocks.now))) }
 {
-    svg(alloc, blocks, blocks_for(SQUARES, blocks.len()))
+    let each = blocks_for(SQUARES, blocks.len());
+    let titles = titles_for(alloc, image, geometry, each)?;
+    svg(alloc, blocks, &titles, each)
+}
+
+/// Returns the titles of the blocks of a volume for a picture with `each` blocks in a square.
+fn titles_for(
+    alloc: Global,
+    image: &Image,
+    geometry: &Geometry,
+    each: usize,
+) -> Result<Vec<String>, AllocError>
+    requires { Fits geometry.now image.now }
+    ensures { IfOk result (λ titles. map string_bytes titles.items ≡ titles_for geometry.now image.now each) }
+{
+    if each != 1 {
+        return Ok(Vec::new(alloc));
+    }
+    let roles = block_roles(alloc, image, geometry)?;
+    block_titles(alloc, &roles)
 }
 
 /// Returns the number of blocks and of blocks per cell.

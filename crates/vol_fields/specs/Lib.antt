@@ -13,4 +13,5 @@ pub mod Roles
 pub mod Rows
 pub mod Runs
 pub mod Tables
+pub mod Titles
 pub mod Values

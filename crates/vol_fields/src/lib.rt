@@ -16,6 +16,7 @@ mod role_table;
 mod rows;
 mod runs;
 mod tables;
+mod titles;
 mod values;
 
 pub use changes::changed_fields;
@@ -31,4 +32,5 @@ pub use role_changes::{block_joins, changed_blocks};
 pub use role_table::block_roles;
 pub use rows::{Row, rows_of};
 pub use runs::Spot;
+pub use titles::block_titles;
 pub use values::{number_in, shown_name};

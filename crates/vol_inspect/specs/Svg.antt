@@ -42,21 +42,25 @@ part_text blocks kind = codes "\n" ++ (decimal (legend_count blocks [] kind) ++ 
 unfoldable pub parts_text : List (Option Use) → List Cell → List ℕ
 parts_text blocks kinds = flat_map (part_text blocks) kinds
 
--- the blocks of a square from `first` on, and what they are (this project)
-abbrev pub title_text : List (Option Use) → ℕ → Cell → List ℕ
-title_text blocks first cell =
-    if length blocks == 1 then codes "block " ++ (decimal first ++ (codes ": " ++ label cell))
+-- the title of a block, from those of the first blocks; of a block without one, what its square shows (this project)
+abbrev pub block_title : List (List ℕ) → ℕ → Cell → List ℕ
+block_title titles b cell = slice_index_or titles b (label cell)
+
+-- the blocks of a square from `first` on, and what they are: of one block its title, of several their uses (this project)
+abbrev pub title_text : List (List ℕ) → List (Option Use) → ℕ → Cell → List ℕ
+title_text titles blocks first cell =
+    if length blocks == 1 then codes "block " ++ (decimal first ++ (codes ": " ++ block_title titles first cell))
     else (codes "blocks " ++ (decimal first ++ (codes " to " ++ decimal (first + (length blocks - 1))))) ++ parts_text blocks (legend blocks [])
 
 -- a square with its tool-tip (SVG 1.1)
-abbrev pub titled_text : List (Option Use) → ℕ → Cell → ℕ → ℕ → List ℕ
-titled_text blocks first cell x y =
-    square_text cell x y ++ (codes "><title>" ++ (title_text blocks first cell ++ codes "</title></path>\n"))
+abbrev pub titled_text : List (List ℕ) → List (Option Use) → ℕ → Cell → ℕ → ℕ → List ℕ
+titled_text titles blocks first cell x y =
+    square_text cell x y ++ (codes "><title>" ++ (title_text titles blocks first cell ++ codes "</title></path>\n"))
 
 -- the squares of cells of `each` blocks in rows of this width (SVG 1.1)
-unfoldable pub squares_text : ℕ → ℕ → List (Option Use) → List Cell → List ℕ
-squares_text width each blocks found =
-    flat_map (λ k. titled_text (piece each blocks k) (k * each) (slice_index_or found k cells.Blank) (10 * (k % width)) (10 * (k / width)))
+unfoldable pub squares_text : ℕ → ℕ → List (List ℕ) → List (Option Use) → List Cell → List ℕ
+squares_text width each titles blocks found =
+    flat_map (λ k. titled_text titles (piece each blocks k) (k * each) (slice_index_or found k cells.Blank) (10 * (k % width)) (10 * (k / width)))
     (range_with_len 0 (length found))
 
 -- what a kind of cell stands for, and its number of blocks, beside a square (SVG 1.1)
@@ -74,15 +78,15 @@ swatches_text blocks found top kinds =
     flat_map (λ k. entry_text blocks found (slice_index_or kinds k cells.Blank) (top + 14 * k)) (range_with_len 0 (length kinds))
 
 -- the picture of these cells of some blocks, with this legend from height `top` on (SVG 1.1)
-abbrev pub laid_out : ℕ → ℕ → List (Option Use) → List Cell → List Cell → ℕ → List ℕ
-laid_out width each blocks found kinds top =
-    head_text (max (10 * width) 320) (top + 14 * length kinds) (length blocks) each ++ (squares_text width each blocks found
+abbrev pub laid_out : ℕ → ℕ → List (List ℕ) → List (Option Use) → List Cell → List Cell → ℕ → List ℕ
+laid_out width each titles blocks found kinds top =
+    head_text (max (10 * width) 320) (top + 14 * length kinds) (length blocks) each ++ (squares_text width each titles blocks found
     ++ (swatches_text blocks found top kinds ++ codes "</svg>\n"))
 
 -- the picture of these cells of some blocks (SVG 1.1)
-abbrev pub cells_picture : ℕ → ℕ → List (Option Use) → List Cell → List ℕ
-cells_picture width each blocks found = laid_out width each blocks found (legend blocks found) (10 * row_count width (length found) + 10)
+abbrev pub cells_picture : ℕ → ℕ → List (List ℕ) → List (Option Use) → List Cell → List ℕ
+cells_picture width each titles blocks found = laid_out width each titles blocks found (legend blocks found) (10 * row_count width (length found) + 10)
 
--- the picture of some blocks, `each` in a square (SVG 1.1)
-abbrev pub picture : ℕ → List (Option Use) → List ℕ
-picture each blocks = cells_picture (columns_for (length (cells_of each blocks))) each blocks (cells_of each blocks)
+-- the picture of some blocks, `each` in a square, with the titles of the first blocks (SVG 1.1)
+abbrev pub picture : ℕ → List (List ℕ) → List (Option Use) → List ℕ
+picture each titles blocks = cells_picture (columns_for (length (cells_of each blocks))) each titles blocks (cells_of each blocks)

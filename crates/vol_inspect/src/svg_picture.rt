@@ -1,8 +1,8 @@
 //! A picture of the uses of blocks as SVG, for a browser.
-ghost use Rattle.std.specs.Prelude.{◌≡◌, ◌+◌, ◌*◌, ◌<◌, ◌≤◌, ◌^◌, ◌++◌, ℕ, length, IfOk, OnOk};
+ghost use Rattle.std.specs.Prelude.{◌≡◌, ◌+◌, ◌*◌, ◌<◌, ◌≤◌, ◌^◌, ◌++◌, ℕ, length, map, slice_index_or, IfOk, OnOk};
 ghost use Rattle.std.specs.String.{string_bytes};
 ghost use Rattle.vol_inspect.specs.Cells.{piece};
-ghost use Rattle.vol_inspect.specs.Svg.{cells_picture, class, columns_for, entry_text, head_text, laid_out, part_text, parts_text, picture, row_count, square_text, squares_text, swatch_text, swatches_text, title_text, titled_text};
+ghost use Rattle.vol_inspect.specs.Svg.{block_title, cells_picture, class, columns_for, entry_text, head_text, laid_out, part_text, parts_text, picture, row_count, square_text, squares_text, swatch_text, swatches_text, title_text, titled_text};
 
 use crate::cell_groups::{Cell, cells, piece};
 use crate::legend::{legend, legend_count};
@@ -27,17 +27,31 @@ impl Cell {
 }
 
 /// Returns a picture of blocks as SVG, `each` in a square, with a legend below the squares. A block without a use isn't shown. A row has as many squares
-/// as there are rows, to the next power of two from 4 to 128. The tool-tip of a square says which blocks it is for and what they are used for.
+/// as there are rows, to the next power of two from 4 to 128. The tool-tip of a square says which blocks it is for and what they are used for; that of a
+/// square for one block has the block's title, if it is one of the first blocks, which have `titles`. These are written as they are: no `<` and no `&`
+/// is escaped.
 ///
 /// Takes memory for the cells and the text, and time in proportion to the number of blocks.
-pub fn svg(alloc: Global, blocks: &[Option<Use>], each: usize) -> Result<String, AllocError>
+pub fn svg(
+    alloc: Global,
+    blocks: &[Option<Use>],
+    titles: &[String],
+    each: usize,
+) -> Result<String, AllocError>
     requires some { 1 ≤ each }
     requires narrow { each < 2 ^ 32 }
     requires few { length blocks.now < 2 ^ 32 }
-    ensures { IfOk result (λ text. string_bytes text ≡ picture each blocks.now) }
+    ensures { IfOk result (λ text. string_bytes text ≡ picture each (map string_bytes titles.now) blocks.now) }
 {
     let cells = cells(alloc, blocks, each)?;
-    draw_squares(alloc, blocks, &cells, each, columns_for(cells.len()))
+    draw_squares(
+        alloc,
+        blocks,
+        titles,
+        &cells,
+        each,
+        columns_for(cells.len()),
+    )
 }
 
 /// Returns the number of squares in a row.
@@ -60,6 +74,7 @@ fn columns_for(squares: usize) -> usize
 fn draw_squares(
     alloc: Global,
     blocks: &[Option<Use>],
+    titles: &[String],
     cells: &[Cell],
     each: usize,
     width: usize,
@@ -68,17 +83,18 @@ fn draw_squares(
     requires narrow { width ≤ 128 }
     requires few { length cells.now < 2 ^ 33 }
     requires places { (k : ℕ) → k < length cells.now → k * each < length blocks.now }
-    ensures { IfOk result (λ text. string_bytes text ≡ cells_picture width each blocks.now cells.now) }
+    ensures { IfOk result (λ text. string_bytes text ≡ cells_picture width each (map string_bytes titles.now) blocks.now cells.now) }
 {
     let kinds = legend(alloc, blocks, cells)?;
     let top = 10 * row_count(cells.len(), width) + 10;
-    lay_out(alloc, blocks, cells, &kinds, each, width, top)
+    lay_out(alloc, blocks, titles, cells, &kinds, each, width, top)
 }
 
 /// Returns the picture of these cells of some blocks, with a legend from height `top` on.
 fn lay_out(
     alloc: Global,
     blocks: &[Option<Use>],
+    titles: &[String],
     cells: &[Cell],
     kinds: &[Cell],
     each: usize,
@@ -91,13 +107,13 @@ fn lay_out(
     requires kinds { length kinds.now < 100 }
     requires low { top < 2 ^ 40 }
     requires places { (k : ℕ) → k < length cells.now → k * each < length blocks.now }
-    ensures { IfOk result (λ text. string_bytes text ≡ laid_out width each blocks.now cells.now kinds.now top) }
+    ensures { IfOk result (λ text. string_bytes text ≡ laid_out width each (map string_bytes titles.now) blocks.now cells.now kinds.now top) }
 {
     let across = (10 * width).max(320);
     let down = top + 14 * kinds.len();
     let mut text = String::new(alloc);
     push_head(&mut text, across, down, blocks.len(), each)?;
-    push_squares(alloc, &mut text, blocks, cells, each, width)?;
+    push_squares(alloc, &mut text, blocks, titles, cells, each, width)?;
     push_swatches(&mut text, blocks, cells, kinds, top)?;
     text.push_str("</svg>\n")?;
     Ok(text)
@@ -137,6 +153,7 @@ fn push_squares(
     alloc: Global,
     text: &mut String,
     blocks: &[Option<Use>],
+    titles: &[String],
     cells: &[Cell],
     each: usize,
     width: usize,
@@ -144,12 +161,13 @@ fn push_squares(
     requires some { 1 ≤ width }
     requires few { length cells.now < 2 ^ 33 }
     requires places { (k : ℕ) → k < length cells.now → k * each < length blocks.now }
-    ensures { OnOk result (string_bytes text.new ≡ string_bytes text.old ++ squares_text width each blocks.now cells.now) }
+    ensures { OnOk result (string_bytes text.new ≡ string_bytes text.old ++ squares_text width each (map string_bytes titles.now) blocks.now cells.now) }
 {
     for k in 0..cells.len() {
         push_titled(
             alloc,
             text,
+            titles,
             piece(blocks, each, k),
             k * each,
             cells[k],
@@ -164,6 +182,7 @@ fn push_squares(
 fn push_titled(
     alloc: Global,
     text: &mut String,
+    titles: &[String],
     blocks: &[Option<Use>],
     first: usize,
     cell: Cell,
@@ -171,11 +190,11 @@ fn push_titled(
     y: usize,
 ) -> Result<(), AllocError>
     requires place { first + length blocks.now < 2 ^ 64 }
-    ensures { OnOk result (string_bytes text.new ≡ string_bytes text.old ++ titled_text blocks.now first cell x y) }
+    ensures { OnOk result (string_bytes text.new ≡ string_bytes text.old ++ titled_text (map string_bytes titles.now) blocks.now first cell x y) }
 {
     push_square(text, cell, x, y)?;
     text.push_str("><title>")?;
-    push_title(alloc, text, blocks, first, cell)?;
+    push_title(alloc, text, titles, blocks, first, cell)?;
     text.push_str("</title></path>\n")?;
     Ok(())
 }
@@ -192,21 +211,32 @@ fn push_square(text: &mut String, cell: Cell, x: usize, y: usize) -> Result<(), 
 fn push_title(
     alloc: Global,
     text: &mut String,
+    titles: &[String],
     blocks: &[Option<Use>],
     first: usize,
     cell: Cell,
 ) -> Result<(), AllocError>
     requires place { first + length blocks.now < 2 ^ 64 }
-    ensures { OnOk result (string_bytes text.new ≡ string_bytes text.old ++ title_text blocks.now first cell) }
+    ensures { OnOk result (string_bytes text.new ≡ string_bytes text.old ++ title_text (map string_bytes titles.now) blocks.now first cell) }
 {
     if blocks.len() == 1 {
-        let label = cell.label();
-        return write!(text, "block {first}: {label}");
+        let title = block_title(titles, first, cell);
+        return write!(text, "block {first}: {title}");
     }
     let last = first + blocks.len().saturating_sub(1);
     write!(text, "blocks {first} to {last}")?;
     let kinds = legend(alloc, blocks, &[])?;
     push_parts(text, blocks, &kinds)
+}
+
+/// Returns the title of block `b`, from those of the first blocks; of a block without one, what its square shows.
+fn block_title(titles: &[String], b: usize, cell: Cell) -> &str
+    ensures { result.now ≡ block_title (map string_bytes titles.now) b cell }
+{
+    match titles.get(b) {
+        Some(title) => title.as_str(),
+        None => cell.label(),
+    }
 }
 
 /// Appends the numbers of blocks of these kinds.

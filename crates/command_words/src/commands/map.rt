@@ -34,7 +34,8 @@ shown as dots. A letter is then for the blocks of the file in its cell.
 On a terminal the letters have colours, unless the variable NO_COLOR is not empty or TERM is `dumb`, and a row is as
 wide as COLUMNS says.
 
-With --svg, each square says which blocks it is for when the pointer is over it, and what they are used for.
+With --svg, each square says which blocks it is for when the pointer is over it, and what they are used for; the square
+of one block says which i-node has it, and where in that it is.
 
 With --json, one object is printed on one line. Its \"map\" has an object for each run of blocks with one use: \"block\",
 the first of them, \"count\" and \"use\".

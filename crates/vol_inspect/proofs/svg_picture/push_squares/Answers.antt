@@ -1,4 +1,4 @@
-use Rattle.std.proofs.Common.{◌≡◌, ◌+◌, ◌*◌, ◌/◌, ◌%◌, ◌++◌, List, Option, ap, ◌∙◌, arith, get_or, length, refl}
+use Rattle.std.proofs.Common.{◌≡◌, ◌+◌, ◌*◌, ◌/◌, ◌%◌, ◌++◌, List, Option, ap, ◌∙◌, arith, get_or, length, map, refl}
 use Rattle.std.specs.List.{flat_map, range_with_len}
 use Rattle.std.specs.String.{string_bytes}
 use Rattle.vol_reports.proofs.Ranges.{appended_more}
@@ -12,11 +12,11 @@ pub loop-k-preserved : goal.loop-k-preserved
 loop-k-preserved c =
     let k = c.loop-k.k in
     let cell = get_or c.args.cells.now k cells.Blank in
-    appended_more (λ k. titled_text (piece c.args.each c.args.blocks.now k) (k * c.args.each) (get_or c.args.cells.now k cells.Blank) (10 * (k % c.args.width))
+    appended_more (λ k. titled_text (map string_bytes c.args.titles.now) (piece c.args.each c.args.blocks.now k) (k * c.args.each) (get_or c.args.cells.now k cells.Blank) (10 * (k % c.args.width))
     (10 * (k / c.args.width))) (string_bytes c.args.text.now)
     (string_bytes c.loop-k.text) (string_bytes c.push_titled.new.text) 0 k (k + 1) k refl (omega arith) c.loop-k.invariant
     (c.in_ok-push_titled.ensures
-    ∙ ap (λ (bs : List (Option Use)). string_bytes c.loop-k.text ++ titled_text bs (k * c.args.each) cell (10 * (k % c.args.width)) (10 * (k / c.args.width)))
+    ∙ ap (λ (bs : List (Option Use)). string_bytes c.loop-k.text ++ titled_text (map string_bytes c.args.titles.now) bs (k * c.args.each) cell (10 * (k % c.args.width)) (10 * (k / c.args.width)))
     c.piece.ensures)
 
 pub returns : goal.returns
@@ -25,5 +25,5 @@ returns c =
     let end : c.loop-k.k ≡ length c.args.cells.now = omega arith in
     c.loop-k.invariant
     ∙ ap (λ n. string_bytes c.args.text.now
-    ++ flat_map (λ k. titled_text (piece c.args.each c.args.blocks.now k) (k * c.args.each) (get_or c.args.cells.now k cells.Blank) (10 * (k % c.args.width))
+    ++ flat_map (λ k. titled_text (map string_bytes c.args.titles.now) (piece c.args.each c.args.blocks.now k) (k * c.args.each) (get_or c.args.cells.now k cells.Blank) (10 * (k % c.args.width))
     (10 * (k / c.args.width))) (range_with_len 0 n)) end

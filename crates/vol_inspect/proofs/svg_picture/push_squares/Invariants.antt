@@ -1,4 +1,4 @@
-use Rattle.std.proofs.Common.{◌≡◌, ◌*◌, ◌/◌, ◌%◌, ◌++◌, get_or}
+use Rattle.std.proofs.Common.{◌≡◌, ◌*◌, ◌/◌, ◌%◌, ◌++◌, get_or, map}
 use Rattle.std.specs.List.{flat_map, range_with_len}
 use Rattle.std.specs.String.{string_bytes}
 use Rattle.vol_inspect.specs.Cells.{piece}
@@ -9,5 +9,5 @@ use Rattle.vol_inspect.proofs.svg_picture.push_squares.Given as goal
 -- Invariant: the squares so far have been added.
 abbrev pub invariant-loop-k : goal.invariant-loop-k
 invariant-loop-k l = string_bytes l.text ≡ string_bytes l.initial.text
-    ++ flat_map (λ k. titled_text (piece l.each l.blocks k) (k * l.each) (get_or l.cells k cells.Blank) (10 * (k % l.width)) (10 * (k / l.width)))
+    ++ flat_map (λ k. titled_text (map string_bytes l.titles) (piece l.each l.blocks k) (k * l.each) (get_or l.cells k cells.Blank) (10 * (k % l.width)) (10 * (k / l.width)))
     (range_with_len 0 l.k)

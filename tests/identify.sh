@@ -117,9 +117,9 @@ wants 'two that cannot be read' 3 lines line
 
 # The same as JSON: an object on a line for each, also for one that can't be read.
 {
-    echo '{"bytes":4096,"file":"six.img","format":1,"guess":"volume","parts":[{"block":0,"blocks":8,"command":"unixvol ls 6 six.img","edition":6,"rule":null,"sound":true}],"read":4096}'
+    echo '{"bytes":4096,"file":"six.img","format":1,"guess":"volume","parts":[{"block":0,"blocks":8,"command":"unixvol ls 6 six.img","edition":6,"rule":null,"sound":true}],"read":4096,"tail":0}'
     echo '{"fault":"cannot read","file":"missing","format":1}'
-    echo '{"bytes":6,"file":"text","format":1,"guess":"unknown","parts":[],"read":6}'
+    echo '{"bytes":6,"file":"text","format":1,"guess":"unknown","parts":[],"read":6,"tail":6}'
 } > lines.json
 echo 'unixvol: cannot read missing' > line
 runs identify --json six.img missing text
@@ -127,7 +127,7 @@ wants 'images as JSON' 3 lines.json line
 # guessed FILE TEXT: the JSON of FILE has this text
 guessed() {
     runs identify --json "$1"
-    has "the JSON of $1" "0 $2" "$(cat status) $(sed 's/.*"format":1,//; s/}$//' output)"
+    has "the JSON of $1" "0 $2,\"tail\":$(($(wc -c < "$1") % 512))" "$(cat status) $(sed 's/.*"format":1,//; s/}$//' output)"
 }
 dd if=seven.img of=swapped.img conv=swab status=none
 guessed swapped.img '"guess":"swapped","parts":[{"block":0,"blocks":8,"edition":7}],"read":4096'
@@ -141,7 +141,7 @@ changed seven.img broken.img 1090 03
 guessed broken.img '"guess":"volume","parts":[{"block":0,"blocks":8,"command":"unixvol check 7 broken.img","edition":7,"rule":12,"sound":false}],"read":4096'
 { head -c 512 /dev/zero | tr '\0' y && cat seven.img; } > pack.img
 cat pack.img | "$program" identify --json /dev/stdin > output 2> error
-has 'the JSON of a pipe' '0 {"bytes":null,"file":"/dev/stdin","format":1,"guess":"inside","parts":[{"block":1,"blocks":8,"edition":7}],"read":4608}' "$? $(cat output error)"
+has 'the JSON of a pipe' '0 {"bytes":null,"file":"/dev/stdin","format":1,"guess":"inside","parts":[{"block":1,"blocks":8,"edition":7}],"read":4608,"tail":null}' "$? $(cat output error)"
 
 # What follows a volume has a line unless it is zeros, also a volume that is cut off. A packed file isn't called a volume by half of the signs of one.
 { cat seven.img && head -c 1024 /dev/zero; } > longer.img
@@ -149,14 +149,31 @@ looks longer.img 'looks like a volume of edition 7, with 8 blocks, sound'
 first='{"block":0,"blocks":8,"command":"unixvol ls 7 longer.img","edition":7,"rule":null,"sound":true}'
 printf '%s\n' 'longer.img: looks like a larger pack' '  at 0: a volume of edition 7, with 8 blocks, sound: unixvol ls 7 longer.img' > front
 { cat seven.img && head -c 1030 /dev/zero | tr '\0' y; } > longer.img
-{ cat front && echo '  at 8: 2 blocks of other bytes'; } > line
+{ cat front && printf '  at %s\n' '8: 2 blocks of other bytes' '10: 6 bytes follow'; } > line
 prints line identify longer.img
 guessed longer.img "\"guess\":\"pack\",\"parts\":[$first,{\"block\":8,\"blocks\":2,\"zeros\":false}],\"read\":null"
 { cat seven.img && head -c 2100 six.img; } > longer.img
-{ cat front && echo '  at 8: a volume of edition 6, with 8 blocks, which breaks rule 1: unixvol check 6 longer.img --at 8'; } > line
+{ cat front && printf '  at %s\n' '8: a volume of edition 6, with 8 blocks, which breaks rule 1: unixvol check 6 longer.img --at 8' '12: 52 bytes follow'; } > line
 prints line identify longer.img
 second='{"block":8,"blocks":8,"command":"unixvol check 6 longer.img --at 8","edition":6,"rule":1,"sound":false}'
 guessed longer.img "\"guess\":\"pack\",\"parts\":[$first,$second],\"read\":null"
+
+# Bytes after the last whole block have a line after that of a whole volume too, but not after that of another file, or where the size isn't known.
+{ cat seven.img && printf x; } > more.img
+whole='more.img: looks like a volume of edition 7, with 8 blocks, sound'
+printf '%s\n' "$whole" '  at 8: 1 byte follows' > line
+prints line identify more.img
+guessed more.img '"guess":"volume","parts":[{"block":0,"blocks":8,"command":"unixvol ls 7 more.img","edition":7,"rule":null,"sound":true}],"read":4097'
+head -c 1000 /dev/zero >> more.img
+printf '%s\n' "$whole" '  at 9: 489 bytes follow' > line
+prints line identify more.img
+changed more.img broken.img 1090 03
+printf '%s\n' 'broken.img: looks like a volume of edition 7, with 8 blocks, which breaks rule 12' '  at 9: 489 bytes follow' > line
+prints line identify broken.img
+dd if=more.img of=swapped.img conv=swab status=none
+looks swapped.img 'looks like a volume of edition 7, with 8 blocks, with each pair of bytes exchanged'
+cat more.img | "$program" identify /dev/stdin > output 2> error
+has 'the line of a pipe' "0 ${whole/more.img//dev/stdin}" "$? $(cat output error)"
 changed seven.img half.img 1088 0000
 put half.img 0 1f8b
 head -c 1024 /dev/zero | tr '\0' y >> half.img

@@ -237,9 +237,11 @@ printf '\005' | dd of=small bs=1 seek=$((512 * 250 + 1026)) conv=notrunc status=
     printf '{"block":0,"blocks":200,"command":"unixvol ls 7 small","edition":7,"rule":null,"sound":true},'
     printf '{"block":200,"blocks":50,"zeros":true},'
     printf '{"block":250,"blocks":100,"command":"unixvol check 6 small --at 250","edition":6,"rule":12,"sound":false},'
-    printf '{"block":350,"blocks":50,"zeros":true}],"read":null}\n'
+    printf '{"block":350,"blocks":50,"zeros":true}],"read":null,"tail":7}\n'
 } > line
 prints line identify --json small
+runs identify small
+has 'the last line of a pack' '  at 400: 7 bytes follow' "$(tail -n 1 output)"
 name="a 'b',\"c\".img"
 cp small "$name"
 "$program" identify --json "$name" > output 2> error

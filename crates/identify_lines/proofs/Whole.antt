@@ -10,7 +10,7 @@ use Rattle.vol_identify.specs.declared.guess.Guess.TheVariants.{Empty, Packed, T
 use Rattle.vol_identify.specs.declared.pack_scan.Part.{Part}
 use Rattle.vol_identify.specs.declared.pack_scan.Part.TheVariants as parts
 use Rattle.vol_identify.specs.declared.pack_texts.JudgedPart.{JudgedPart}
-use Rattle.identify_lines.specs.GuessJson.{count_or_null, guess_parts, part_by, part_data, seen_data, seen_parts, seen_read, unread_data, volume_data}
+use Rattle.identify_lines.specs.GuessJson.{count_or_null, guess_parts, part_by, part_data, seen_data, seen_parts, seen_read, tail_of, unread_data, volume_data}
 use Rattle.identify_lines.specs.declared.seen.Seen.{Seen}
 use Rattle.identify_lines.specs.declared.seen.Seen.TheVariants as seens
 
@@ -55,7 +55,7 @@ parts_whole path (seens.Image found read) = guess_whole path found.guess found.b
 -- what a file seems to be has no fraction
 pub seen_whole : (path : List ℕ) (size : Option ℕ) (seen : Seen) → has_float (seen_data path size seen) ≡ false
 unfolding seen_data
-seen_whole path size seen = rw (optional_whole size, parts_whole path seen, optional_whole (seen_read seen)) refl
+seen_whole path size seen = rw (optional_whole size, parts_whole path seen, optional_whole (seen_read seen), optional_whole (tail_of size)) refl
 
 -- a file that wasn't read has none
 pub unread_whole : (path : List ℕ) (status : ℕ) → has_float (unread_data path status) ≡ false

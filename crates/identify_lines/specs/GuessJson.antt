@@ -1,5 +1,5 @@
 -- What a file seems to be, as JSON.
-use Rattle.std.specs.Prelude.{ℕ, ◌==◌, Bool, if◌then◌else◌, List, [], ◌∷◌, ◌++◌, codes, map, Option, None, Some}
+use Rattle.std.specs.Prelude.{ℕ, ◌%◌, ◌==◌, Bool, if◌then◌else◌, List, [], ◌∷◌, ◌++◌, codes, map, Option, None, Some}
 use Rattle.std.specs.Option.{is_none}
 use Rattle.serde_json.specs.Data.{Data, null, boolean, string, array, object, member, no_members}
 use Rattle.serde_json.specs.View.{items_of}
@@ -113,8 +113,13 @@ abbrev pub seen_read : Seen → Option ℕ
 seen_read (seens.Pack judged) = None
 seen_read (seens.Image found read) = Some read
 
--- what the file at a path seems to be: its size if it is known, the path, the number of the format, the guess, the parts, and the number of bytes that the
--- guess is by (this project)
+-- the number of bytes after the last whole block of a file, if its size is known (this project)
+abbrev pub tail_of : Option ℕ → Option ℕ
+tail_of None = None
+tail_of (Some size) = Some (size % 512)
+
+-- what the file at a path seems to be: its size if it is known, the path, the number of the format, the guess, the parts, the number of bytes that the
+-- guess is by, and the number of bytes after the last whole block (this project)
 unfoldable pub seen_data : List ℕ → Option ℕ → Seen → Data
 seen_data path size seen =
     object (member (codes "bytes") (count_or_null size)
@@ -122,7 +127,8 @@ seen_data path size seen =
     (member (codes "format") (count 1)
     (member (codes "guess") (string (seen_word seen))
     (member (codes "parts") (array (items_of (seen_parts path seen)))
-    (member (codes "read") (count_or_null (seen_read seen)) no_members))))))
+    (member (codes "read") (count_or_null (seen_read seen))
+    (member (codes "tail") (count_or_null (tail_of size)) no_members)))))))
 
 -- the fault of a file with a status: memory ran out, or it can't be read (this project)
 abbrev pub fault_word : ℕ → List ℕ

@@ -1,9 +1,10 @@
 -- What a file seems to be, as lines.
-use Rattle.std.specs.Prelude.{ℕ, ◌&&◌, nat_le, Bool, if◌then◌else◌, List, ◌++◌, codes, decimal}
+use Rattle.std.specs.Prelude.{ℕ, ◌&&◌, ◌/◌, ◌%◌, ◌==◌, nat_le, Bool, if◌then◌else◌, List, [], ◌++◌, Option, None, Some, codes, decimal}
 use Rattle.vol_identify.specs.Guesses.{is_open}
 use Rattle.vol_identify.specs.PackTexts.{pack_lines}
 use Rattle.vol_identify.specs.Texts.{identified_text}
 use Rattle.vol_identify.specs.declared.guess.Guess.{Guess}
+use Rattle.vol_identify.specs.declared.guess.Guess.TheVariants.{Volume}
 use Rattle.vol_identify.specs.declared.guess.Identified.{Identified}
 use Rattle.identify_lines.specs.declared.seen.Seen.{Seen}
 use Rattle.identify_lines.specs.declared.seen.Seen.TheVariants.{Pack, Image}
@@ -20,7 +21,27 @@ line_end guess bytes = if is_cut guess bytes then codes ", by its first " ++ (de
 abbrev pub identified_line : List ℕ → Identified → ℕ → List ℕ
 identified_line path found bytes = path ++ (codes ": " ++ (identified_text found.guess found.broken ++ line_end found.guess bytes))
 
--- the lines of what the file at a path seems to be: those of a pack, or the line of an image (this project)
-abbrev pub seen_lines : List ℕ → Seen → List ℕ
-seen_lines path (Pack parts) = pack_lines path parts.items
-seen_lines path (Image found read) = identified_line path found read
+-- the words for bytes that are no whole block (this project)
+abbrev pub follow_text : ℕ → List ℕ
+follow_text n = if n == 1 then codes "1 byte follows" else decimal n ++ codes " bytes follow"
+
+-- the line of the bytes after the last whole block of a file of this size, if there are any (this project)
+abbrev pub tail_line : ℕ → List ℕ
+tail_line size =
+    if size % 512 == 0 then [] else codes "  at " ++ (decimal (size / 512) ++ (codes ": " ++ (follow_text (size % 512) ++ codes "\n")))
+
+-- the line of the bytes after the last whole block of a file, if its size is known (this project)
+abbrev pub tail_lines : Option ℕ → List ℕ
+tail_lines None = []
+tail_lines (Some size) = tail_line size
+
+-- the line of the bytes after the last whole block of an image with this guess, if it is a whole volume (this project)
+abbrev pub image_tail : Guess → Option ℕ → List ℕ
+image_tail (Volume volume) size = tail_lines size
+image_tail _ size = []
+
+-- the lines of what the file at a path seems to be, whose size may be known: those of a pack, or the line of an image, and a line for the bytes after the
+-- last whole block (this project)
+abbrev pub seen_lines : List ℕ → Option ℕ → Seen → List ℕ
+seen_lines path size (Pack parts) = pack_lines path parts.items ++ tail_lines size
+seen_lines path size (Image found read) = identified_line path found read ++ image_tail found.guess size

@@ -1,9 +1,9 @@
 //! What a file seems to be, as JSON.
 ghost use Rattle.std.specs.Prelude.{◌≡◌, IfOk, map, string_bytes};
 ghost use Rattle.serde_json.specs.View.{view};
-ghost use Rattle.identify_lines.specs.GuessJson.{between_data, fault_word, foreign_word, front_data, guess_parts, guess_word, next_command, part_by, part_data, seen_data, seen_json, seen_parts, seen_read, seen_word, unread_data, unread_json, volume_command, volume_data};
+ghost use Rattle.identify_lines.specs.GuessJson.{between_data, fault_word, foreign_word, front_data, guess_parts, guess_word, next_command, part_by, part_data, seen_data, seen_json, seen_parts, seen_read, seen_word, tail_of, unread_data, unread_json, volume_command, volume_data};
 
-use crate::seen::Seen;
+use crate::seen::{BLOCK, Seen};
 use crate::shell_words::shell_word;
 use serde_json::{Value, json};
 use std::alloc::{AllocError, Global};
@@ -55,7 +55,8 @@ fn seen_value(
         "format": FORMAT,
         "guess": seen_word(seen),
         "parts": parts,
-        "read": seen_read(seen)
+        "read": seen_read(seen),
+        "tail": tail_of(size)
     })
 }
 
@@ -126,6 +127,16 @@ fn seen_read(seen: &Seen) -> Option<usize>
     match seen {
         Seen::Pack(_) => None,
         Seen::Image { read, .. } => Some(*read),
+    }
+}
+
+/// Returns the number of bytes after the last whole block of a file, if its size is known.
+fn tail_of(size: Option<u64>) -> Option<u64>
+    ensures { result ≡ tail_of size }
+{
+    match size {
+        None => None,
+        Some(size) => Some(size % BLOCK),
     }
 }
 

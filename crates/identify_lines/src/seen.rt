@@ -2,6 +2,9 @@
 
 use vol_identify::{Identified, JudgedPart};
 
+/// The number of bytes of a block.
+pub(crate) const BLOCK: u64 = 512;
+
 /// What a file seems to be.
 #[derive(Drop)]
 pub enum Seen {

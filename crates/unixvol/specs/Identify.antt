@@ -56,10 +56,11 @@ abbrev pub IsCatalogued : {F : Type 0} → (F → Option (List ℕ)) → (F → 
 IsCatalogued remaining stamped file volumes =
     IsSummed remaining stamped file × (parts : List Part) × AreParts remaining stamped parts × AreListed remaining parts volumes
 
--- this is the line, or these are the lines, of the file at a path in this format: of what it seems to be, in JSON with the size of the file at some path;
--- or the rows of its volumes (this project)
+-- this is the line, or these are the lines, of the file at a path in this format: of what it seems to be, with the size of the file at some path; or the
+-- rows of its volumes (this project)
 abbrev pub IsTold : {F : Type 0} → (F → Option (List ℕ)) → (F → Stamp → Type 0) → (Stamp → Type 0) → GuessForm → List ℕ → List ℕ → Type 0
-IsTold remaining stamped stood forms.Lines path line = (seen : Seen) × IsSeen remaining stamped stood seen × (line ≡ seen_lines path seen)
+IsTold remaining stamped stood forms.Lines path line =
+    (seen : Seen) × IsSeen remaining stamped stood seen × (stamp : Stamp) × stood stamp × (line ≡ seen_lines path (size_of stamp) seen)
 IsTold remaining stamped stood forms.Json path line =
     (seen : Seen) × IsSeen remaining stamped stood seen × (stamp : Stamp) × stood stamp × (line ≡ seen_json path (size_of stamp) seen)
 IsTold remaining stamped stood forms.Catalogue path line =

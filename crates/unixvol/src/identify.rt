@@ -179,11 +179,13 @@ fn guess_lines<R: ImageFiles + Eprint + AllocGlobal>(
     host: &Surroundings<'_, R>,
     path: &str,
 ) -> Result<Vec<u8>, u8>
-    ensures line { IfOk result (λ line. (seen : Seen) × IsSeen R.File.remaining R.had R.stood seen × (line.items ≡ seen_lines path.now seen)) }
+    ensures line { IfOk result (λ line. (seen : Seen) × IsSeen R.File.remaining R.had R.stood seen × (stamp : Stamp) × R.stood stamp
+        × (line.items ≡ seen_lines path.now (size_of stamp) seen)) }
     ensures fault { IfErr result IsStatusOfFileOrMemory }
 {
     let seen = see(host, path)?;
-    match seen_lines(host.rt.alloc(), path, &seen) {
+    let stamp = stamp_at(host, path)?;
+    match seen_lines(host.rt.alloc(), path, size_of(stamp), &seen) {
         Ok(lines) => Ok(lines.into_bytes()),
         Err(_) => Err(explain_no_memory_for(host, path)),
     }

@@ -29,10 +29,12 @@ zeros follow a volume, is a pack, and has lines:
     at K: a volume of edition N, with B blocks, which breaks rule R: unixvol check N PATH --at K
     at K: C blocks of zeros
     at K: C blocks of other bytes
+    at K: C bytes follow
 
-K is the first block of each part, and the command goes on with it. What is inside a volume isn't looked at, nor are
-bytes after the last whole block. Where the last volume ends, one that is cut off is named too: it breaks rule 1.
-Elsewhere its blocks are other bytes. Of other files the first of these that fits is printed:
+K is the first block of each part, and the command goes on with it. What is inside a volume isn't looked at. The last
+line is for the bytes after the last whole block; after the line of a volume it is printed too. Where the last volume
+ends, one that is cut off is named too: it breaks rule 1. Elsewhere its blocks are other bytes. Of other files the
+first of these that fits is printed:
 
   looks like a volume of edition N, with B blocks, sound
   looks empty: it has no bytes but zeros
@@ -73,6 +75,7 @@ With --json each image is one object on a line:
            gzip, bzip2, xz, zstd, zip
   parts    of a pack all that it has, in order; else the volume that the guess names, if it names one
   read     the number of bytes that the guess is by; null of a pack, which was read to its end
+  tail     the number of bytes after the last whole block of a regular file; null of another
 
 A part that is a volume has block, blocks, edition, and, if it was judged, sound, rule (the first that it breaks, or
 null) and command, in which a shell's quotes are round a path that needs them. Any other part has block, blocks and

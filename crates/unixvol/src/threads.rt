@@ -162,7 +162,7 @@ fn run_play<R: ImageFiles + Clock + Eprint + AllocGlobal + Threads + Wait + Sync
         host.rt.alloc(),
         volume.edition,
         image,
-        &files,
+        files,
         journal,
         trace,
         &Open,

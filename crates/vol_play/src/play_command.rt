@@ -2,6 +2,7 @@
 ghost use Rattle.std.specs.Prelude.{◌≡◌, ◌≤◌, IfOk, IfErr, count_by, length};
 ghost use Rattle.std.specs.List.{list_any};
 ghost use Rattle.command_faults.specs.Streams.{heard, ErrorStream, Hears, streams};
+ghost use Rattle.vol_scripts.specs.Scripts.{ReadsScripts};
 ghost use Rattle.vol_play.specs.Players.{is_view};
 ghost use Rattle.vol_play.specs.Play.{PlaysVolume, IsPlayed, IsUnplayed, any_cut, script_cuts, is_cut};
 
@@ -15,7 +16,7 @@ use std::sync::Wait;
 use std::thread::Threads;
 use vol_check::Gate;
 use vol_layout::Edition;
-use vol_scripts::{Played, Script, ScriptStep, read_scripts, refuse};
+use vol_scripts::{Played, Script, ScriptStep, ScriptsFault, read_scripts, refuse};
 use vol_shared::{MOST_SESSIONS, MOST_VIEWS};
 use vol_volume::Volume;
 
@@ -25,16 +26,16 @@ pub fn play<R: Threads + Wait + Sync, G: Gate, O: Sink, E: Sink>(
     alloc: Global,
     edition: Edition,
     image: Vec<u8>,
-    scripts: &[Vec<u8>],
+    scripts: Vec<Vec<u8>>,
     journal: bool,
     trace: bool,
     gate: &G,
     output: &mut O,
     errors: &mut E,
 ) -> Answer
-    requires first { 1 ≤ length scripts.now }
-    requires last { length scripts.now ≤ MOST_SESSIONS }
-    ensures { PlaysVolume edition image.items journal trace scripts.now (streams O.contents O.failed output.old output.new (heard E.contents E.failed errors.old errors.new)) result }
+    requires first { 1 ≤ length scripts.items }
+    requires last { length scripts.items ≤ MOST_SESSIONS }
+    ensures { PlaysVolume edition image.items journal trace scripts.items (streams O.contents O.failed output.old output.new (heard E.contents E.failed errors.old errors.new)) result }
 {
     let answer = perform(
         rt, alloc, edition, image, scripts, journal, trace, gate, output,
@@ -47,10 +48,10 @@ pub fn play<R: Threads + Wait + Sync, G: Gate, O: Sink, E: Sink>(
 /// word `view`. If a script's thread can't be started, the calling thread plays the script. The gate is called before and after each script, with the
 /// script's number, counted from 0.
 ///
-/// All scripts are read before the first call. If a line can't be read, the volume isn't sound or memory runs out before the first call, nothing is
-/// saved, and the fault reports the reason; the status is 2 for a line, 1 for an image that isn't sound, 4 for memory. Otherwise the scripts are
-/// played, and [`finish_traced`] ends the play: it prints a line for each step on `output`, then the journal if it is wanted, then the trace if it is
-/// wanted, and returns the bytes of the volume to save, whatever the status.
+/// All scripts are read before the first call, and their texts are dropped. If a line can't be read, the volume isn't sound or memory runs out before
+/// the first call, nothing is saved, and the fault reports the reason; the status is 2 for a line, 1 for an image that isn't sound, 4 for memory.
+/// Otherwise the scripts are played, and [`finish_traced`] ends the play: it prints a line for each step on `output`, then the journal if it is wanted,
+/// then the trace if it is wanted, and returns the bytes of the volume to save, whatever the status.
 ///
 /// Takes memory for the scripts, for [`Volume::mount`], for each step and call, and for [`finish_traced`].
 pub fn perform<R: Threads + Wait + Sync, G: Gate, O: Sink>(
@@ -58,18 +59,18 @@ pub fn perform<R: Threads + Wait + Sync, G: Gate, O: Sink>(
     alloc: Global,
     edition: Edition,
     image: Vec<u8>,
-    scripts: &[Vec<u8>],
+    scripts: Vec<Vec<u8>>,
     journal: bool,
     trace: bool,
     gate: &G,
     output: &mut O,
 ) -> Answer
-    requires first { 1 ≤ length scripts.now }
-    requires last { length scripts.now ≤ MOST_SESSIONS }
+    requires first { 1 ≤ length scripts.items }
+    requires last { length scripts.items ≤ MOST_SESSIONS }
     ensures { (errors : ErrorStream) → Hears errors result.fault
-        → PlaysVolume edition image.items journal trace scripts.now (streams O.contents O.failed output.old output.new errors) result }
+        → PlaysVolume edition image.items journal trace scripts.items (streams O.contents O.failed output.old output.new errors) result }
 {
-    let scripts = match read_scripts(alloc, scripts) {
+    let scripts = match read_texts(alloc, scripts) {
         Ok(scripts) => scripts,
         Err(fault) => return refuse(alloc, fault),
     };
@@ -80,6 +81,13 @@ pub fn perform<R: Threads + Wait + Sync, G: Gate, O: Sink>(
         }
         Err(fault) => report(Err(fault)),
     }
+}
+
+/// Reads scripts, and drops their texts.
+fn read_texts(alloc: Global, texts: Vec<Vec<u8>>) -> Result<Vec<Script>, ScriptsFault>
+    ensures { ReadsScripts texts.items result }
+{
+    read_scripts(alloc, &texts)
 }
 
 /// Mounts the volume in an image and plays scripts on it.

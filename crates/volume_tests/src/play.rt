@@ -55,6 +55,7 @@ fn two_scripts_have_threads_and_no_line_is_played_before_its_gate(rt: HostRuntim
             held,
         };
         let scripts = [copied(&rt, alloc, CREATE), copied(&rt, alloc, CREATE)];
+        let scripts = Vec::from_array(alloc, scripts).expect(&rt, "memory for the scripts");
         let mut output = stream(alloc);
         let mut errors = stream(alloc);
         let answer = play(
@@ -62,7 +63,7 @@ fn two_scripts_have_threads_and_no_line_is_played_before_its_gate(rt: HostRuntim
             alloc,
             Edition::V6,
             new_bytes(&rt, alloc, Edition::V6),
-            &scripts,
+            scripts,
             false,
             false,
             &gate,

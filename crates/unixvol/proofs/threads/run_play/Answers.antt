@@ -1,7 +1,6 @@
-use Rattle.std.proofs.Common.{◌≡◌, ◌∙◌, All, ap, inl, inr, length, refl, rules}
+use Rattle.std.proofs.Common.{◌≡◌, All, inl, inr, length, refl, rules}
 use Rattle.std.specs.Global.{Vec}
 use Rattle.std.proofs.KnownBytes.{Keeps-refl}
-use Rattle.std.proofs.lemmas.List.Elements.{All-same}
 use Rattle.unixvol.specs.Runs.{GaveScript, IsUnread}
 use Rattle.unixvol.proofs.threads.run_play.Goals as goal
 
@@ -18,11 +17,11 @@ returns g c errors hears =
     inr (
       c.in-Ok.begun.image.items,
       c.in-Ok.begun.stamp,
-      c.deref.result.now,
+      c.in-Ok.begun.given.items,
       c.perform-answer.result,
       c.in-Ok.ensures.image,
-      All-same (λ (script : Vec _). GaveScript g.R.File.Read.remaining script.items) _ _ c.deref.ensures.value given,
-      ap length c.deref.ensures.value ∙ count,
+      given,
+      count,
       c.perform-answer.ensures errors hears,
       c.save_played-status.ensures,
     )

@@ -1,2 +1,3 @@
 pub mod BadLooks
 pub mod Needs
+pub mod Permissions

@@ -34,7 +34,7 @@ for number in 4294967296 +1 0x1 '' one 2026-11-31 2026-11-23T12:00:00 2026-11-23
     misread "error: invalid value '$number' for '<NOW>'" chmod 6 volumes/a /a 644 "$number"
     misread "error: invalid value '$number' for '<NOW>'" chown 6 volumes/a /a 1 2 "$number"
 done
-for number in 10000 99999999999999999999 8 0648 +1 0x1 0o17 u+x '' ' 1' '1 ' one; do
+for number in 10000 99999999999999999999 8 0648 +1 0x1 0o17 '' ' 1' '1 ' one u ug +q u+q u+xq z+x x 'u*x' u+x,g u+x, ,u+x u+x,,g+x 644,u+x u+x,644 u=g u+X u+x-w 'u+x, g+x' U+x u+7; do
     misread "error: invalid value '$number' for '<PERM>'" chmod 6 volumes/a / "$number" 1
 done
 misread 'error: unexpected argument' chmod 6 volumes/a / -x 1
@@ -136,6 +136,8 @@ while IFS=: read -r edition root_at at greatest put_as permitted given greatly t
     cp "$owned" before
     refuses 1 'unixvol: 2 NoEntry' chmod "$edition" "$owned" /none 644 2000
     refuses 1 'unixvol: 20 NotDirectory' chmod "$edition" "$owned" /hello/a 644 2000
+    refuses 1 'unixvol: 2 NoEntry' chmod "$edition" "$owned" /none u+x 2000
+    refuses 1 'unixvol: 20 NotDirectory' chmod "$edition" "$owned" /hello/a a=rx 2000
     refuses 1 'unixvol: 2 NoEntry' chown "$edition" "$owned" /none 3 17 2000
     refuses 1 'unixvol: 20 NotDirectory' chown "$edition" "$owned" /hello/a 3 17 2000
     refuses 1 'unixvol: 104 BadId' chown "$edition" "$owned" /hello $((greatest + 1)) 17 2000

@@ -244,6 +244,33 @@ END
     (umask 027 && "$program" get "$edition" marked.img -o given /d/run)
     has 'a file that was got without its marks' '640 yes' "$(stat -c %a given/run) $([ "$(stat -c %Y given/run)" -gt 1000000000 ] && echo yes)"
 
+    # Changes of permissions in letters are those of the host's chmod without a umask.
+    prints none mkfs "$edition" letters.img 100 2 0 0 1000
+    prints none put "$edition" letters.img /f in/run 1001
+    for old in 0 644 2750 4711 7777; do
+        prints none chmod "$edition" letters.img /f "$old" 1002
+        while read -r change; do
+            (umask 0 && : > outside && chmod "$old" outside && chmod "$change" outside)
+            cp letters.img changed.img
+            prints none chmod "$edition" changed.img /f "$change" 1003
+            mode=$(od -An -tu2 -j "$(at_node $((edition == 6 ? 32 : 16)))" -N 2 changed.img)
+            has "the permissions after $old and $change" "$(stat -c %a outside)" "$(printf %o $((mode & 07777)))"
+        done << 'END'
+u+x
++rw
+go-w
+a-rx
+a=rx
+u=rwx,g=rx,o=
+ug+s,o+t
+u-s,g=s,+t
+o=t
+g+t,o+s
+a+x,u-x,go=,g+
+=
+END
+    done
+
     # A tree is removed at once or part by part, and all of its blocks and i-nodes are free.
     shown before.img > before
     plays grown.img keep grow

@@ -200,6 +200,7 @@ traces ln /f /g 3000 <<< '3000 0 0 link /f /g'
 traces mv /f /d 3000 <<< '3000 0 0 link /f /d/f
 3000 0 0 unlink /f'
 traces chmod /f 600 3000 <<< '3000 0 0 chmod /f 600'
+traces chmod /f u+x,go-r 3000 <<< '3000 0 0 chmod /f 700'
 traces chown /d 3 4 3000 <<< '3000 0 0 chown /d 3 4'
 traces touch /f 3000 <<< '3000 0 0 times /f 3000 3000'
 traces touch /n 3000 <<< '3000 0 0 create /n 644'

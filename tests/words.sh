@@ -431,8 +431,17 @@ done << 'END'
 chmod 6 worked /hello 4751 168496141 | 1056 | E9 89 01 00 00 00 05 00
 chown 6 worked /hello 255 17 168496141 | 1056 | E9 89 01 FF 11 00 05 00
 chmod 6 worked /hello 0 168496141 | 1056 | 00 80 01 FF 11 00 05 00
+chmod 6 worked /hello u+x 168496141 | 1056 | 40 80 01 FF 11 00 05 00
+chmod 6 worked /hello a=rx,u+w 168496141 | 1056 | ED 81
+chmod 6 worked /hello u+s,g+s,+t 168496141 | 1056 | ED 8F
+chmod 6 worked /hello go-rwx 168496141 | 1056 | C0 8F
+chmod 6 worked -- /hello -st 168496141 | 1056 | C0 81
+chmod 6 worked /hello ug=rw,o=t,u+x,u-x 168496141 | 1056 | B0 83
+chmod 6 worked /hello = 168496141 | 1056 | 00 80
 chmod 6 worked /d/. 7777 168496141 | 1088 | FF CF 02 00 00
+chmod 6 worked /d/. o-t,ug-s 168496141 | 1088 | FF C1
 chown 6 worked /tty 7 8 168496141 | 1120 | A4 A1 01 07 08
+chmod 6 worked /tty g+w 168496141 | 1120 | B4 A1 01 07 08
 chmod 6 worked / 700 168496141 | 1024 | C0 C1 03 00 00
 touch 6 worked /tty 168496141 | 1144 | 0B 0A 0D 0C 0B 0A 0D 0C
 END

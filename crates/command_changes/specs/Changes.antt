@@ -18,6 +18,7 @@ use Rattle.vol_import.specs.declared.import_options.ImportOptions.{ImportOptions
 use Rattle.command_faults.specs.ChangeFaults.{IsReason, Makes}
 use Rattle.command_faults.specs.Outcomes.{Outcomes, untraced}
 use Rattle.command_changes.specs.Boot.{IsBooted, IsUnbooted}
+use Rattle.command_changes.specs.Chmod.{HasPermissions, chmod_call}
 use Rattle.command_changes.specs.Lookup.{last_name}
 use Rattle.command_changes.specs.Import.{IsUnimported}
 use Rattle.command_changes.specs.ImportLines.{left_lines}
@@ -71,8 +72,8 @@ of_archive edition image archive path options now trace = record {
 -- the outcomes of a change, with these bytes of its file or archive, and with the trace of its calls if it is wanted: its calls are made, all or none,
 -- or the free list is rebuilt. Afterwards PATH of `import` has the members of the archive that aren't left out below it; PATH of `put` leads to a file
 -- of these bytes, with what is kept; PATH of `mkdir` leads to a directory, and so does PATH of `mkdir -p` unless its last name is `.` or `..`; FROM of
--- `mv` leads nowhere, and the new path leads to the file that FROM led to; both times of the node at PATH of `touch` are NOW. `boot` changes block 0
--- alone. `salvage` and `boot` have no trace (this project)
+-- `mv` leads nowhere, and the new path leads to the file that FROM led to; the permissions at PATH of `chmod` are those that its change makes of the old
+-- ones; both times of the node at PATH of `touch` are NOW. `boot` changes block 0 alone. `salvage` and `boot` have no trace (this project)
 abbrev pub changed : Edition → List ℕ → GivenFile → Change → Bool → Outcomes
 changed edition image given (changes.Put path file keep now) trace =
     of_calls_leaving edition image (put_calls (reads_as edition image).tree now path.now given.bytes.items given.kept)
@@ -90,7 +91,9 @@ changed edition image given (changes.Ln from to now) trace = of_calls edition im
 changed edition image given (changes.Mv from to now) trace =
     of_calls_leaving edition image (move_calls (reads_as edition image).tree now from.now to.now) (HasMoved (reads_as edition image).tree now from.now to.now)
     trace
-changed edition image given (changes.Chmod path perm now) trace = of_calls edition image (calls.Chmod user now path.now perm ∷ []) trace
+changed edition image given (changes.Chmod path change now) trace =
+    of_calls_leaving edition image (chmod_call (reads_as edition image).tree now path.now change ∷ [])
+    (HasPermissions (reads_as edition image).tree path.now change) trace
 changed edition image given (changes.Chown path uid gid now) trace = of_calls edition image (calls.Chown user now path.now uid gid ∷ []) trace
 changed edition image given (changes.Touch path now) trace =
     of_calls_leaving edition image (touch_call (reads_as edition image).tree now path.now ∷ []) (λ tree. HasTimes tree path.now now) trace

@@ -79,7 +79,7 @@ pub fn perform(
         Change::Rmdir { path, now } => rmdir(alloc, edition, image, path, now),
         Change::Mkdir { path, now } => mkdir(alloc, edition, image, path, now),
         Change::Ln { from, to, now } => ln(alloc, edition, image, from, to, now),
-        Change::Chmod { path, perm, now } => chmod(alloc, edition, image, path, perm, now),
+        Change::Chmod { path, change, now } => chmod(alloc, edition, image, path, change, now),
         Change::Chown {
             path,
             uid,

@@ -47,7 +47,7 @@ pub struct NewFile<'a> {
     pub content: GivenFile,
 }
 
-/// What is at the path of a file to put.
+/// What is at a path.
 #[derive(Clone, Copy)]
 pub(crate) enum Target {
     /// Nothing.
@@ -246,8 +246,8 @@ fn push_calls(
     push_kept(alloc, target, path, kept, now, calls)
 }
 
-/// Returns what is at the path of a file to put. Costs a walk.
-fn find_target(alloc: Global, volume: &Volume, path: &[u8]) -> Result<Target, AllocError>
+/// Returns what is at a path. Costs a walk.
+pub(crate) fn find_target(alloc: Global, volume: &Volume, path: &[u8]) -> Result<Target, AllocError>
     ensures { IfOk result (λ target. target ≡ target_by (answer (reads_as volume.now.edition volume.now.image).tree (questions.Stat user path.now))) }
 {
     let query = Query::Stat {
@@ -336,7 +336,7 @@ fn push_kept(
 }
 
 /// Returns the permissions of a file after it was emptied or made.
-fn permissions_of(target: Target) -> u16
+pub(crate) fn permissions_of(target: Target) -> u16
     ensures { result ≡ permissions_of target }
 {
     match target {

@@ -1,3 +1,4 @@
+mod Clauses
 pub mod BadLooks
 pub mod BadValues
 pub mod BadWords

@@ -10,8 +10,8 @@ use Rattle.command_words.specs.BadWords.{IsBadImageGiven, IsReadIfAny, sizes_of}
 use Rattle.command_words.specs.Disks.{AreBlocksOf, disk_blocks, list_default}
 use Rattle.command_words.specs.Decimal.{IsNumberUpTo, IsNumberGiven, IsThreads, IsThreadsGiven}
 use Rattle.command_words.specs.Moment.{IsMomentOf}
-use Rattle.command_words.specs.Octal.{IsOctalUpTo, IsOctalGiven}
 use Rattle.command_words.specs.Owners.{IsOwnerGiven, IsOwnerIfAny}
+use Rattle.command_words.specs.Permissions.{IsPermissionsGiven, IsPermissionsWord}
 use Rattle.command_words.specs.Verbs.{Argument, verb_name}
 use Rattle.command_words.specs.declared.fault.WordFault.{WordFault}
 use Rattle.command_words.specs.declared.fault.WordFault.TheVariants as faults
@@ -165,7 +165,7 @@ IsValue clock kinds.Place words = IsPlaceWord (first_word words)
 IsValue clock kinds.WordOr words = IsNumberIfAny 65535 words
 IsValue clock kinds.Blocks words = (blocks : ℕ) × AreBlocksOf (first_word words) blocks
 IsValue clock kinds.Long words = IsNumberUpTo 4294967295 (first_word words)
-IsValue clock kinds.Permissions words = IsOctalUpTo 4095 (first_word words)
+IsValue clock kinds.Permissions words = IsPermissionsWord (first_word words)
 IsValue clock kinds.Owner words = IsOwnerIfAny words
 IsValue clock kinds.Threads words = IsThreads (first_word words)
 IsValue clock kinds.Moment words = (now : ℕ) × IsMomentGiven clock words now
@@ -213,7 +213,7 @@ change_verb (changes.Mkdir path now) = verbs.Mkdir
 change_verb (changes.MkdirAll path now) = verbs.Mkdir
 change_verb (changes.Ln from to now) = verbs.Ln
 change_verb (changes.Mv from to now) = verbs.Mv
-change_verb (changes.Chmod path perm now) = verbs.Chmod
+change_verb (changes.Chmod path change now) = verbs.Chmod
 change_verb (changes.Chown path uid gid now) = verbs.Chown
 change_verb (changes.Touch path now) = verbs.Touch
 change_verb changes.Salvage = verbs.Salvage
@@ -402,8 +402,8 @@ IsChangeGiven clock given (changes.Ln from to now) = (from.now ≡ the_word give
     × (to.now ≡ the_word given (codes "TO")) × IsMomentGiven clock (given (codes "NOW")) now
 IsChangeGiven clock given (changes.Mv from to now) = (from.now ≡ the_word given (codes "FROM"))
     × (to.now ≡ the_word given (codes "TO")) × IsMomentGiven clock (given (codes "NOW")) now
-IsChangeGiven clock given (changes.Chmod path perm now) = IsPathGiven (given (codes "PATH")) path.now
-    × IsOctalGiven 4095 (the_word given (codes "PERM")) perm × IsMomentGiven clock (given (codes "NOW")) now
+IsChangeGiven clock given (changes.Chmod path change now) = IsPathGiven (given (codes "PATH")) path.now
+    × IsPermissionsGiven (the_word given (codes "PERM")) change × IsMomentGiven clock (given (codes "NOW")) now
 IsChangeGiven clock given (changes.Chown path uid gid now) = IsPathGiven (given (codes "PATH")) path.now
     × IsNumberGiven 65535 (the_word given (codes "UID")) uid × IsNumberGiven 65535 (the_word given (codes "GID")) gid
     × IsMomentGiven clock (given (codes "NOW")) now

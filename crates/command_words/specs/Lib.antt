@@ -3,6 +3,6 @@ pub mod Invocations
 pub mod Decimal
 pub mod Disks
 pub mod Moment
-pub mod Octal
 pub mod Owners
+pub mod Permissions
 pub mod Verbs

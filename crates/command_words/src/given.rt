@@ -1,9 +1,9 @@
 //! The words given for the arguments of a command.
 ghost use Rattle.std.specs.Prelude.{◌≡◌, ◌≤◌, true, ℕ, List, None, IfOk, IfErr, IfSome, IsSome, codes, length, map, option_map, slice_get};
 ghost use Rattle.command_words.specs.Decimal.{IsNumberUpTo, IsNumberGiven, IsThreads, IsThreadsGiven};
-ghost use Rattle.command_words.specs.Octal.{IsOctalUpTo, IsOctalGiven};
 ghost use Rattle.command_words.specs.Disks.{AreBlocksOf};
 ghost use Rattle.command_words.specs.Owners.{IsOwnerGiven, IsOwnerIfAny, IsOwnerNamed, IsOwnerWord};
+ghost use Rattle.command_words.specs.Permissions.{IsPermissionsGiven, IsPermissionsWord};
 ghost use Rattle.command_words.specs.Invocations.{IsEditionGiven, IsEditionNamed, IsMomentGiven, IsNodeGiven, IsNodeWord, IsNumberOr, IsPathGiven, IsPathWord, IsPlaceWord, IsRadixGiven, IsRescueGiven, IsTargetGiven, IsValue, IsWrong, TellsOf, is_path, is_set, the_word};
 ghost use Rattle.command_words.specs.declared.parameters.WordKind.TheVariants as kinds;
 
@@ -11,10 +11,10 @@ use crate::decimal::{long_of, threads_of, word_of};
 use crate::disks::blocks_of;
 use crate::fault::{Said, WordFault, WrongWord};
 use crate::moment::moment_of;
-use crate::octal::permissions_of;
 use crate::owners::owner_of;
+use crate::permissions::permissions_of;
 use crate::texts;
-use command_terms::{DumpTarget, NodeName};
+use command_terms::{DumpTarget, NodeName, PermissionChange};
 use std::alloc::{AllocError, Global};
 use vol_dir::Cred;
 use vol_fields::Radix;
@@ -233,16 +233,19 @@ pub(crate) fn threads_in<'a, G: Given<'a>>(given: &G, name: &'a str) -> Result<u
     threads_of(text).ok_or(wrong(name, text, texts::THREADS))
 }
 
-/// Reads the permissions given for an argument.
+/// Reads the change of permissions given for an argument.
 pub(crate) fn permissions_in<'a, G: Given<'a>>(
     given: &G,
     name: &'a str,
-) -> Result<u16, WordFault<'a>>
-    ensures read { IfOk result (λ number. IsOctalGiven 4095 (the_word (G.words given.now) name.now) number) }
-    ensures refused { IfErr result (TellsOf (IsOctalUpTo 4095 (the_word (G.words given.now) name.now) → ⊥)) }
+) -> Result<PermissionChange, WordFault<'a>>
+    ensures read { IfOk result (IsPermissionsGiven (the_word (G.words given.now) name.now)) }
+    ensures refused { IfErr result (TellsOf (IsPermissionsWord (the_word (G.words given.now) name.now) → ⊥)) }
 {
     let text = text_in(given, name);
-    permissions_of(text).ok_or(wrong(name, text, texts::OCTAL))
+    match permissions_of(text) {
+        Some(change) => Ok(change),
+        None => Err(wrong(name, text, texts::PERMISSIONS)),
+    }
 }
 
 /// Reads the user and the group of an option, if it was given.

@@ -24,7 +24,7 @@ pub enum WordKind {
     Long,
     /// A 32-bit number, or a path.
     Place,
-    /// Permissions, in octal digits.
+    /// Permissions in octal digits, or changes of them in letters.
     Permissions,
     /// A user and a group: two 16-bit numbers with a colon between them; they may be left out.
     Owner,

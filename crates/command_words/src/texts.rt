@@ -38,7 +38,8 @@ pub const LONG: &str = "not a decimal number from 0 to 4294967295";
 pub const BLOCKS_OR_DISK: &str =
     "not a decimal number from 0 to 4294967295, nor rk05, rk06, rk07, rl01, rl02, rm03, rp03, rp04, rp06, rx01 or rx02";
 
-pub const OCTAL: &str = "not an octal number from 0 to 7777";
+pub const PERMISSIONS: &str =
+    "not an octal number from 0 to 7777, nor changes like u+x or a=rx,u+w";
 
 pub const OWNER_WORD: &str = "not two numbers from 0 to 65535 with a colon between them";
 

@@ -17,12 +17,19 @@ pub(crate) const NAME: &str = "chmod";
 pub(crate) const ABOUT: &str = "Changes the permissions of a file or directory of a volume.";
 
 pub(crate) const MORE: &str = "\
-Example:
+Examples:
   unixvol chmod 7 disk.img /etc/rc 0755 173750400
+  unixvol chmod 7 disk.img /usr/games/chess u+s,go-w
 
 PERM is the sum of the bits to set: 400, 200 and 100 let the owner read, write and execute, 40, 20 and 10 the
 group, 4, 2 and 1 everyone else; 4000 is set-user-id, 2000 set-group-id, and 1000 keeps a program's text in swap
 space. Special files have permissions too.
+
+PERM can also be changes in letters, with commas between them; each is made after the one before it, and all bits
+that none of them names stay. A change is letters for whom: u for the owner, g for the group, o for everyone else,
+a for all; no letter means all. Then it has + to set bits, - to clear them, or = to set them and clear the others
+of whom. Last come letters for the bits: r to read, w to write, x to execute, s for set-user-id (of u) and
+set-group-id (of g), t for 1000 (of o). A word that begins with a hyphen is taken for an option: write a-w, not -w.
 
 IMAGE is written only if everything succeeded: a new file is written beside it and then takes its place.
 
@@ -43,7 +50,7 @@ const PERM: Parameter = Parameter {
     name: "PERM",
     kind: WordKind::Permissions,
     need: Need::Once,
-    help: "The permissions, an octal number up to 7777",
+    help: "The permissions, an octal number up to 7777; or changes of them, as u+x or a=rx,u+w",
 };
 
 /// The words that `chmod` takes.
@@ -60,11 +67,11 @@ pub(crate) fn read<'a, G: Given<'a>>(
 {
     let volume = volume_in(given)?;
     let path = path_in(given)?;
-    let perm = permissions_in(given, "PERM")?;
+    let change = permissions_in(given, "PERM")?;
     let now = moment_in(given, clock)?;
     Ok(Invocation::Change {
         volume,
-        change: Change::Chmod { path, perm, now },
+        change: Change::Chmod { path, change, now },
         trace: flag_in(given, "trace"),
     })
 }

@@ -1,4 +1,5 @@
 use Rattle.command_faults.proofs.Concluded.{among}
+use Rattle.command_changes.proofs.ChangedPermissions.{chmod_leaves}
 use Rattle.command_changes.proofs.Imported.{archive_among}
 use Rattle.command_changes.proofs.MadeDirectories.{directories_leave, directory_leaves}
 use Rattle.command_changes.proofs.MovedNames.{move_leaves}
@@ -37,6 +38,7 @@ returns c = elim c.match-change.branch [
   | in-Mkdir w ↦
       rw w.in-Mkdir.is (leaving_among _ _ _ _ _ _ _ _ w.made-is (λ bytes makes. directory_leaves _ _ bytes _ _ makes) w.mkdir-made.ensures.made w.mkdir-made.ensures.fault (c.traced.ensures.made, c.traced.ensures.memory, c.traced.ensures.fault))
   | in-Ln w ↦ rw w.in-Ln.is (calls_among _ _ _ _ _ _ _ w.made-is w.ln-made.ensures.made w.ln-made.ensures.fault (c.traced.ensures.made, c.traced.ensures.memory, c.traced.ensures.fault))
-  | in-Chmod w ↦ rw w.in-Chmod.is (calls_among _ _ _ _ _ _ _ w.made-is w.chmod-made.ensures.made w.chmod-made.ensures.fault (c.traced.ensures.made, c.traced.ensures.memory, c.traced.ensures.fault))
+  | in-Chmod w ↦
+      rw w.in-Chmod.is (leaving_among _ _ _ _ _ _ _ _ w.made-is (λ bytes makes. chmod_leaves _ _ bytes _ _ _ makes) w.chmod-made.ensures.made w.chmod-made.ensures.fault (c.traced.ensures.made, c.traced.ensures.memory, c.traced.ensures.fault))
   | in-Chown w ↦ rw w.in-Chown.is (calls_among _ _ _ _ _ _ _ w.made-is w.chown-made.ensures.made w.chown-made.ensures.fault (c.traced.ensures.made, c.traced.ensures.memory, c.traced.ensures.fault))
 ]

@@ -1,0 +1,8 @@
+use Rattle.std.proofs.Common.{rules, [], ◌∷◌}
+use Rattle.vol_volume.specs.Volume.{reads_as}
+use Rattle.command_changes.specs.Chmod.{chmod_call}
+use Rattle.command_changes.proofs.chmod.chmod.Goals as goal
+
+pub returns-in_err-volume-clause-fault : goal.returns-in_err-volume-clause-fault
+returns-in_err-volume-clause-fault c =
+    search (rules, c.in_err-volume.ensures.fault (chmod_call (reads_as c.args.edition c.args.image.items).tree c.args.now c.args.path.now c.args.change ∷ []))

@@ -409,6 +409,34 @@ has 'its line' 1 "$(grep -c '^unixvol: .: names may be missing: 160 of 672 bytes
 has 'find --lost has the i-nodes whose names are lost' 10 "$(wc -l < found)"
 refuses 3 'unixvol: bad.map: line 3: the range begins before the end of the one above' find --bad bad.map 7 b.img
 
+# lost_on_way BLOCK PATH LINE: with this block lost, PATH isn't found, and nothing is printed but LINE after the number of lost blocks
+lost_on_way() {
+    local words
+    for words in find sums export 'find --json' 'sums --json' 'find --lost' 'export --damaged'; do
+        # shellcheck disable=SC2086
+        "$program" $words --bad-blocks "$1" 7 "$linux" "$2" > found 2> error
+        has "the status of $words --bad-blocks $1 $2" 5 $?
+        has "the lines of $words --bad-blocks $1 $2" "unixvol: 1 of 240 blocks are lost
+unixvol: $3" "$(cat error)"
+        has "the output of $words --bad-blocks $1 $2" 0 "$(wc -c < found)"
+    done
+}
+
+# A path that isn't found, while something is lost on the way, is no wrong path: the line has the last node of which something is lost.
+lost_on_way 13 /usr '/usr: i-node 96 is lost'
+lost_on_way 13 /usr/games/moved '/usr: i-node 96 is lost'
+lost_on_way 2 /etc '/: i-node 2 is lost'
+lost_on_way 14 /etc '/: names may be missing: 80 of 80 bytes are lost: 0-79'
+lost_on_way 41 //usr/games/none '/usr/games: names may be missing: 176 of 688 bytes are lost: 512-687'
+lost_on_way 41 /usr/games/moved '/usr/games: names may be missing: 176 of 688 bytes are lost: 512-687'
+lost_on_way 15 /usr/../etc/motd '/usr: names may be missing: 96 of 96 bytes are lost: 0-95'
+# If nothing is lost on the way, the path is wrong, also if bytes of the file at its end are lost.
+for command in find sums export; do
+    refuses 1 'unixvol: 2 NoEntry' "$command" --bad-blocks 41 7 "$linux" /none
+    refuses 1 'unixvol: 20 NotDirectory' "$command" --bad-blocks 41 7 "$linux" /etc/motd
+    refuses 1 'unixvol: 20 NotDirectory' "$command" --bad-blocks 20 7 "$linux" /etc/motd/x
+done
+
 # `sums` has the digest of each file of which nothing is lost, a dash for the others, and the lines of an export.
 for edition in 6 7; do
     "$program" mkfs "$edition" b.img 4872 100 0 0 0

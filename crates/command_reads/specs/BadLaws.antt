@@ -1,10 +1,11 @@
--- Statements on what `find` and `sums` print of an image of which some blocks couldn't be read.
-use Rattle.std.specs.Prelude.{◌≡◌, ℕ, Bool, false, List, Option, All, Some, Ok}
+-- Statements on what `find` and `sums` print of an image of which some blocks couldn't be read, and on where its paths lead.
+use Rattle.std.specs.Prelude.{◌≡◌, ℕ, Bool, false, List, Option, All, None, Some, Ok}
 use Rattle.bad_maps.specs.declared.maps.ReadRange.{ReadRange}
 use Rattle.vol_archive.specs.Laws.{members_of}
 use Rattle.vol_dir.specs.declared.directories.FoundDirectory.{FoundDirectory}
 use Rattle.vol_archive.specs.declared.met_entries.MetEntry.{MetEntry}
 use Rattle.vol_dir.specs.Access.{user}
+use Rattle.vol_dir.specs.Directories.{directory_at}
 use Rattle.vol_dir.specs.Entries.{IsDirectory}
 use Rattle.vol_dir.specs.Tree.{tree}
 use Rattle.vol_dir.specs.Walk.{components, walk_from}
@@ -17,6 +18,7 @@ use Rattle.vol_losses.specs.BadImages.{HasRead, IsRescued}
 use Rattle.vol_losses.specs.declared.given_sizes.VolumeSizes.{VolumeSizes}
 use Rattle.vol_rescue.specs.Paths.{AreSoundAbove}
 use Rattle.command_reads.specs.Export.{AreFound}
+use Rattle.command_reads.specs.Ways.{unsure_on}
 
 -- the path of each entry that `find` prints without `--lost`, and that an archive can hold, leads from the directory that was asked for to the entry's i-number
 -- in every volume that has the bytes of the known blocks, if there is no line about a directory between them; whatever the lost blocks held (this project)
@@ -33,3 +35,10 @@ abbrev pub BadSumsAreRight : Type 0
 BadSumsAreRight = (edition : Edition) (ranges : List ReadRange) (at : ℕ) (sizes : Option VolumeSizes) (bytes volume image : List ℕ) (lost : List Bool)
     (geometry : Geometry) (i : ℕ) (sum : List ℕ) → IsRescued edition ranges at sizes bytes image lost → HasRead sizes ranges at bytes volume → Fits geometry image
     → known_sum geometry image lost i ≡ Some sum → sum_at (tree geometry volume) i ≡ Some sum
+
+-- a path on which nothing is lost leads to the same directory, or to none for the same reason, in every volume that has the bytes of the known blocks;
+-- whatever the lost blocks held (this project)
+abbrev pub PathsAreRight : Type 0
+PathsAreRight = (edition : Edition) (ranges : List ReadRange) (at : ℕ) (sizes : Option VolumeSizes) (bytes volume image : List ℕ) (lost : List Bool)
+    (geometry : Geometry) (path : List ℕ) → IsRescued edition ranges at sizes bytes image lost → HasRead sizes ranges at bytes volume → Fits geometry image
+    → unsure_on geometry image lost path ≡ None → directory_at geometry volume path ≡ directory_at geometry image path

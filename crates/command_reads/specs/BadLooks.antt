@@ -81,7 +81,7 @@ TellsUnrescued edition ranges at sizes bytes streams status =
 -- part of an image that was rescued is shown (this project)
 abbrev pub ShowsRescued : Edition → List ℕ → List Bool → Screen → Streams → ℕ → BadLook → Type 0
 ShowsRescued edition image lost screen streams status (bad_looks.Export path options) =
-    ExportsFrom edition image lost options screen streams status (begun options.lost edition image path.now)
+    ExportsFrom edition image lost path.now options screen streams status (begun options.lost edition image path.now)
 ShowsRescued edition image lost screen streams status (bad_looks.Find path name orphans form) =
     Shows (found_sights edition image lost path.now (option_map (λ word. word.now) name) orphans form screen) streams status
 ShowsRescued edition image lost screen streams status (bad_looks.Sums path form orphans) =

@@ -1,5 +1,5 @@
 -- The command that prints the paths of everything below a directory.
-use Rattle.std.specs.Prelude.{◌≡◌, ℕ, ◌==◌, Bool, true, if◌then◌else◌, List, [], ◌∷◌, ◌++◌, length, codes, Option, None, Some, Ok}
+use Rattle.std.specs.Prelude.{◌≡◌, ◌⊎◌, ℕ, ◌==◌, Bool, true, if◌then◌else◌, List, [], ◌∷◌, ◌++◌, length, codes, Option, None, Some, Ok}
 use Rattle.std.specs.List.{flat_map}
 use Rattle.serde_json.specs.Data.{Data, member, no_members, object, string}
 use Rattle.escaped_text.specs.Escape.{escaped}
@@ -17,7 +17,7 @@ use Rattle.vol_rescue.specs.Lines.{TellsLosses}
 use Rattle.command_reads.specs.Export.{AreFound as AreVisited, begun, told_status}
 use Rattle.command_reads.specs.Print.{Sights}
 use Rattle.command_reads.specs.Remarks.{limit_lines}
-use Rattle.command_reads.specs.Sums.{IsManifestFault}
+use Rattle.command_reads.specs.Unreached.{IsUnreached, IsUnreachedFault}
 use Rattle.command_terms.specs.declared.looks.OutputForm.{OutputForm}
 use Rattle.command_terms.specs.declared.looks.OutputForm.TheVariants as forms
 
@@ -65,10 +65,10 @@ pub record AreFound (edition : Edition) (image : List ℕ) (marks : List Bool) (
   pub told : TellsFound start.geometry image marks start.inode founds lines short
 
 -- the paths of everything below the directory at a path of an image of which blocks may be lost, or a fault; the status is 0 if there are no lines, 5 if
--- they say that something is damaged or left out, else 1 (this project)
+-- they say that something is damaged or left out, else 1; or the path can't be reached for what is lost on the way (this project)
 abbrev pub found_sights : Edition → List ℕ → List Bool → List ℕ → Option (List ℕ) → Bool → OutputForm → Screen → Sights
 found_sights edition image marks path pattern lost form screen = record {
-  shows = λ text status lines. (short : Bool) × AreFound edition image marks path pattern lost form screen short text lines
-      × (status ≡ (if length lines == 0 then 0 else told_status true short));
-  fails = IsManifestFault edition image path lost;
+  shows = λ text status lines. ((short : Bool) × AreFound edition image marks path pattern lost form screen short text lines
+      × (status ≡ (if length lines == 0 then 0 else told_status true short))) ⊎ IsUnreached lost edition image marks path text status lines;
+  fails = IsUnreachedFault lost edition image marks path;
 }

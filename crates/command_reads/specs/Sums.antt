@@ -15,6 +15,7 @@ use Rattle.command_faults.specs.declared.fault.Fault.{Fault}
 use Rattle.command_reads.specs.Export.{AreFound, begun, told_status, unstarted}
 use Rattle.command_reads.specs.Losses.{TellsExport, is_graded}
 use Rattle.command_reads.specs.Print.{Sights}
+use Rattle.command_reads.specs.Unreached.{IsUnreached, IsUnreachedFault}
 use Rattle.command_terms.specs.declared.looks.ExportOptions.{ExportOptions}
 use Rattle.command_terms.specs.declared.looks.OutputForm.{OutputForm}
 use Rattle.command_terms.specs.declared.looks.OutputForm.TheVariants as forms
@@ -52,10 +53,11 @@ IsManifestFault edition image path lost fault =
     (fault ≡ no_memory) ⊎ ((why : DirectoryFault) × (begun lost edition image path ≡ Err why) × (fault ≡ unstarted why))
 
 -- the manifest of the directory at a path of an image of which blocks may be lost, or a fault; the status is 0 if there are no lines; if blocks are lost,
--- 5 if they say that something is damaged or left out; else 1 (this project)
+-- 5 if they say that something is damaged or left out; else 1; or the path can't be reached for what is lost on the way (this project)
 abbrev pub sums_sights : Edition → List ℕ → List Bool → List ℕ → OutputForm → Bool → Sights
 sums_sights edition image marks path form lost = record {
-  shows = λ text status lines. (manifest : IsManifest edition image marks path form lost text lines)
-      × (status ≡ (if length lines == 0 then 0 else told_status (is_graded false marks) manifest.short));
-  fails = IsManifestFault edition image path lost;
+  shows = λ text status lines. ((manifest : IsManifest edition image marks path form lost text lines)
+      × (status ≡ (if length lines == 0 then 0 else told_status (is_graded false marks) manifest.short)))
+      ⊎ IsUnreached lost edition image marks path text status lines;
+  fails = IsUnreachedFault lost edition image marks path;
 }

@@ -1,18 +1,19 @@
 //! The command that writes everything below a directory as an archive.
-ghost use Rattle.std.specs.Prelude.{◌≡◌, ◌==◌, false, All, IfOk, if◌then◌else◌, length};
+ghost use Rattle.std.specs.Prelude.{◌≡◌, ◌==◌, ℕ, Bool, List, Option, false, All, IfOk, if◌then◌else◌, length};
 ghost use Rattle.vol_layout.specs.Geometry.{Fits};
 ghost use Rattle.vol_dir.specs.Entries.{IsDirectory};
 ghost use Rattle.command_faults.specs.Faults.{line_after};
-ghost use Rattle.command_faults.specs.Streams.{ErrorStream, Hears, streams};
+ghost use Rattle.command_faults.specs.Streams.{ErrorStream, Hears, still, streams};
 ghost use Rattle.vol_inspect.specs.Lost.{IsInList};
 ghost use Rattle.command_reads.specs.Remarks.{AreOutOfReach};
 ghost use Rattle.command_reads.specs.Losses.{IsUnreadEnding};
-ghost use Rattle.command_reads.specs.Export.{AreFound, begun, Exports, ExportsFrom, ExportsTo, ExportsBelow, WritesBelow, told_status, unstarted, unstarted_status, unwritten};
+ghost use Rattle.command_reads.specs.Export.{AreFound, begun, Exports, ExportsFrom, ExportsTo, ExportsBelow, TellsUnstarted, WritesBelow, told_status, unstarted, unstarted_status, unwritten};
 
 use crate::faults::unmeasured;
 use crate::losses::{is_graded, read_as, remarks_on, short_fault};
 use crate::remarks::Remarks;
 use crate::statuses::{NO_VOLUME, SHORT};
+use crate::ways::way_lines;
 use command_faults::status::{DONE, REFUSED};
 use command_faults::{Ending, Fault};
 use command_terms::ExportOptions;
@@ -36,7 +37,8 @@ use vol_rescue::without_damaged;
 ///
 /// As another option, the image may be shorter than its volume. If blocks of it are lost, each file that isn't whole is left out, or is exported with
 /// zeros in place of the lost bytes; the fault then has the lines about what is lost, and no others, and the status is 5 if anything is damaged or left
-/// out, else 1. If more than [`vol_losses::MOST_MISSING`] blocks are missing, the status is 6.
+/// out, else 1. If the path leads to no directory but something is lost on the way, nothing is exported, the lines are about that, and the status is 5. If
+/// more than [`vol_losses::MOST_MISSING`] blocks are missing, the status is 6.
 ///
 /// Costs the walk, [`vol_judge::judge`], for an unsound image [`lost_inodes`], and writing the bytes. All memory except for one header at a time is
 /// taken before the first byte is written.
@@ -85,7 +87,7 @@ pub(crate) fn export_read<O: Sink>(
     output: &mut O,
 ) -> Ending
     ensures { (errors : ErrorStream) → Hears errors result.fault
-        → ExportsFrom edition read.now.image read.now.lost.items options screen (streams O.contents O.failed output.old output.new errors) result.status
+        → ExportsFrom edition read.now.image read.now.lost.items path.now options screen (streams O.contents O.failed output.old output.new errors) result.status
         (begun options.lost edition read.now.image path.now) }
 {
     let image = &read.image;
@@ -93,10 +95,41 @@ pub(crate) fn export_read<O: Sink>(
         Ok(start) => export_to(
             alloc, edition, image, &read.lost, &start, options, screen, output,
         ),
-        Err(fault) => Ending {
-            status: unstarted_status(options.graded, fault),
-            fault: Some(unstarted(fault)),
+        Err(why) => unstarted_ending(
+            alloc,
+            edition,
+            image,
+            &read.lost,
+            path.as_bytes(),
+            options,
+            why,
+        ),
+    }
+}
+
+/// Returns the ending of an export whose path leads to no directory for this reason. If something is lost on the way, its lines are about that.
+fn unstarted_ending(
+    alloc: Global,
+    edition: Edition,
+    image: &Image,
+    lost: &[bool],
+    path: &[u8],
+    options: ExportOptions,
+    why: DirectoryFault,
+) -> Ending
+    ensures { (known : Option (List ℕ)) (failed : Bool) (errors : ErrorStream) → Hears errors result.fault
+        → TellsUnstarted edition image.now lost.now path.now options (still known failed errors) result.status why }
+{
+    match way_lines(alloc, edition, image, lost, path, why) {
+        Ok(Some(lines)) => Ending {
+            status: told_status(is_graded(options.graded, lost), true),
+            fault: Some(Fault::Worded { rule: None, lines }),
         },
+        Ok(None) => Ending {
+            status: unstarted_status(options.graded, why),
+            fault: Some(unstarted(why)),
+        },
+        Err(_) => Ending::from(Fault::Refused(Refusal::NoMemory)),
     }
 }
 

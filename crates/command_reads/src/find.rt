@@ -9,10 +9,11 @@ ghost use Rattle.command_reads.specs.Print.{IsSight, telling};
 ghost use Rattle.command_reads.specs.Remarks.{limit_lines};
 ghost use Rattle.command_reads.specs.Sums.{IsManifestFault};
 
-use crate::export::{begun, ending_with, unstarted, walk_all};
+use crate::export::{begun, ending_with, walk_all};
 use crate::losses::losses_on;
 use crate::print::Shown;
 use crate::remarks::{Remarks, push_limits};
+use crate::unreached::unreached;
 use command_faults::Fault;
 use command_terms::OutputForm;
 use name_patterns::{is_like, last_name};
@@ -58,7 +59,8 @@ pub(crate) fn find(
 }
 
 /// Returns the paths of everything below the directory at a path, as [`find`] does, of an image with lost blocks. If there are marks, the status is 5 if
-/// anything is damaged or left out, else 1, and the lines are those about what is lost.
+/// anything is damaged or left out, else 1, and the lines are those about what is lost. If the path leads to no directory but something is lost on the
+/// way, nothing is shown, with the lines about that and status 5.
 ///
 /// Costs what [`find`] and [`tell_losses`] cost.
 pub(crate) fn find_in(
@@ -76,7 +78,7 @@ pub(crate) fn find_in(
 {
     let start = match begun(edition, image, path.as_bytes(), lost) {
         Ok(start) => start,
-        Err(fault) => return Err(unstarted(fault)),
+        Err(why) => return unreached(alloc, edition, image, marks, path.as_bytes(), why),
     };
     let rescue = walk_all(alloc, image, &start.geometry, start.inode, lost)?;
     let top = shown_path(alloc, path.as_bytes())?;

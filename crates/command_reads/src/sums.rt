@@ -5,9 +5,10 @@ ghost use Rattle.vol_listing.specs.Listings.{shown_path};
 ghost use Rattle.command_reads.specs.Print.{IsSight, telling};
 ghost use Rattle.command_reads.specs.Sums.{AreSumsIn, IsManifest, IsManifestFault, as_exported, sums_sights};
 
-use crate::export::{begun, ending_with, unstarted, walk_all};
+use crate::export::{begun, ending_with, walk_all};
 use crate::losses::{is_graded, remarks_on};
 use crate::print::Shown;
+use crate::unreached::unreached;
 use command_faults::Fault;
 use command_terms::{ExportOptions, LossOptions, OutputForm};
 use pdp_words::Image;
@@ -39,7 +40,7 @@ pub(crate) fn sums(
 
 /// Returns a manifest of everything below the directory at a path, as [`sums`] does, of an image with lost blocks. If there are marks, a file of which bytes
 /// are lost has no sum, an entry whose i-node is lost is left out, the lines are those about what is lost, and the status is 5 if anything is damaged or
-/// left out, else 1.
+/// left out, else 1. If the path leads to no directory but something is lost on the way, nothing is shown, with the lines about that and status 5.
 ///
 /// Costs what [`sums`], [`without_damaged`] and [`tell_losses`](vol_rescue::tell_losses) cost.
 pub(crate) fn sums_of(
@@ -55,7 +56,7 @@ pub(crate) fn sums_of(
 {
     let start = match begun(edition, image, path.as_bytes(), lost) {
         Ok(start) => start,
-        Err(fault) => return Err(unstarted(fault)),
+        Err(why) => return unreached(alloc, edition, image, marks, path.as_bytes(), why),
     };
     let geometry = &start.geometry;
     let rescue = walk_all(alloc, image, geometry, start.inode, lost)?;

@@ -1,5 +1,5 @@
 -- The end of a command that shows part of an image of which some blocks couldn't be read.
-use Rattle.std.proofs.Common.{ℕ, Bool, true, false, List, Option, inl, inr, arith}
+use Rattle.std.proofs.Common.{◌≡◌, ◌≤◌, ℕ, Bool, true, false, List, [], Option, inl, inr, arith}
 use Rattle.std.specs.Prelude.{option_map}
 use Rattle.bad_maps.specs.declared.maps.ReadRange.{ReadRange}
 use Rattle.command_faults.specs.Faults.{no_memory}
@@ -9,6 +9,7 @@ use Rattle.command_reads.specs.Export.{begun, told_status}
 use Rattle.command_reads.specs.Find.{found_sights}
 use Rattle.command_reads.specs.Losses.{TellsIncomplete, is_graded}
 use Rattle.command_reads.specs.Sums.{sums_sights}
+use Rattle.command_reads.specs.Unreached.{IsUnreached}
 use Rattle.command_reads.specs.declared.bad_looks.BadBlocks.{BadBlocks}
 use Rattle.command_reads.specs.declared.bad_looks.BadBlocks.TheVariants as reads
 use Rattle.command_terms.specs.declared.bad_looks.BadLook.{BadLook}
@@ -35,21 +36,33 @@ ends_unrescued edition ranges at sizes bytes streams status (inr (inl (wrong, fa
     ends_badly 6 streams status (omega (arith, told.status)) (omega (arith, told.status))
 ends_unrescued edition ranges at sizes bytes streams status (inr (inr told)) = ends_told 6 streams no_memory status (omega arith) told
 
+-- a look whose path isn't reached has status 5
+unreached_few : (orphans : Bool) (edition : Edition) (image : List ℕ) (lost : List Bool) (path text : List ℕ) (wanted : ℕ) (lines : List ℕ)
+    → IsUnreached orphans edition image lost path text wanted lines → (wanted ≤ 6) × (wanted ≡ 0 → lines ≡ [])
+unreached_few orphans edition image lost path text wanted lines (why, begins, told, none, is) =
+    (omega (arith, is), λ e. absurd (omega (arith, is, e)))
+
 ends_rescued : (edition : Edition) (image : List ℕ) (lost : List Bool) (screen : Screen) (streams : Streams) (status : ℕ) (look : BadLook)
     → ShowsRescued edition image lost screen streams status look → IsEndWithin 6 streams status
 ends_rescued edition image lost screen streams status (bad_looks.Export path options) shows =
-    ends_from 6 edition image lost options screen streams status (begun options.lost edition image path.now) (most_six options.graded lost) shows
+    ends_from 6 edition image lost path.now options screen streams status (begun options.lost edition image path.now) (most_six options.graded lost) shows
 ends_rescued edition image lost screen streams status (bad_looks.Find path name orphans form) shows =
     ends_shows 6 (found_sights edition image lost path.now (option_map (λ word. word.now) name) orphans form screen) streams status (omega arith)
-    (λ text wanted lines is.
-    let told = told_few true is.0 in
-    lines_few 6 (told_status true is.0) wanted lines told.0 told.1 is.2) shows
+    (λ text wanted lines is. elim is [
+      | inl found ↦
+          let told = told_few true found.0 in
+          lines_few 6 (told_status true found.0) wanted lines told.0 told.1 found.2
+      | inr unreached ↦ unreached_few orphans edition image lost path.now text wanted lines unreached
+    ]) shows
 ends_rescued edition image lost screen streams status (bad_looks.Sums path form orphans) shows =
     ends_shows 6 (sums_sights edition image lost path.now form orphans) streams status (omega arith)
-    (λ text wanted lines is.
-    let graded = is_graded false lost in
-    let told = told_few graded is.0.short in
-    lines_few 6 (told_status graded is.0.short) wanted lines told.0 told.1 is.1) shows
+    (λ text wanted lines is. elim is [
+      | inl summed ↦
+          let graded = is_graded false lost in
+          let told = told_few graded summed.0.short in
+          lines_few 6 (told_status graded summed.0.short) wanted lines told.0 told.1 summed.1
+      | inr unreached ↦ unreached_few orphans edition image lost path.now text wanted lines unreached
+    ]) shows
 
 ends_read : (edition : Edition) (bytes : List ℕ) (ranges : List ReadRange) (at : ℕ) (sizes : Option VolumeSizes) (look : BadLook) (screen : Screen) (streams : Streams)
     (status : ℕ) → LooksRescued edition bytes ranges at sizes look screen streams status → IsEndWithin 6 streams status

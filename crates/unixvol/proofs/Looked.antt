@@ -183,11 +183,16 @@ most_six graded lost = record {
   unstarted = λ fault. subst (λ n. unstarted_status graded fault ≤ n) (ap (λ b. if b then 6 else 4) (or_true graded)) (unstarted_few graded true fault).1;
 }
 
-pub ends_from : (most : ℕ) (edition : Edition) (image : List ℕ) (lost : List Bool) (options : ExportOptions) (screen : Screen) (streams : Streams) (status : ℕ)
-    (found : Result FoundDirectory DirectoryFault) → IsMost options.graded lost most → ExportsFrom edition image lost options screen streams status found
+pub ends_from : (most : ℕ) (edition : Edition) (image : List ℕ) (lost : List Bool) (path : List ℕ) (options : ExportOptions) (screen : Screen) (streams : Streams) (status : ℕ)
+    (found : Result FoundDirectory DirectoryFault) → IsMost options.graded lost most → ExportsFrom edition image lost path options screen streams status found
     → IsEndWithin most streams status
-ends_from most edition image lost options screen streams status (Ok start) is_most exports = ends_to most edition image lost start options streams status screen is_most exports
-ends_from most edition image lost options screen streams status (Err fault) is_most told =
+ends_from most edition image lost path options screen streams status (Ok start) is_most exports =
+    ends_to most edition image lost start options streams status screen is_most exports
+ends_from most edition image lost path options screen streams status (Err fault) is_most (inr (inl (lines, said, tells, line, told))) =
+    ends_badly most streams status (subst (λ n. 1 ≤ n) (sym told.status) (told_few (is_graded options.graded lost) true).0)
+    (subst (λ n. n ≤ most) (sym told.status) (is_most.told true))
+ends_from most edition image lost path options screen streams status (Err fault) is_most (inr (inr told)) = ends_told most streams no_memory status is_most.four told
+ends_from most edition image lost path options screen streams status (Err fault) is_most (inl (none, told)) =
     ends_badly most streams status (subst (λ n. 1 ≤ n) (sym told.status) (unstarted_few options.graded true fault).0)
     (subst (λ n. n ≤ most) (sym told.status) (is_most.unstarted fault))
 
@@ -205,7 +210,7 @@ incomplete_few false false is = absurd (true≢false (sym is))
 ends_exports : (edition : Edition) (bytes path : List ℕ) (options : ExportOptions) (screen : Screen) (streams : Streams) (status : ℕ)
     → Exports edition bytes path options screen streams status → IsEndWithin (most_of options.graded options.losses.cut) streams status
 ends_exports edition bytes path options screen streams status (inl (image, lost, read, exports)) =
-    ends_from (most_of options.graded options.losses.cut) edition image lost options screen streams status (begun options.lost edition image path)
+    ends_from (most_of options.graded options.losses.cut) edition image lost path options screen streams status (begun options.lost edition image path)
     (most_is options.graded options.losses.cut lost (none_lost options.losses.cut edition bytes image lost read)) exports
 ends_exports edition bytes path options screen streams status (inr (cut, inl (there, blocks, fault, is, line, told))) =
     let most = incomplete_few options.graded options.losses.cut cut in

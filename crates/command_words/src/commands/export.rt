@@ -56,7 +56,9 @@ lost, the lines on standard error say what is lost, and no more:
   unixvol: bin/ls: i-node 17 is lost
   unixvol: f4: 10400 of 100000 bytes are lost: 89600-99999
 A path through a directory with lost bytes may not be found, and with --lost files whose names are lost are below
-lost+found. A file that is left out may be whole in another copy of the image; nothing says that it isn't.
+lost+found. If PATH isn't found and something is lost on the way, nothing is exported, and a line says what is lost:
+  unixvol: /usr: i-node 17 is lost
+A file that is left out may be whole in another copy of the image; nothing says that it isn't.
 
 With --bad, the image was copied from a medium of which some blocks couldn't be read, and MAPFILE is the map that GNU
 ddrescue kept of it. It is of all of IMAGE, also with --at. Each block of 512 bytes that the map doesn't call
@@ -86,7 +88,8 @@ Status:
   4  `unixvol: 12 NoMemory`
   5  with --status: something was left out, as standard error says; 1 then means that the volume isn't sound, but
      nothing was left out, or that PATH leads to no directory, and nothing was exported
-     if blocks are lost: something is damaged or left out, as standard error says
+     if blocks are lost: something is damaged or left out, or PATH isn't found and something is lost on the way,
+     as standard error says
   6  with --status: rule 1 or 2 doesn't hold, so the image has no volume of this edition, and nothing was exported
      `unixvol: the image has 2 of 2000000 blocks`: more than 1048576 blocks are missing for one of
      these options";

@@ -44,7 +44,8 @@ root is no directory, these are all that is printed.
 
 With --cut, --bad, --bad-blocks, --sizes and --like, blocks of the image are lost, as `unixvol export --help` says of
 them. The paths are those whose names can be read without these blocks. The lines on standard error are then those of
-that export, which also name entries that no archive can hold; they are about all entries, also with --name.
+that export, which also name entries that no archive can hold; they are about all entries, also with --name. If PATH
+isn't found and something is lost on the way, a line says what is lost, and nothing is printed.
 
 The volume need not be sound. Only rules 1 and 2 are checked: the image's size, and the sizes in its super-block.
 
@@ -59,7 +60,8 @@ Status:
   3  `unixvol: cannot read IMAGE`, or `unixvol: cannot write -`: standard output failed; or MAPFILE can't be read
   4  `unixvol: 12 NoMemory`
   5  a path has more than 4096 bytes, and what is below it isn't printed
-     if blocks are lost: something is damaged or left out, as standard error says
+     if blocks are lost: something is damaged or left out, or PATH isn't found and something is lost on the way,
+     as standard error says
   6  if blocks are lost: more than 1048576 blocks of the image are missing";
 
 const PATTERN: Parameter = Parameter {

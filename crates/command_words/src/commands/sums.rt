@@ -50,7 +50,8 @@ With --cut, --bad, --bad-blocks, --sizes and --like, blocks of the image are los
 them. A file of which bytes are lost has a dash too, and with --json also \"lost\", its lost bytes: arrays of the first
 and the one after the last; so has a directory. The lines on standard error are then those of that export. Each
 SHA-256 is right, whatever the lost blocks held, and so are the other columns but the path. Names are those that
-are left: an entry whose i-node is lost has only a line on standard error.
+are left: an entry whose i-node is lost has only a line on standard error. If
+PATH isn't found and something is lost on the way, a line says what is lost, and nothing is printed.
 
 Status:
   0  everything is in the manifest, and the volume is sound
@@ -64,7 +65,8 @@ Status:
   2  the command line is wrong; or no volume of the edition has the sizes of --sizes or --like
   3  `unixvol: cannot read IMAGE`, or `unixvol: cannot write -`: standard output failed; or MAPFILE can't be read
   4  `unixvol: 12 NoMemory`
-  5  if blocks are lost: something is damaged or left out, as standard error says
+  5  if blocks are lost: something is damaged or left out, or PATH isn't found and something is lost on the way,
+     as standard error says
   6  if blocks are lost: more than 1048576 blocks of the image are missing";
 
 /// The words that `sums` takes.

@@ -1,11 +1,8 @@
-use Rattle.std.proofs.Common.{Result, refl, subst, ◌∙◌, ap}
-use Rattle.std.proofs.KnownBytes.{Keeps-refl}
+use Rattle.std.proofs.Common.{ℕ, Bool, List, Result, subst, ◌∙◌, ap}
 use Rattle.vol_dir.specs.declared.directories.FoundDirectory.{FoundDirectory}
 use Rattle.vol_dir.specs.declared.directories.DirectoryFault.{DirectoryFault}
-use Rattle.command_faults.specs.Faults.{fault_line}
 use Rattle.command_faults.specs.Streams.{Streams, streams}
-use Rattle.command_faults.specs.declared.fault.Fault.{Fault}
-use Rattle.command_reads.specs.Export.{ExportsFrom, ExportsTo, begun}
+use Rattle.command_reads.specs.Export.{ExportsFrom, ExportsTo, TellsUnstarted, begun}
 use Rattle.command_reads.proofs.export.export_read.Goals as goal
 
 pub returns-in-Ok : goal.returns-in-Ok
@@ -13,7 +10,7 @@ returns-in-Ok g c errors hears =
     let start = c.in-Ok.start in
     let image = c.args.read.now.image in
     let both : Streams = streams g.O.Sink.contents g.O.Sink.failed c.args.output.now c.export_to.new.output errors in
-    subst (λ (s : Result FoundDirectory DirectoryFault). ExportsFrom c.args.edition image c.args.read.now.lost.items c.args.options c.args.screen both c.export_to.result.status s)
+    subst (λ (s : Result FoundDirectory DirectoryFault). ExportsFrom c.args.edition image c.args.read.now.lost.items c.args.path.now c.args.options c.args.screen both c.export_to.result.status s)
     (c.in-Ok.ensures.exact ∙ ap (begun c.args.options.lost c.args.edition image) c.as_bytes.ensures.value)
     (subst (λ lost. ExportsTo c.args.edition image lost start c.args.options both c.export_to.result.status c.args.screen) c.deref.ensures.value
     (c.export_to.ensures errors hears))
@@ -21,11 +18,10 @@ returns-in-Ok g c errors hears =
 pub returns-in-Err : goal.returns-in-Err
 returns-in-Err g c errors hears =
     let image = c.args.read.now.image in
+    let status = c.unstarted_ending.result.status in
     let both : Streams = streams g.O.Sink.contents g.O.Sink.failed c.args.output.now c.args.output.now errors in
-    subst (λ (s : Result FoundDirectory DirectoryFault). ExportsFrom c.args.edition image c.args.read.now.lost.items c.args.options c.args.screen both c.unstarted_status.result s)
-    (c.in-Err.ensures.exact ∙ ap (begun c.args.options.lost c.args.edition image) c.as_bytes.ensures.value) (record {
-      status = c.unstarted_status.ensures;
-      kept = Keeps-refl (g.O.Sink.contents c.args.output.now);
-      working = refl;
-      said = subst (λ (fault : Fault). both.said (fault_line fault)) c.unstarted.ensures hears;
-    })
+    subst (λ (s : Result FoundDirectory DirectoryFault). ExportsFrom c.args.edition image c.args.read.now.lost.items c.args.path.now c.args.options c.args.screen both status s)
+    (c.in-Err.ensures.exact ∙ ap (begun c.args.options.lost c.args.edition image) c.as_bytes.ensures.value)
+    (subst (λ (path : List ℕ). TellsUnstarted c.args.edition image c.args.read.now.lost.items path c.args.options both status c.in-Err.why) c.as_bytes-in-Err.ensures.value
+    (subst (λ (lost : List Bool). TellsUnstarted c.args.edition image lost c.as_bytes-in-Err.result.now c.args.options both status c.in-Err.why) c.deref-in-Err.ensures.value
+    (c.unstarted_ending.ensures (g.O.Sink.contents c.args.output.now) (g.O.Sink.failed c.args.output.now) errors hears)))

@@ -1,9 +1,11 @@
-use Rattle.std.proofs.Common.{◌≡◌, ◌∙◌, ◌==◌, if◌then◌else◌, List, ℕ, length, ap, subst, sym}
+use Rattle.std.proofs.Common.{◌≡◌, ◌∙◌, ◌==◌, if◌then◌else◌, List, ℕ, inl, length, ap, subst, sym}
 use Rattle.std.specs.Prelude.{option_map, true}
 use Rattle.vol_archive.specs.declared.met_entries.MetEntry.{MetEntry}
 use Rattle.vol_listing.specs.Listings.{shown_path}
 use Rattle.command_reads.specs.Export.{begun, told_status}
-use Rattle.command_reads.specs.Find.{AreFound, TellsFound, found_in}
+use Rattle.command_reads.specs.Find.{AreFound, TellsFound, found_in, found_sights}
+use Rattle.command_reads.specs.Print.{IsSight}
+use Rattle.command_reads.proofs.UnreachedPaths.{unreached_found}
 use Rattle.command_reads.proofs.find.find_in.Goals as goal
 
 pub returns : goal.returns
@@ -12,7 +14,8 @@ returns c =
     let image = c.args.image.now in
     let pattern = option_map (λ word. word.now) c.args.pattern in
     let remarks = c.in_ok-remarks.remarks in
-    let line = sym c.ending_with-ending.ensures.line in (
+    let line = sym c.ending_with-ending.ensures.line in
+    inl (
       remarks.is_short,
       subst (λ (lines : List ℕ). AreFound edition image c.args.marks.now c.args.path.now pattern c.args.lost c.args.form c.args.screen remarks.is_short c.in_ok-text.text.items lines)
           line (record {
@@ -30,3 +33,14 @@ returns c =
       subst (λ (lines : List ℕ). c.ending_with-ending.result.status ≡ (if length lines == 0 then 0 else told_status true remarks.is_short)) line
           c.ending_with-ending.ensures.status,
     )
+
+pub returns-in-Err : goal.returns-in-Err
+returns-in-Err c =
+    let edition = c.args.edition in
+    let image = c.args.image.now in
+    let pattern = option_map (λ word. word.now) c.args.pattern in
+    let given = c.as_bytes-in-Err.result.now in
+    let begins = sym (c.in-Err.ensures.exact ∙ ap (λ (path : List ℕ). begun c.args.lost edition image path) (c.as_bytes.ensures.value ∙ sym c.as_bytes-in-Err.ensures.value)) in
+    subst (λ (path : List ℕ). IsSight (found_sights edition image c.args.marks.now path pattern c.args.lost c.args.form c.args.screen) c.unreached.result) c.as_bytes-in-Err.ensures.value
+    (unreached_found edition image c.args.marks.now given pattern c.args.lost c.args.form c.args.screen c.in-Err.why c.unreached.result begins c.unreached.ensures.shown
+    c.unreached.ensures.fault)

@@ -67,13 +67,22 @@ for edition in 6 7; do
     cp new.img other.img
     printf '%s\n' '2000 0 0 unlink /c' '2000 0 0 link /d/b /c' > script
     "$program" play "$edition" other.img script > output
-    printf '%s\n' 'M /a links 2 -> 1' 'M /c link to /a -> own file' 'M /d/b own file -> link to /c' > wanted
+    printf '%s\n' 'M /a links 2 -> 1' 'M /c link to /a -> own file' 'M /d/b own file -> link to /c, links 1 -> 2' > wanted
     tells 1 wanted diff "$edition" new.img other.img
     cp old.img other.img
     printf '%s\n' '2000 0 0 create /c 644' '2000 0 0 write /c 0 68656c6c6f' > script
     "$program" play "$edition" other.img script > output
-    printf '%s\n' 'M /a links 1 -> 2' 'M /c own file -> link to /a' > wanted
+    printf '%s\n' 'M /a links 1 -> 2' 'M /c own file -> link to /a, links 1 -> 2' > wanted
     tells 1 wanted diff "$edition" other.img new.img
+    # What differs of a name that became a file of its own, and of each name of a file.
+    printf '%s\n' '2000 0 0 write /c 1 45' '2000 0 0 chmod /c 600' '2000 0 0 chown /c 3 4' > script
+    "$program" play "$edition" other.img script > output
+    printf '%s\n' 'M /a links 2 -> 1' 'M /c link to /a -> own file, mode 0644 -> 0600, links 2 -> 1, uid 0 -> 3, gid 0 -> 4, bytes from 1' > wanted
+    tells 1 wanted diff "$edition" new.img other.img
+    cp new.img other.img
+    "$program" chmod "$edition" other.img /c 0600 3000
+    printf '%s\n' 'M /a mode 0644 -> 0600' 'M /c mode 0644 -> 0600' > wanted
+    tells 1 wanted diff "$edition" new.img other.img
 
     # Another kind of node; a directory with what is in it, before a name that only goes on after its own.
     cp old.img new.img
@@ -131,6 +140,11 @@ cp d.img e.img
 printf '2000 0 0 create /\001 644\n' > script
 "$program" play 7 e.img script > output
 differs 'A /\001' 7 d.img e.img
+
+# A name that is empty looks like the root.
+changed d.img empty.img 2594 00
+runs diff 7 d.img empty.img
+has 'an empty name that only one volume has' 'A / (name that is empty or has a slash) D /a' "$(grep '^[AD]' output | paste -s -d ' ')"
 
 # Images that aren't sound: what `find` meets is compared, and a line names the file.
 changed d.img rule12.img 1090 05

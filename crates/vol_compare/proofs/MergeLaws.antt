@@ -4,9 +4,10 @@ use Rattle.std.specs.List.{list_all}
 use Rattle.std.proofs.lemmas.Bool.{and_parts}
 use Rattle.std.specs.declared.cmp.Ordering.{Ordering}
 use Rattle.std.specs.declared.cmp.Ordering.TheVariants.{Less, Equal, Greater}
-use Rattle.vol_compare.specs.Lines.{pair_line}
 use Rattle.vol_compare.specs.Members.{Content, Member, is_seen}
-use Rattle.vol_compare.specs.Merge.{member_lines, merged_lines, path_order, turn_lines}
+use Rattle.std.specs.List.{flat_map}
+use Rattle.vol_compare.specs.Lines.{pair_line}
+use Rattle.vol_compare.specs.Merge.{Pairing, line_of, merged, merged_lines, paired, path_order, turn}
 use Rattle.vol_compare.proofs.PathOrders.{order_equal, order_same}
 use Rattle.vol_compare.proofs.SilentLines.{both_empty, first_empty, pair_equal, pair_same, rest_empty, some_text}
 
@@ -20,16 +21,16 @@ are_seen members = list_all (λ (m : Member). is_seen m.content) members
 
 -- equal lists have no line, if it is known of each path what it leads to
 pub merged_same : (members : List Member) → are_seen members ≡ true → merged_lines members members ≡ []
-unfolding merged_lines member_lines
+unfolding merged paired
 merged_same [] seen = refl
 merged_same (m ∷ members) seen =
     let parts = and_parts (is_seen m.content) (are_seen members) seen in
-    ap (turn_lines m (merged_lines members) m members (member_lines m (merged_lines members) members)) (order_same m.path)
+    ap (λ t. flat_map line_of (turn m (merged members) m members (paired m (merged members) members) t)) (order_same m.path)
     ∙ both_empty (pair_line m.path m.content m.content) (merged_lines members members) (pair_same m.path m.content parts.0) (merged_same members parts.1)
 
 -- members without a line are equal, and those after them if they are; and it is known what their paths lead to
-turned_equal : (old new : Member) (olds news : List Member) (more : List ℕ) (t : Ordering) → path_order old.path new.path ≡ t
-    → turn_lines old (merged_lines olds) new news more t ≡ [] → (merged_lines olds news ≡ [] → (olds ≡ news) × (are_seen olds ≡ true))
+turned_equal : (old new : Member) (olds news : List Member) (more : List Pairing) (t : Ordering) → path_order old.path new.path ≡ t
+    → flat_map line_of (turn old (merged olds) new news more t) ≡ [] → (merged_lines olds news ≡ [] → (olds ≡ news) × (are_seen olds ≡ true))
     → (old ∷ olds ≡ new ∷ news) × (are_seen (old ∷ olds) ≡ true)
 turned_equal old new olds news more Less is e rest = absurd (some_text 68 _ e)
 turned_equal old new olds news more Greater is e rest = absurd (some_text 65 _ e)
@@ -42,9 +43,9 @@ turned_equal old new olds news more Equal is e rest =
 
 -- lists without a line are equal, and it is known of each path what it leads to
 pub merged_equal : (olds news : List Member) → merged_lines olds news ≡ [] → (olds ≡ news) × (are_seen olds ≡ true)
-unfolding merged_lines member_lines
+unfolding merged paired
 merged_equal [] [] e = (refl, refl)
 merged_equal [] (new ∷ news) e = absurd (some_text 65 _ e)
 merged_equal (old ∷ olds) [] e = absurd (some_text 68 _ e)
 merged_equal (old ∷ olds) (new ∷ news) e =
-    turned_equal old new olds news (member_lines old (merged_lines olds) news) (path_order old.path new.path) refl e (merged_equal olds news)
+    turned_equal old new olds news (paired old (merged olds) news) (path_order old.path new.path) refl e (merged_equal olds news)

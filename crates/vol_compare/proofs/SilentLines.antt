@@ -8,8 +8,8 @@ use Rattle.std.proofs.lemmas.Slice.Eq.{bytes_eq-Decides}
 use Rattle.vol_archive.specs.declared.met_entries.Reason.{Reason}
 use Rattle.vol_archive.specs.declared.met_entries.Reason.TheVariants as reasons
 use Rattle.vol_compare.specs.Bodies.{first_difference}
-use Rattle.vol_compare.specs.Lines.{bytes_change, change, changed_line, fact_changes, is_one_kind, is_one_reason, kind_change, kind_text, left_text, content_text, mode_change, nodes_line, number_change, owner_changes, pair_line, reasons_line, time_change, time_changes, turned_line, unseen_line}
-use Rattle.vol_compare.specs.Members.{Content, Own, Further, LeftOut, is_seen, is_unseen}
+use Rattle.vol_compare.specs.Lines.{bytes_change, change, changed_line, fact_changes, is_one_kind, is_one_name, is_one_reason, kind_change, kind_text, left_text, mode_change, node_changes, nodes_line, number_change, owner_changes, pair_line, reasons_line, renamed_line, time_change, time_changes, turned_line, unseen_line}
+use Rattle.vol_compare.specs.Members.{Content, Node, LeftOut, is_seen, is_unseen}
 use Rattle.vol_compare.specs.declared.members.Facts.{Facts}
 use Rattle.vol_compare.specs.declared.members.NodeKind.{NodeKind}
 use Rattle.vol_compare.specs.declared.members.NodeKind.TheVariants as nodes
@@ -51,9 +51,15 @@ value_equal a b name old new e =
     ]
 
 -- a line of a path that leads to something else isn't empty
-some_turn : (letter : ℕ) (path old new : List ℕ) → turned_line letter path old new ≡ [] → ⊥
+some_turn : (path old new : List ℕ) → turned_line path old new ≡ [] → ⊥
 unfolding turned_line
-some_turn letter path old new e = some_text letter _ e
+some_turn path old new e = some_text 84 _ e
+
+-- a line of a path with another name isn't empty
+some_rename : (path : List ℕ) (f : Facts) (xs : List ℕ) (a : Option (List ℕ)) (h : Facts) (ys : List ℕ) (b : Option (List ℕ))
+    → renamed_line path f xs a h ys b ≡ [] → ⊥
+unfolding renamed_line
+some_rename path f xs a h ys b e = some_text _ _ e
 
 -- a line of changes is empty only without any
 no_changes : (path changes : List ℕ) → changed_line path changes ≡ [] → changes ≡ []
@@ -212,18 +218,16 @@ bytes_none (Some n) e = absurd (some_text 44 _ e)
 -- nothing is told of a node that is the same
 nodes_same : (path : List ℕ) (f : Facts) (xs : List ℕ) → nodes_line path f xs f xs ≡ []
 nodes_same path f xs =
-    ap (λ t. if t then changed_line path (fact_changes f f ++ bytes_change (first_difference xs xs)) else turned_line 84 path (kind_text f.kind) (kind_text f.kind)) (one_kind f.kind)
+    ap (λ t. if t then changed_line path (fact_changes f f ++ bytes_change (first_difference xs xs)) else turned_line path (kind_text f.kind) (kind_text f.kind)) (one_kind f.kind)
     ∙ ap (changed_line path) (both_empty (fact_changes f f) (bytes_change (first_difference xs xs)) (facts_same f) (ap bytes_change (none_same xs)))
 
 -- nodes of which nothing is told are the same
 nodes_told : (path : List ℕ) (f : Facts) (xs : List ℕ) (h : Facts) (ys : List ℕ) (t : Bool) (turned : List ℕ) → (turned ≡ [] → ⊥) → is_one_kind f.kind h.kind ≡ t
-    → (if t then changed_line path (fact_changes f h ++ bytes_change (first_difference xs ys)) else turned) ≡ [] → Own f xs ≡ Own h ys
+    → (if t then changed_line path (node_changes f xs h ys) else turned) ≡ [] → (f ≡ h) × (xs ≡ ys)
 nodes_told path f xs h ys false turned some one e = absurd (some e)
 nodes_told path f xs h ys true turned some one e =
-    let none = no_changes path (fact_changes f h ++ bytes_change (first_difference xs ys)) e in
-    let facts : f ≡ h = told_facts f h one (first_empty (fact_changes f h) _ none) in
-    let bytes : xs ≡ ys = none_equal xs ys (bytes_none _ (rest_empty (fact_changes f h) _ none)) in
-    ap (λ x. Own x xs) facts ∙ ap (Own h) bytes
+    let none = no_changes path (node_changes f xs h ys) e in
+    (told_facts f h one (first_empty (fact_changes f h) _ none), none_equal xs ys (bytes_none _ (rest_empty (fact_changes f h) _ none)))
 
 -- a text equals itself
 same_bytes : (a : List ℕ) → bytes_eq a a ≡ true
@@ -233,10 +237,30 @@ same_bytes a = (bytes_eq-Decides a a).1 refl
 equal_bytes : (a b : List ℕ) → bytes_eq a b ≡ true → a ≡ b
 equal_bytes a b = (bytes_eq-Decides a b).0
 
+-- a name is one name with itself
+one_name : (a : Option (List ℕ)) → is_one_name a a ≡ true
+one_name None = refl
+one_name (Some a) = same_bytes a
+
+-- two names that are one are equal
+names_equal : (a b : Option (List ℕ)) → is_one_name a b ≡ true → a ≡ b
+names_equal None None is = refl
+names_equal None (Some b) is = absurd (true≢false (sym is))
+names_equal (Some a) None is = absurd (true≢false (sym is))
+names_equal (Some a) (Some b) is = ap Some (equal_bytes a b is)
+
+-- names of nodes of which nothing is told lead to the same
+named_told : (path : List ℕ) (f : Facts) (xs : List ℕ) (a : Option (List ℕ)) (h : Facts) (ys : List ℕ) (b : Option (List ℕ)) (t : Bool) → is_one_name a b ≡ t
+    → (if t then nodes_line path f xs h ys else renamed_line path f xs a h ys b) ≡ [] → Node f xs a ≡ Node h ys b
+named_told path f xs a h ys b false one e = absurd (some_rename path f xs a h ys b e)
+named_told path f xs a h ys b true one e =
+    let same = nodes_told path f xs h ys (is_one_kind f.kind h.kind) _ (some_turn path _ _) refl e in
+    ap (λ x. Node x xs a) same.0 ∙ (ap (λ zs. Node h zs a) same.1 ∙ ap (Node h ys) (names_equal a b one))
+
 -- nothing is told of a path that is left out for one reason and leads to nothing
 reasons_same : (path : List ℕ) (reason : Reason) → is_unseen reason ≡ false → reasons_line path reason reason ≡ []
 reasons_same path r seen =
-    ap (λ t. if t then (if is_unseen r then unseen_line path r else []) else turned_line 84 path (left_text r) (left_text r)) (one_reason r)
+    ap (λ t. if t then (if is_unseen r then unseen_line path r else []) else turned_line path (left_text r) (left_text r)) (one_reason r)
     ∙ ap (λ t. if t then unseen_line path r else []) seen
 
 -- a test whose opposite is true is false
@@ -246,14 +270,9 @@ opposite false e = refl
 
 -- nothing is told of a path that leads to the same, if it is known what it leads to
 pub pair_same : (path : List ℕ) (content : Content) → is_seen content ≡ true → pair_line path content content ≡ []
-pair_same path (Own f xs) seen = nodes_same path f xs
-pair_same path (Further a) seen = ap (λ t. if t then [] else turned_line 77 path (content_text (Further a)) (content_text (Further a))) (same_bytes a)
+pair_same path (Node f xs a) seen =
+    ap (λ t. if t then nodes_line path f xs f xs else renamed_line path f xs a f xs a) (one_name a) ∙ nodes_same path f xs
 pair_same path (LeftOut r) seen = reasons_same path r (opposite (is_unseen r) seen)
-
--- a choice between nothing and a text that isn't empty
-chosen : (t : Bool) (text : List ℕ) → (text ≡ [] → ⊥) → (if t then [] else text) ≡ [] → t ≡ true
-chosen true text some e = refl
-chosen false text some e = absurd (some e)
 
 -- a choice between a text that isn't empty, nothing, and another text that isn't
 chosen_twice : (t u : Bool) (unseen turned : List ℕ) → (unseen ≡ [] → ⊥) → (turned ≡ [] → ⊥) → (if t then (if u then unseen else []) else turned) ≡ []
@@ -265,18 +284,13 @@ chosen_twice true false unseen turned first second e = (refl, refl)
 -- a path of which nothing is told is left out for one reason, and leads to nothing
 reasons_told : (path : List ℕ) (r s : Reason) → reasons_line path r s ≡ [] → (LeftOut r ≡ LeftOut s) × (is_seen (LeftOut r) ≡ true)
 reasons_told path r s e =
-    let both = chosen_twice (is_one_reason r s) (is_unseen r) (unseen_line path r) (turned_line 84 path (left_text r) (left_text s)) (some_text 85 _)
-    (some_turn 84 path _ _) e in
+    let both = chosen_twice (is_one_reason r s) (is_unseen r) (unseen_line path r) (turned_line path (left_text r) (left_text s)) (some_text 85 _)
+    (some_turn path _ _) e in
     (ap LeftOut (reasons_equal r s both.0), ap not both.1)
 
 -- a path of which nothing is told leads to the same, and it is known what it leads to
 pub pair_equal : (path : List ℕ) (old new : Content) → pair_line path old new ≡ [] → (old ≡ new) × (is_seen old ≡ true)
-pair_equal path (Own f xs) (Own h ys) e = (nodes_told path f xs h ys (is_one_kind f.kind h.kind) _ (some_turn 84 path _ _) refl e, refl)
-pair_equal path (Further a) (Further b) e = (ap Further (equal_bytes a b (chosen (bytes_eq a b) _ (some_turn 77 path _ _) e)), refl)
+pair_equal path (Node f xs a) (Node h ys b) e = (named_told path f xs a h ys b (is_one_name a b) refl e, refl)
 pair_equal path (LeftOut r) (LeftOut s) e = reasons_told path r s e
-pair_equal path (Own f xs) (Further b) e = absurd (some_turn _ path _ _ e)
-pair_equal path (Own f xs) (LeftOut s) e = absurd (some_turn _ path _ _ e)
-pair_equal path (Further a) (Own h ys) e = absurd (some_turn _ path _ _ e)
-pair_equal path (Further a) (LeftOut s) e = absurd (some_turn _ path _ _ e)
-pair_equal path (LeftOut r) (Own h ys) e = absurd (some_turn _ path _ _ e)
-pair_equal path (LeftOut r) (Further b) e = absurd (some_turn _ path _ _ e)
+pair_equal path (Node f xs a) (LeftOut s) e = absurd (some_turn path _ _ e)
+pair_equal path (LeftOut r) (Node h ys b) e = absurd (some_turn path _ _ e)

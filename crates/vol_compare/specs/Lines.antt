@@ -7,7 +7,7 @@ use Rattle.vol_archive.specs.declared.met_entries.Reason.{Reason}
 use Rattle.vol_archive.specs.declared.met_entries.Reason.TheVariants as reasons
 use Rattle.vol_listing.specs.Dates.{moment_text}
 use Rattle.vol_compare.specs.Bodies.{first_difference}
-use Rattle.vol_compare.specs.Members.{Content, Own, Further, LeftOut, is_unseen}
+use Rattle.vol_compare.specs.Members.{Content, Node, LeftOut, is_unseen}
 use Rattle.vol_compare.specs.declared.members.Facts.{Facts}
 use Rattle.vol_compare.specs.declared.members.NodeKind.{NodeKind}
 use Rattle.vol_compare.specs.declared.members.NodeKind.TheVariants as nodes
@@ -111,44 +111,62 @@ left_text reasons.Again = codes "directory met before"
 left_text reasons.LongPath = codes "path above 4096 bytes"
 left_text reasons.BadName = codes "name that is empty or has a slash"
 
--- the words for what a path leads to (this project)
-abbrev pub content_text : Content → List ℕ
-content_text (Own facts bytes) = kind_text facts.kind
-content_text (Further path) = codes "link to /" ++ escaped path
-content_text (LeftOut reason) = left_text reason
+-- the words for a further name of the file at a path (this project)
+abbrev pub link_text : List ℕ → List ℕ
+link_text path = codes "link to /" ++ escaped path
+
+-- the words for a node of this kind, with the path of its first name if this is a further one (this project)
+abbrev pub node_text : NodeKind → Option (List ℕ) → List ℕ
+node_text kind None = kind_text kind
+node_text kind (Some path) = link_text path
 
 -- a path of a tree, from the root (this project)
 abbrev pub path_text : List ℕ → List ℕ
 path_text path = 32 ∷ 47 ∷ escaped path
 
 -- the line of a path that leads to something else (this project)
-unfoldable pub turned_line : ℕ → List ℕ → List ℕ → List ℕ → List ℕ
-turned_line letter path old new = letter ∷ path_text path ++ (32 ∷ old ++ (codes " -> " ++ (new ++ 10 ∷ [])))
+unfoldable pub turned_line : List ℕ → List ℕ → List ℕ → List ℕ
+turned_line path old new = 84 ∷ path_text path ++ (32 ∷ old ++ (codes " -> " ++ (new ++ 10 ∷ [])))
 
 -- the line of a path whose node changed in this way: the changes without the comma before the first; none if nothing changed (this project)
 abbrev pub changed_line : List ℕ → List ℕ → List ℕ
 changed_line path [] = []
 changed_line path (comma ∷ changes) = 77 ∷ path_text path ++ (changes ++ 10 ∷ [])
 
--- the line of a path that was another name of a file and is a file of its own now, or the other way round (this project)
+-- the words for a node of this kind that was or is no further name (this project)
 abbrev pub own_text : NodeKind → List ℕ
 own_text (nodes.File size) = codes "own file"
 own_text nodes.Directory = codes "directory"
 own_text (nodes.Block device) = codes "own block special file"
 own_text (nodes.Character device) = codes "own character special file"
 
--- the letter of a path that was or is another name of a node of this kind: no directory has one (this project)
-abbrev pub own_letter : NodeKind → ℕ
-own_letter (nodes.File size) = 77
-own_letter nodes.Directory = 84
-own_letter (nodes.Block device) = 77
-own_letter (nodes.Character device) = 77
+-- the words for a node of this kind whose names changed: the path of its first name, if this is a further one (this project)
+abbrev pub name_text : NodeKind → Option (List ℕ) → List ℕ
+name_text kind None = own_text kind
+name_text kind (Some path) = link_text path
+
+-- true if a path is the first name of two nodes, or a further one of those with one first name (this project)
+abbrev pub is_one_name : Option (List ℕ) → Option (List ℕ) → Bool
+is_one_name None None = true
+is_one_name (Some a) (Some b) = bytes_eq a b
+is_one_name a b = false
+
+-- all that differs between two nodes of one kind, each after a comma (this project)
+abbrev pub node_changes : Facts → List ℕ → Facts → List ℕ → List ℕ
+node_changes f xs h ys = fact_changes f h ++ bytes_change (first_difference xs ys)
+
+-- the line of two nodes at a path that is no name of one file now, or wasn't: both names, and what differs if they are of one kind (this project)
+unfoldable pub renamed_line : List ℕ → Facts → List ℕ → Option (List ℕ) → Facts → List ℕ → Option (List ℕ) → List ℕ
+renamed_line path f xs a h ys b =
+    (if is_one_kind f.kind h.kind then 77 else 84)
+    ∷ path_text path ++ (32 ∷ name_text f.kind a ++ (codes " -> " ++ (name_text h.kind b
+    ++ ((if is_one_kind f.kind h.kind then node_changes f xs h ys else []) ++ 10 ∷ []))))
 
 -- the line of two nodes at a path, if they differ (this project)
 abbrev pub nodes_line : List ℕ → Facts → List ℕ → Facts → List ℕ → List ℕ
 nodes_line path f xs h ys =
-    if is_one_kind f.kind h.kind then changed_line path (fact_changes f h ++ bytes_change (first_difference xs ys))
-    else turned_line 84 path (kind_text f.kind) (kind_text h.kind)
+    if is_one_kind f.kind h.kind then changed_line path (node_changes f xs h ys)
+    else turned_line path (kind_text f.kind) (kind_text h.kind)
 
 -- the line of a path at which both trees are left out for this reason, so that it is unknown if it leads to the same (this project)
 abbrev pub unseen_line : List ℕ → Reason → List ℕ
@@ -157,24 +175,32 @@ unseen_line path reason = 85 ∷ path_text path ++ (32 ∷ left_text reason ++ 1
 -- the line of a path that is left out of two trees, for these reasons; none if they are the same and it leads to nothing (this project)
 abbrev pub reasons_line : List ℕ → Reason → Reason → List ℕ
 reasons_line path old new =
-    if is_one_reason old new then (if is_unseen old then unseen_line path old else []) else turned_line 84 path (left_text old) (left_text new)
+    if is_one_reason old new then (if is_unseen old then unseen_line path old else []) else turned_line path (left_text old) (left_text new)
+
+-- the line of a path that leads to nodes in two trees, by the paths of their first names if it is a further one; none if they are the same (this project)
+abbrev pub named_line : List ℕ → Facts → List ℕ → Option (List ℕ) → Facts → List ℕ → Option (List ℕ) → List ℕ
+named_line path f xs a h ys b = if is_one_name a b then nodes_line path f xs h ys else renamed_line path f xs a h ys b
 
 -- the line of a path that leads to different things in two trees, or of which that is unknown; none if it leads to the same (this project)
 abbrev pub pair_line : List ℕ → Content → Content → List ℕ
-pair_line path (Own f xs) (Own h ys) = nodes_line path f xs h ys
-pair_line path (Further a) (Further b) = if bytes_eq a b then [] else turned_line 77 path (content_text (Further a)) (content_text (Further b))
+pair_line path (Node f xs a) (Node h ys b) = named_line path f xs a h ys b
 pair_line path (LeftOut r) (LeftOut s) = reasons_line path r s
-pair_line path (Own f xs) (Further b) = turned_line (own_letter f.kind) path (own_text f.kind) (content_text (Further b))
-pair_line path (Further a) (Own h ys) = turned_line (own_letter h.kind) path (content_text (Further a)) (own_text h.kind)
-pair_line path (Own f xs) (LeftOut s) = turned_line 84 path (kind_text f.kind) (left_text s)
-pair_line path (LeftOut r) (Own h ys) = turned_line 84 path (left_text r) (kind_text h.kind)
-pair_line path (Further a) (LeftOut s) = turned_line 84 path (content_text (Further a)) (left_text s)
-pair_line path (LeftOut r) (Further b) = turned_line 84 path (left_text r) (content_text (Further b))
+pair_line path (Node f xs a) (LeftOut s) = turned_line path (node_text f.kind a) (left_text s)
+pair_line path (LeftOut r) (Node h ys b) = turned_line path (left_text r) (node_text h.kind b)
+
+-- a remark on a path that only one tree has: a name that is empty or has a slash looks like another path (this project)
+abbrev pub name_remark : Content → List ℕ
+name_remark (LeftOut reasons.BadName) = codes " (" ++ (left_text reasons.BadName ++ codes ")")
+name_remark content = []
+
+-- the line of a path that only one tree has (this project)
+abbrev pub lone_line : ℕ → List ℕ → Content → List ℕ
+lone_line letter path content = letter ∷ path_text path ++ (name_remark content ++ 10 ∷ [])
 
 -- the line of a path that only the old tree has (this project)
-abbrev pub gone_line : List ℕ → List ℕ
-gone_line path = 68 ∷ path_text path ++ 10 ∷ []
+abbrev pub gone_line : List ℕ → Content → List ℕ
+gone_line path content = lone_line 68 path content
 
 -- the line of a path that only the new tree has (this project)
-abbrev pub added_line : List ℕ → List ℕ
-added_line path = 65 ∷ path_text path ++ 10 ∷ []
+abbrev pub added_line : List ℕ → Content → List ℕ
+added_line path content = lone_line 65 path content

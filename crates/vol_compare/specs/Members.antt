@@ -1,5 +1,5 @@
 -- The members of a tree: what each path leads to.
-use Rattle.std.specs.Prelude.{◌≡◌, ℕ, Bool, true, false, not, if◌then◌else◌, List, [], ◌∷◌, map, slice_get}
+use Rattle.std.specs.Prelude.{◌≡◌, ℕ, Bool, true, false, not, if◌then◌else◌, List, [], ◌∷◌, map, option_map, slice_get, Option, None, Some}
 use Rattle.std.specs.Option.{option_map_or}
 use Rattle.vol_layout.specs.Body.{body}
 use Rattle.vol_layout.specs.Inode.{device_of, inode_of, is_block, permissions_of}
@@ -23,10 +23,10 @@ use Rattle.vol_compare.specs.declared.members.NodeKind.TheVariants as nodes
 use Rattle.vol_compare.specs.declared.members.Target.{Target}
 use Rattle.vol_compare.specs.declared.members.Target.TheVariants as targets
 
--- what a path leads to: a node with these facts and bytes; a further name of the file with this path; or nothing, for this reason (this project)
+-- what a path leads to: a node with these facts and bytes, and with the path of its first name if this is a further one; or nothing, for this reason
+-- (this project)
 pub data Content : Type 0 where
-  Own : Facts → List ℕ → Content
-  Further : List ℕ → Content
+  Node : Facts → List ℕ → Option (List ℕ) → Content
   LeftOut : Reason → Content
 
 -- true if an entry is left out for a reason that leaves unknown what it leads to: its path is too long to be followed (this project)
@@ -39,8 +39,7 @@ is_unseen reasons.BadName = false
 
 -- true unless it is unknown what a path leads to (this project)
 abbrev pub is_seen : Content → Bool
-is_seen (Own facts bytes) = true
-is_seen (Further path) = true
+is_seen (Node facts bytes first) = true
 is_seen (LeftOut reason) = not (is_unseen reason)
 
 -- a path of a tree, and what it leads to (this project)
@@ -70,24 +69,6 @@ facts_of times node kind = record {
   changed = time_if times (option_map_or (λ time. time) node.changed 0);
 }
 
--- what an entry with this role and i-node leads to (this project)
-abbrev pub role_content : Bool → Geometry → List ℕ → List MetEntry → ℕ → Inode → Role → Content
-role_content times g image founds i node roles.File = Own (facts_of times node (nodes.File node.size)) (body g image i)
-role_content times g image founds i node roles.Directory = Own (facts_of times node nodes.Directory) []
-role_content times g image founds i node roles.Special = Own (facts_of times node (special_kind node)) []
-role_content times g image founds i node (roles.Link k) = option_map_or (λ (first : MetEntry). Further first.path) (slice_get founds k) (LeftOut reasons.NoNode)
-role_content times g image founds i node (roles.Left reason) = LeftOut reason
-
--- what an entry leads to, among the entries that the walk found (this project)
-unfoldable pub content_at : Bool → Geometry → List ℕ → List MetEntry → MetEntry → Content
-content_at times g image founds found =
-    if is_number g found.inode then role_content times g image founds found.inode (inode_of g.edition image found.inode) found.role
-    else LeftOut reasons.NoNode
-
--- the member of an entry that the walk found (this project)
-abbrev pub member_of : Bool → Geometry → List ℕ → List MetEntry → MetEntry → Member
-member_of times g image founds found = record { path = found.path; content = content_at times g image founds found }
-
 -- true for the kind of a regular file (stat.h)
 abbrev pub is_file : NodeKind → Bool
 is_file (nodes.File size) = true
@@ -102,10 +83,37 @@ bytes_of g image i nodes.Directory = []
 bytes_of g image i (nodes.Block device) = []
 bytes_of g image i (nodes.Character device) = []
 
+-- the kind of a node whose first name has this role (this project)
+abbrev pub first_kind : Role → Inode → NodeKind
+first_kind roles.Special node = special_kind node
+first_kind role node = nodes.File node.size
+
+-- what a further name of the file of another entry leads to (this project)
+abbrev pub further_content : Bool → Geometry → List ℕ → ℕ → Inode → MetEntry → Content
+further_content times g image i node first =
+    let kind = first_kind first.role node in Node (facts_of times node kind) (bytes_of g image i kind) (Some first.path)
+
+-- what an entry with this role and i-node leads to (this project)
+abbrev pub role_content : Bool → Geometry → List ℕ → List MetEntry → ℕ → Inode → Role → Content
+role_content times g image founds i node roles.File = Node (facts_of times node (nodes.File node.size)) (body g image i) None
+role_content times g image founds i node roles.Directory = Node (facts_of times node nodes.Directory) [] None
+role_content times g image founds i node roles.Special = Node (facts_of times node (special_kind node)) [] None
+role_content times g image founds i node (roles.Link k) = option_map_or (further_content times g image i node) (slice_get founds k) (LeftOut reasons.NoNode)
+role_content times g image founds i node (roles.Left reason) = LeftOut reason
+
+-- what an entry leads to, among the entries that the walk found (this project)
+unfoldable pub content_at : Bool → Geometry → List ℕ → List MetEntry → MetEntry → Content
+content_at times g image founds found =
+    if is_number g found.inode then role_content times g image founds found.inode (inode_of g.edition image found.inode) found.role
+    else LeftOut reasons.NoNode
+
+-- the member of an entry that the walk found (this project)
+abbrev pub member_of : Bool → Geometry → List ℕ → List MetEntry → MetEntry → Member
+member_of times g image founds found = record { path = found.path; content = content_at times g image founds found }
+
 -- what a path leads to, with its bytes (this project)
 abbrev pub content_of : Geometry → List ℕ → ℕ → Target → Content
-content_of g image i (targets.Node facts) = Own facts (bytes_of g image i facts.kind)
-content_of g image i (targets.Link path) = Further path.now
+content_of g image i (targets.Node node) = Node node.facts (bytes_of g image i node.facts.kind) (option_map (λ path. path.now) node.first)
 content_of g image i (targets.Left reason) = LeftOut reason
 
 -- the role of the root, by its kind (this project)

@@ -8,6 +8,8 @@ use Rattle.vol_archive.specs.declared.met_entries.MetEntry.{MetEntry}
 use Rattle.vol_compare.specs.Lines.{added_line, gone_line, pair_line}
 use Rattle.vol_compare.specs.Members.{AreMet, Member, member_of, members}
 use Rattle.vol_compare.specs.declared.members.MetTree.{MetTree}
+use Rattle.vol_compare.specs.declared.merge.Pair.{Pair}
+use Rattle.vol_compare.specs.declared.merge.Pair.TheVariants as pairs
 
 -- the place of a byte in the order of paths: a slash is before all others, so that a directory comes before what is in it (this project)
 abbrev pub rank : ℕ → ℕ
@@ -24,22 +26,37 @@ path_order (c ∷ old) (d ∷ new) = if c == d then path_order old new else if n
 abbrev pub length_order : ℕ → ℕ → Ordering
 length_order old new = if old == 0 then (if new == 0 then Equal else Less) else Greater
 
--- the lines of an old member and a list of new ones, and of what comes after them: by the order of the paths, that of the member that only one tree
--- has, or that of the pair (diff)
-abbrev pub turn_lines : Member → (List Member → List ℕ) → Member → List Member → List ℕ → Ordering → List ℕ
-turn_lines old later new news more Less = gone_line old.path ++ later (new ∷ news)
-turn_lines old later new news more Greater = added_line new.path ++ more
-turn_lines old later new news more Equal = pair_line old.path old.content new.content ++ later news
+-- what two lists of members have at a path: a member that only the old or the new one has, or one of each (this project)
+pub data Pairing : Type 0 where
+  Gone : Member → Pairing
+  Added : Member → Pairing
+  Both : Member → Member → Pairing
 
--- the lines of an old member, and of those after it, against the new ones (diff)
-unfoldable pub member_lines : Member → (List Member → List ℕ) → List Member → List ℕ
-member_lines old later [] = gone_line old.path ++ later []
-member_lines old later (new ∷ news) = turn_lines old later new news (member_lines old later news) (path_order old.path new.path)
+-- an old member and a list of new ones, and what comes after them: by the order of the paths, the member that only one tree has, or the pair (diff)
+abbrev pub turn : Member → (List Member → List Pairing) → Member → List Member → List Pairing → Ordering → List Pairing
+turn old later new news more Less = Gone old ∷ later (new ∷ news)
+turn old later new news more Greater = Added new ∷ more
+turn old later new news more Equal = Both old new ∷ later news
 
--- the lines of the differences between two lists of members: one for each member that only one of them has, and one for each that differs (diff)
-unfoldable pub merged_lines : List Member → List Member → List ℕ
-merged_lines [] news = flat_map (λ (new : Member). added_line new.path) news
-merged_lines (old ∷ olds) news = member_lines old (merged_lines olds) news
+-- an old member, and those after it, with the new ones (diff)
+unfoldable pub paired : Member → (List Member → List Pairing) → List Member → List Pairing
+paired old later [] = Gone old ∷ later []
+paired old later (new ∷ news) = turn old later new news (paired old later news) (path_order old.path new.path)
+
+-- two lists of members, merged by their paths: each member that only one of them has, and each pair (diff)
+unfoldable pub merged : List Member → List Member → List Pairing
+merged [] news = map Added news
+merged (old ∷ olds) news = paired old (merged olds) news
+
+-- the line of what two lists have at a path; none if it is the same (diff)
+abbrev pub line_of : Pairing → List ℕ
+line_of (Gone old) = gone_line old.path old.content
+line_of (Added new) = added_line new.path new.content
+line_of (Both old new) = pair_line old.path old.content new.content
+
+-- the lines of the differences between two lists of members: one for each member that only one of them has, and one for each pair that differs (diff)
+abbrev pub merged_lines : List Member → List Member → List ℕ
+merged_lines olds news = flat_map line_of (merged olds news)
 
 -- the order of the first members of two lists, one of which at least has one; an empty list has the greater one (this project)
 abbrev pub order_of : List Member → List Member → Ordering
@@ -47,26 +64,23 @@ order_of [] news = Greater
 order_of (old ∷ olds) [] = Less
 order_of (old ∷ olds) (new ∷ news) = path_order old.path new.path
 
--- the line of the first members of two lists, which have this order (this project)
-abbrev pub line_in : Member → Member → Ordering → List ℕ
-line_in old new Less = gone_line old.path
-line_in old new Greater = added_line new.path
-line_in old new Equal = pair_line old.path old.content new.content
-
--- the first line of the differences between two lists; none if their first members are equal (this project)
-unfoldable pub first_line : List Member → List Member → List ℕ
-first_line [] [] = []
-first_line [] (new ∷ news) = added_line new.path
-first_line (old ∷ olds) [] = gone_line old.path
-first_line (old ∷ olds) (new ∷ news) = line_in old new (path_order old.path new.path)
+-- the member of an entry of a tree (this project)
+abbrev pub member_at : Bool → MetTree → MetEntry → Member
+member_at times tree found = member_of times tree.geometry.now tree.image.now tree.founds.items found
 
 -- the members of a tree from an entry on (this project)
 unfoldable pub rest_of : Bool → MetTree → ℕ → List Member
-rest_of times tree i = map (member_of times tree.geometry.now tree.image.now tree.founds.items) (drop i tree.founds.items)
+rest_of times tree i = map (member_at times tree) (drop i tree.founds.items)
 
 -- the members of a tree: its root, and what is below it (this project)
 abbrev pub all_of : Bool → MetTree → List Member
-all_of times tree = member_of times tree.geometry.now tree.image.now tree.founds.items tree.root ∷ rest_of times tree 0
+all_of times tree = member_at times tree tree.root ∷ rest_of times tree 0
+
+-- what two trees have at the path of one or two entries (this project)
+abbrev pub pairing_of : Bool → MetTree → MetTree → Pair → Pairing
+pairing_of times old new (pairs.Gone found) = Gone (member_at times old found.now)
+pairing_of times old new (pairs.Added found) = Added (member_at times new found.now)
+pairing_of times old new (pairs.Both found other) = Both (member_at times old found.now) (member_at times new other.now)
 
 -- the lines of the differences between two trees (diff)
 abbrev pub tree_lines : Bool → MetTree → MetTree → List ℕ

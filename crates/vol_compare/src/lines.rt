@@ -1,41 +1,77 @@
 //! The lines of what differs between two trees.
-ghost use Rattle.std.specs.Prelude.{◌≡◌, ◌≤◌, ◌++◌, ◌∷◌, [], true, IfOk, OnOk};
+ghost use Rattle.std.specs.Prelude.{◌≡◌, ◌≤◌, ◌++◌, ◌∷◌, [], ℕ, List, true, if◌then◌else◌, option_map, IfOk, OnOk};
 ghost use Rattle.vol_layout.specs.Geometry.{Fits};
 ghost use Rattle.vol_compare.specs.Bodies.{first_difference};
-ghost use Rattle.vol_compare.specs.Lines.{added_line, changed_line, content_text, fact_changes, bytes_change, gone_line, is_one_kind, is_one_reason, kind_text, left_text, nodes_line, own_letter, own_text, pair_line, path_text, turned_line, unseen_line};
-ghost use Rattle.vol_compare.specs.Members.{Further, LeftOut, bytes_of, content_at, content_of, is_unseen};
-ghost use Rattle.vol_compare.specs.declared.members.Facts.{Facts};
+ghost use Rattle.vol_compare.specs.Lines.{bytes_change, changed_line, fact_changes, gone_line, added_line, is_one_kind, is_one_name, is_one_reason, kind_text, left_text, link_text, lone_line, name_remark, name_text, named_line, node_changes, node_text, nodes_line, own_text, pair_line, path_text, renamed_line, turned_line, unseen_line};
+ghost use Rattle.vol_compare.specs.Members.{LeftOut, bytes_of, content_at, content_of, is_unseen};
+ghost use Rattle.vol_layout.specs.declared.geometry.Geometry.{Geometry};
+ghost use Rattle.vol_compare.specs.declared.members.NamedNode.{NamedNode};
 
 use crate::bodies::{StoredFile, first_difference};
 use crate::changes::{push_bytes_change, push_fact_changes};
-use crate::members::{Facts, MetTree, NodeKind, Target, target_of};
+use crate::members::{Facts, MetTree, NamedNode, NodeKind, Target, target_of};
 use escaped_text::push_escaped;
 use std::alloc::{AllocError, Global};
 use vol_archive::{MetEntry, Reason};
 
 /// Returns the line of a path that only the old tree has.
-pub(crate) fn gone_line(alloc: Global, path: &[u8]) -> Result<Vec<u8>, AllocError>
-    ensures { IfOk result (λ line. line.items ≡ gone_line path.now) }
+pub(crate) fn gone_line(
+    alloc: Global,
+    tree: &MetTree<'_>,
+    found: &MetEntry,
+    times: bool,
+) -> Result<Vec<u8>, AllocError>
+    requires { Fits tree.now.geometry.now tree.now.image.now }
+    ensures { IfOk result (λ line. line.items ≡ gone_line found.now.path
+        (content_at times tree.now.geometry.now tree.now.image.now tree.now.founds.items found.now)) }
 {
-    lone_line(alloc, b'D', path)
+    lone_line(alloc, b'D', tree, found, times)
 }
 
 /// Returns the line of a path that only the new tree has.
-pub(crate) fn added_line(alloc: Global, path: &[u8]) -> Result<Vec<u8>, AllocError>
-    ensures { IfOk result (λ line. line.items ≡ added_line path.now) }
+pub(crate) fn added_line(
+    alloc: Global,
+    tree: &MetTree<'_>,
+    found: &MetEntry,
+    times: bool,
+) -> Result<Vec<u8>, AllocError>
+    requires { Fits tree.now.geometry.now tree.now.image.now }
+    ensures { IfOk result (λ line. line.items ≡ added_line found.now.path
+        (content_at times tree.now.geometry.now tree.now.image.now tree.now.founds.items found.now)) }
 {
-    lone_line(alloc, b'A', path)
+    lone_line(alloc, b'A', tree, found, times)
 }
 
 /// Returns the line of a path that only one tree has.
-fn lone_line(alloc: Global, letter: u8, path: &[u8]) -> Result<Vec<u8>, AllocError>
-    ensures { IfOk result (λ line. line.items ≡ letter ∷ path_text path.now ++ 10 ∷ []) }
+fn lone_line(
+    alloc: Global,
+    letter: u8,
+    tree: &MetTree<'_>,
+    found: &MetEntry,
+    times: bool,
+) -> Result<Vec<u8>, AllocError>
+    requires { Fits tree.now.geometry.now tree.now.image.now }
+    ensures { IfOk result (λ line. line.items ≡ lone_line letter found.now.path
+        (content_at times tree.now.geometry.now tree.now.image.now tree.now.founds.items found.now)) }
 {
     let mut line = Vec::new(alloc);
     line.push(letter)?;
-    push_path(&mut line, path)?;
+    push_path(&mut line, found.path.as_slice())?;
+    push_name_remark(&mut line, target_of(tree, found, times))?;
     line.push(b'\n')?;
     Ok(line)
+}
+
+/// Appends a remark on a path that only one tree has, if its last name is empty or has a slash, so that it looks like another path.
+fn push_name_remark(text: &mut Vec<u8>, target: Target<'_>) -> Result<(), AllocError>
+    ensures { (g : Geometry) (image : List ℕ) (i : ℕ) → OnOk result (text.new.items ≡ text.old.items ++ name_remark (content_of g image i target.entry)) }
+{
+    let Target::Left(Reason::BadName) = target else {
+        return Ok(());
+    };
+    text.extend_from_slice(b" (")?;
+    text.extend_from_slice(left_text(Reason::BadName))?;
+    Ok(text.extend_from_slice(b")")?)
 }
 
 /// Appends a path of a tree, from the root.
@@ -88,52 +124,131 @@ fn targets_line(
     new_file: StoredFile<'_>,
 ) -> Result<Vec<u8>, AllocError>
     requires old_fits { Fits old_file.geometry.now old_file.image.now }
-    requires old_number { (facts : Facts) → old ≡ Target.Node facts → (1 ≤ old_file.inode) × (old_file.inode ≤ old_file.geometry.now.last_inode) }
+    requires old_number { (node : NamedNode) → old ≡ Target.Node node → (1 ≤ old_file.inode) × (old_file.inode ≤ old_file.geometry.now.last_inode) }
     requires new_fits { Fits new_file.geometry.now new_file.image.now }
-    requires new_number { (facts : Facts) → new ≡ Target.Node facts → (1 ≤ new_file.inode) × (new_file.inode ≤ new_file.geometry.now.last_inode) }
+    requires new_number { (node : NamedNode) → new ≡ Target.Node node → (1 ≤ new_file.inode) × (new_file.inode ≤ new_file.geometry.now.last_inode) }
     ensures { IfOk result (λ line. line.items ≡ pair_line path.now
         (content_of old_file.entry.geometry.now old_file.entry.image.now old_file.entry.inode old.entry)
         (content_of new_file.entry.geometry.now new_file.entry.image.now new_file.entry.inode new.entry)) }
 {
     match (old, new) {
-        (Target::Node(f), Target::Node(h)) => nodes_line(alloc, path, f, old_file, h, new_file),
-        (Target::Link(a), Target::Link(b)) => links_line(alloc, path, a, b),
+        (Target::Node(f), Target::Node(h)) => named_line(alloc, path, f, old_file, h, new_file),
         (Target::Left(r), Target::Left(s)) => reasons_line(alloc, path, r, s),
-        (Target::Node(f), Target::Link(b)) => {
-            let to = link_text(alloc, b)?;
-            turned_line(alloc, own_letter(f.kind), path, own_text(f.kind), &to)
-        }
-        (Target::Link(a), Target::Node(h)) => {
-            let to = link_text(alloc, a)?;
-            turned_line(alloc, own_letter(h.kind), path, &to, own_text(h.kind))
-        }
         (Target::Node(f), Target::Left(s)) => {
-            turned_line(alloc, b'T', path, kind_text(f.kind), left_text(s))
+            let from = node_text(alloc, f)?;
+            turned_line(alloc, path, &from, left_text(s))
         }
         (Target::Left(r), Target::Node(h)) => {
-            turned_line(alloc, b'T', path, left_text(r), kind_text(h.kind))
-        }
-        (Target::Link(a), Target::Left(s)) => {
-            let to = link_text(alloc, a)?;
-            turned_line(alloc, b'T', path, &to, left_text(s))
-        }
-        (Target::Left(r), Target::Link(b)) => {
-            let to = link_text(alloc, b)?;
-            turned_line(alloc, b'T', path, left_text(r), &to)
+            let to = node_text(alloc, h)?;
+            turned_line(alloc, path, left_text(r), &to)
         }
     }
 }
 
-/// Returns the line of a path that is another name of two files, given their paths; no bytes if these are equal.
-fn links_line(alloc: Global, path: &[u8], old: &[u8], new: &[u8]) -> Result<Vec<u8>, AllocError>
-    ensures { IfOk result (λ line. line.items ≡ pair_line path.now (Further old.now) (Further new.now)) }
+/// Returns the line of a path that leads to nodes in two trees; no bytes if they are the same.
+fn named_line(
+    alloc: Global,
+    path: &[u8],
+    old: NamedNode<'_>,
+    old_file: StoredFile<'_>,
+    new: NamedNode<'_>,
+    new_file: StoredFile<'_>,
+) -> Result<Vec<u8>, AllocError>
+    requires old_fits { Fits old_file.geometry.now old_file.image.now }
+    requires old_first { 1 ≤ old_file.inode }
+    requires old_last { old_file.inode ≤ old_file.geometry.now.last_inode }
+    requires new_fits { Fits new_file.geometry.now new_file.image.now }
+    requires new_first { 1 ≤ new_file.inode }
+    requires new_last { new_file.inode ≤ new_file.geometry.now.last_inode }
+    ensures { IfOk result (λ line. line.items ≡ named_line path.now
+        old.entry.facts (bytes_of old_file.entry.geometry.now old_file.entry.image.now old_file.entry.inode old.entry.facts.kind) (option_map (λ p. p.now) old.entry.first)
+        new.entry.facts (bytes_of new_file.entry.geometry.now new_file.entry.image.now new_file.entry.inode new.entry.facts.kind) (option_map (λ p. p.now) new.entry.first)) }
 {
-    if old == new {
-        return Ok(Vec::new(alloc));
+    if is_one_name(old.first, new.first) {
+        nodes_line(alloc, path, old.facts, old_file, new.facts, new_file)
+    } else {
+        renamed_line(alloc, path, old, old_file, new, new_file)
     }
-    let before = link_text(alloc, old)?;
-    let after = link_text(alloc, new)?;
-    turned_line(alloc, b'M', path, &before, &after)
+}
+
+/// Returns the line of a path that is no name of one file now, or wasn't.
+#[tactic(auto, unfolding(crate::specs::Lines::renamed_line))]
+fn renamed_line(
+    alloc: Global,
+    path: &[u8],
+    old: NamedNode<'_>,
+    old_file: StoredFile<'_>,
+    new: NamedNode<'_>,
+    new_file: StoredFile<'_>,
+) -> Result<Vec<u8>, AllocError>
+    requires old_fits { Fits old_file.geometry.now old_file.image.now }
+    requires old_first { 1 ≤ old_file.inode }
+    requires old_last { old_file.inode ≤ old_file.geometry.now.last_inode }
+    requires new_fits { Fits new_file.geometry.now new_file.image.now }
+    requires new_first { 1 ≤ new_file.inode }
+    requires new_last { new_file.inode ≤ new_file.geometry.now.last_inode }
+    ensures { IfOk result (λ line. line.items ≡ renamed_line path.now
+        old.entry.facts (bytes_of old_file.entry.geometry.now old_file.entry.image.now old_file.entry.inode old.entry.facts.kind) (option_map (λ p. p.now) old.entry.first)
+        new.entry.facts (bytes_of new_file.entry.geometry.now new_file.entry.image.now new_file.entry.inode new.entry.facts.kind) (option_map (λ p. p.now) new.entry.first)) }
+{
+    let mut line = Vec::new(alloc);
+    line.push(renamed_letter(old.facts.kind, new.facts.kind))?;
+    push_path(&mut line, path)?;
+    line.push(b' ')?;
+    push_name(&mut line, old)?;
+    line.extend_from_slice(b" -> ")?;
+    push_name(&mut line, new)?;
+    push_if_one_kind(alloc, &mut line, old.facts, old_file, new.facts, new_file)?;
+    line.push(b'\n')?;
+    Ok(line)
+}
+
+/// Returns the letter of a path at which nodes of these kinds have other names: `M` if they are of one kind.
+fn renamed_letter(old: NodeKind, new: NodeKind) -> u8
+    ensures { result ≡ (if is_one_kind old new then 77 else 84) }
+{
+    if is_one_kind(old, new) { b'M' } else { b'T' }
+}
+
+/// Appends the words for a node whose names changed.
+fn push_name(text: &mut Vec<u8>, node: NamedNode<'_>) -> Result<(), AllocError>
+    ensures { OnOk result (text.new.items ≡ text.old.items ++ name_text node.entry.facts.kind (option_map (λ p. p.now) node.entry.first)) }
+{
+    match node.first {
+        None => Ok(text.extend_from_slice(own_text(node.facts.kind))?),
+        Some(path) => push_link(text, path),
+    }
+}
+
+/// Appends the words for a further name of the file at a path.
+fn push_link(text: &mut Vec<u8>, path: &[u8]) -> Result<(), AllocError>
+    ensures { OnOk result (text.new.items ≡ text.old.items ++ link_text path.now) }
+{
+    text.extend_from_slice(b"link to /")?;
+    push_escaped(text, path)
+}
+
+/// Returns the words for a node.
+fn node_text(alloc: Global, node: NamedNode<'_>) -> Result<Vec<u8>, AllocError>
+    ensures { IfOk result (λ text. text.items ≡ node_text node.entry.facts.kind (option_map (λ p. p.now) node.entry.first)) }
+{
+    let mut text = Vec::new(alloc);
+    match node.first {
+        None => text.extend_from_slice(kind_text(node.facts.kind))?,
+        Some(path) => push_link(&mut text, path)?,
+    }
+    Ok(text)
+}
+
+/// True if a path is the first name of two nodes, or a further one of those with one first name.
+fn is_one_name(old: Option<&[u8]>, new: Option<&[u8]>) -> bool
+    ensures { result ≡ is_one_name (option_map (λ p. p.now) old.entry) (option_map (λ p. p.now) new.entry) }
+{
+    match (old, new) {
+        (None, None) => true,
+        (Some(a), Some(b)) => a == b,
+        (None, Some(_)) | (Some(_), None) => false,
+    }
 }
 
 /// Returns the line of a path that is left out for two reasons; no bytes if these are the same and the path leads to nothing.
@@ -141,7 +256,7 @@ fn reasons_line(alloc: Global, path: &[u8], old: Reason, new: Reason) -> Result<
     ensures { IfOk result (λ line. line.items ≡ pair_line path.now (LeftOut old) (LeftOut new)) }
 {
     if !is_one_reason(old, new) {
-        return turned_line(alloc, b'T', path, left_text(old), left_text(new));
+        return turned_line(alloc, path, left_text(old), left_text(new));
     }
     if is_unseen(old) {
         unseen_line(alloc, path, old)
@@ -204,22 +319,20 @@ fn nodes_line(
         (bytes_of new_file.entry.geometry.now new_file.entry.image.now new_file.entry.inode new.kind)) }
 {
     if !is_one_kind(old.kind, new.kind) {
-        return turned_line(alloc, b'T', path, kind_text(old.kind), kind_text(new.kind));
+        return turned_line(alloc, path, kind_text(old.kind), kind_text(new.kind));
     }
     let mut changes = Vec::new(alloc);
-    push_fact_changes(alloc, &mut changes, old, new)?;
-    push_bytes(alloc, &mut changes, old.kind, old_file, new.kind, new_file)?;
+    push_node_changes(alloc, &mut changes, old, old_file, new, new_file)?;
     changed_line(alloc, path, &changes)
 }
 
-/// Appends the first place at which the bytes of two nodes of one kind differ, if they are regular files and it does.
-#[tactic(auto, using(crate::proofs::NodeBytes::file_bytes, crate::proofs::NodeBytes::no_bytes))]
-fn push_bytes(
+/// Appends all that differs between two nodes, each after a comma, if they are of one kind.
+fn push_if_one_kind(
     alloc: Global,
     text: &mut Vec<u8>,
-    old: NodeKind,
+    old: Facts,
     old_file: StoredFile<'_>,
-    new: NodeKind,
+    new: Facts,
     new_file: StoredFile<'_>,
 ) -> Result<(), AllocError>
     requires old_fits { Fits old_file.geometry.now old_file.image.now }
@@ -228,15 +341,70 @@ fn push_bytes(
     requires new_fits { Fits new_file.geometry.now new_file.image.now }
     requires new_first { 1 ≤ new_file.inode }
     requires new_last { new_file.inode ≤ new_file.geometry.now.last_inode }
-    requires one { is_one_kind old new ≡ true }
-    ensures { OnOk result (text.new.items ≡ text.old.items ++ bytes_change (first_difference
-        (bytes_of old_file.entry.geometry.now old_file.entry.image.now old_file.entry.inode old)
-        (bytes_of new_file.entry.geometry.now new_file.entry.image.now new_file.entry.inode new))) }
+    ensures { OnOk result (text.new.items ≡ text.old.items ++ (if is_one_kind old.kind new.kind then node_changes
+        old (bytes_of old_file.entry.geometry.now old_file.entry.image.now old_file.entry.inode old.kind)
+        new (bytes_of new_file.entry.geometry.now new_file.entry.image.now new_file.entry.inode new.kind) else [])) }
 {
-    if old.is_file() {
-        push_bytes_change(alloc, text, first_difference(old_file, new_file))
+    if is_one_kind(old.kind, new.kind) {
+        push_node_changes(alloc, text, old, old_file, new, new_file)
     } else {
         Ok(())
+    }
+}
+
+/// Appends all that differs between two nodes of one kind, each after a comma.
+fn push_node_changes(
+    alloc: Global,
+    text: &mut Vec<u8>,
+    old: Facts,
+    old_file: StoredFile<'_>,
+    new: Facts,
+    new_file: StoredFile<'_>,
+) -> Result<(), AllocError>
+    requires old_fits { Fits old_file.geometry.now old_file.image.now }
+    requires old_first { 1 ≤ old_file.inode }
+    requires old_last { old_file.inode ≤ old_file.geometry.now.last_inode }
+    requires new_fits { Fits new_file.geometry.now new_file.image.now }
+    requires new_first { 1 ≤ new_file.inode }
+    requires new_last { new_file.inode ≤ new_file.geometry.now.last_inode }
+    requires one { is_one_kind old.kind new.kind ≡ true }
+    ensures { OnOk result (text.new.items ≡ text.old.items ++ node_changes
+        old (bytes_of old_file.entry.geometry.now old_file.entry.image.now old_file.entry.inode old.kind)
+        new (bytes_of new_file.entry.geometry.now new_file.entry.image.now new_file.entry.inode new.kind)) }
+{
+    push_fact_changes(alloc, text, old, new)?;
+    push_bytes_change(
+        alloc,
+        text,
+        first_changed(old.kind, old_file, new.kind, new_file),
+    )
+}
+
+/// Returns the first place at which the bytes of two nodes of one kind differ, if they are regular files and there is one.
+///
+/// Costs [`first_difference`] of two files.
+#[tactic(auto, using(crate::proofs::NodeBytes::file_bytes, crate::proofs::NodeBytes::no_bytes))]
+pub(crate) fn first_changed(
+    old: NodeKind,
+    old_file: StoredFile<'_>,
+    new: NodeKind,
+    new_file: StoredFile<'_>,
+) -> Option<u32>
+    requires old_fits { Fits old_file.geometry.now old_file.image.now }
+    requires old_first { 1 ≤ old_file.inode }
+    requires old_last { old_file.inode ≤ old_file.geometry.now.last_inode }
+    requires new_fits { Fits new_file.geometry.now new_file.image.now }
+    requires new_first { 1 ≤ new_file.inode }
+    requires new_last { new_file.inode ≤ new_file.geometry.now.last_inode }
+    requires one { is_one_kind old new ≡ true }
+    ensures { result ≡ first_difference
+        (bytes_of old_file.entry.geometry.now old_file.entry.image.now old_file.entry.inode old)
+        (bytes_of new_file.entry.geometry.now new_file.entry.image.now new_file.entry.inode new) }
+{
+    if old.is_file() {
+        first_difference(old_file, new_file)
+    } else {
+        None
     }
 }
 
@@ -255,7 +423,7 @@ fn changed_line(alloc: Global, path: &[u8], changes: &[u8]) -> Result<Vec<u8>, A
 }
 
 /// True if two nodes are of one kind.
-fn is_one_kind(old: NodeKind, new: NodeKind) -> bool
+pub(crate) fn is_one_kind(old: NodeKind, new: NodeKind) -> bool
     ensures { result ≡ is_one_kind old new }
 {
     match (old, new) {
@@ -280,7 +448,7 @@ fn kind_text(kind: NodeKind) -> &'static [u8]
 }
 
 /// Returns the words for an entry that leads to nothing, for this reason.
-fn left_text(reason: Reason) -> &'static [u8]
+pub(crate) fn left_text(reason: Reason) -> &'static [u8]
     ensures { result.now ≡ left_text reason }
 {
     match reason {
@@ -292,7 +460,7 @@ fn left_text(reason: Reason) -> &'static [u8]
     }
 }
 
-/// Returns the words for a node that had or has another name of the file of another path.
+/// Returns the words for a node that was or is no further name.
 fn own_text(kind: NodeKind) -> &'static [u8]
     ensures { result.now ≡ own_text kind }
 {
@@ -304,29 +472,13 @@ fn own_text(kind: NodeKind) -> &'static [u8]
     }
 }
 
-/// Returns the letter of a path that was or is another name of a node of this kind.
-fn own_letter(kind: NodeKind) -> u8
-    ensures { result ≡ own_letter kind }
-{
-    match kind {
-        NodeKind::Directory => b'T',
-        _ => b'M',
-    }
-}
-
 /// Returns the line of a path that leads to something else, with the words for both.
 #[tactic(auto, unfolding(crate::specs::Lines::turned_line))]
-fn turned_line(
-    alloc: Global,
-    letter: u8,
-    path: &[u8],
-    old: &[u8],
-    new: &[u8],
-) -> Result<Vec<u8>, AllocError>
-    ensures { IfOk result (λ line. line.items ≡ turned_line letter path.now old.now new.now) }
+fn turned_line(alloc: Global, path: &[u8], old: &[u8], new: &[u8]) -> Result<Vec<u8>, AllocError>
+    ensures { IfOk result (λ line. line.items ≡ turned_line path.now old.now new.now) }
 {
     let mut line = Vec::new(alloc);
-    line.push(letter)?;
+    line.push(b'T')?;
     push_path(&mut line, path)?;
     line.push(b' ')?;
     line.extend_from_slice(old)?;
@@ -334,13 +486,4 @@ fn turned_line(
     line.extend_from_slice(new)?;
     line.push(b'\n')?;
     Ok(line)
-}
-
-/// Returns the words for a further name of the file at a path.
-fn link_text(alloc: Global, path: &[u8]) -> Result<Vec<u8>, AllocError>
-    ensures { IfOk result (λ text. text.items ≡ content_text (Further path.now)) }
-{
-    let mut text = Vec::from_slice(alloc, b"link to /")?;
-    push_escaped(&mut text, path)?;
-    Ok(text)
 }

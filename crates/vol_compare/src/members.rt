@@ -1,11 +1,12 @@
 //! The members of a tree: what each path leads to.
-ghost use Rattle.std.specs.Prelude.{◌≡◌, ◌≤◌, IfOk};
+ghost use Rattle.std.specs.Prelude.{◌≡◌, ◌≤◌, ℕ, List, option_map, IfOk};
 ghost use Rattle.vol_layout.specs.Geometry.{Fits};
 ghost use Rattle.vol_layout.specs.declared.mode.Kind.{Kind};
 ghost use Rattle.vol_judge.specs.Directories.{root_of};
-ghost use Rattle.vol_compare.specs.Members.{AreMet, content_at, content_of, facts_of, role_content, root_entry, root_role, special_kind, is_file, time_if};
+ghost use Rattle.vol_compare.specs.Members.{AreMet, Node, bytes_of, content_at, content_of, facts_of, first_kind, role_content, root_entry, root_role, special_kind, is_file, time_if};
 ghost use Rattle.vol_layout.specs.Inode.{inode_of};
-ghost use Rattle.vol_compare.specs.declared.members.Facts.{Facts};
+ghost use Rattle.vol_layout.specs.declared.geometry.Geometry.{Geometry};
+ghost use Rattle.vol_compare.specs.declared.members.NamedNode.{NamedNode};
 
 use pdp_words::{Bytes, Image};
 use std::alloc::{AllocError, Global};
@@ -47,13 +48,20 @@ pub(crate) struct Facts {
     pub(crate) changed: u32,
 }
 
+/// A node to which a path leads.
+#[derive(Clone, Copy)]
+pub(crate) struct NamedNode<'a> {
+    /// What is compared of the node.
+    pub(crate) facts: Facts,
+    /// The path of the node's first name, if this is a further one.
+    pub(crate) first: Option<&'a [u8]>,
+}
+
 /// What a path leads to.
 #[derive(Clone, Copy)]
 pub(crate) enum Target<'a> {
     /// A node.
-    Node(Facts),
-    /// A further name of the file with this path.
-    Link(&'a [u8]),
+    Node(NamedNode<'a>),
     /// Nothing that a tree has, for this reason.
     Left(Reason),
 }
@@ -156,7 +164,7 @@ pub(crate) fn target_of<'a>(tree: &'a MetTree<'_>, found: &MetEntry, times: bool
     requires { Fits tree.now.geometry.now tree.now.image.now }
     ensures content { content_of tree.now.geometry.now tree.now.image.now found.now.inode result
         ≡ content_at times tree.now.geometry.now tree.now.image.now tree.now.founds.items found.now }
-    ensures number { (facts : Facts) → result ≡ Target.Node facts → (1 ≤ found.now.inode) × (found.now.inode ≤ tree.now.geometry.now.last_inode) }
+    ensures number { (node : NamedNode) → result ≡ Target.Node node → (1 ≤ found.now.inode) × (found.now.inode ≤ tree.now.geometry.now.last_inode) }
 {
     let i = found.inode;
     if i == 0 || i > tree.geometry.last_inode {
@@ -175,14 +183,38 @@ fn role_target<'a>(tree: &'a MetTree<'_>, i: u16, role: Role, times: bool) -> Ta
 {
     let node = inode(tree.image, tree.geometry, i);
     match role {
-        Role::File => Target::Node(facts_of(&node, NodeKind::File(node.size), times)),
-        Role::Directory => Target::Node(facts_of(&node, NodeKind::Directory, times)),
-        Role::Special => Target::Node(facts_of(&node, special(&node), times)),
+        Role::File => named(&node, NodeKind::File(node.size), times, None),
+        Role::Directory => named(&node, NodeKind::Directory, times, None),
+        Role::Special => named(&node, special(&node), times, None),
         Role::Link(k) => match tree.founds.get(k) {
-            Some(first) => Target::Link(first.path.as_slice()),
+            Some(first) => {
+                let kind = first_kind(first.role, &node);
+                named(&node, kind, times, Some(first.path.as_slice()))
+            }
             None => Target::Left(Reason::NoNode),
         },
         Role::Left(reason) => Target::Left(reason),
+    }
+}
+
+/// Returns a node of this kind, with the path of its first name if this is a further one.
+fn named<'a>(node: &Inode, kind: NodeKind, times: bool, first: Option<&'a [u8]>) -> Target<'a>
+    ensures { (g : Geometry) (image : List ℕ) (i : ℕ) → content_of g image i result
+        ≡ Node (facts_of times node.now kind) (bytes_of g image i kind) (option_map (λ path. path.now) first.entry) }
+{
+    Target::Node(NamedNode {
+        facts: facts_of(node, kind, times),
+        first,
+    })
+}
+
+/// Returns the kind of a node whose first name has this role.
+fn first_kind(role: Role, node: &Inode) -> NodeKind
+    ensures { result ≡ first_kind role node.now }
+{
+    match role {
+        Role::Special => special(node),
+        Role::File | Role::Directory | Role::Link(_) | Role::Left(_) => NodeKind::File(node.size),
     }
 }
 

@@ -1,33 +1,45 @@
-//! The differences between two trees, written line by line.
-ghost use Rattle.std.specs.Prelude.{◌≡◌, ◌≤◌, ◌<◌, ◌+◌, ◌++◌, ◌||◌, not, nat_lt, Bool, if◌then◌else◌, length, IfOk};
+//! Two trees, merged by their paths, and the lines of what differs between them.
+ghost use Rattle.std.specs.Prelude.{◌≡◌, ◌≤◌, ◌<◌, ◌+◌, ◌++◌, ◌∷◌, not, nat_lt, Bool, if◌then◌else◌, length, map, IfOk};
+ghost use Rattle.std.specs.List.{flat_map};
 ghost use Rattle.std.specs.declared.cmp.Ordering.TheVariants.{Less, Equal, Greater};
 ghost use Rattle.vol_layout.specs.Geometry.{Fits};
 ghost use Rattle.vol_archive.specs.Write.{Writes};
 ghost use Rattle.vol_dir.specs.Walk.{is_nil};
-ghost use Rattle.vol_compare.specs.Merge.{first_line, length_order, merged_lines, order_of, path_order, rank, rest_of, tree_lines};
+ghost use Rattle.vol_compare.specs.Merge.{all_of, length_order, line_of, merged, order_of, pairing_of, path_order, rank, rest_of, tree_lines};
 
 use crate::lines::{added_line, gone_line, pair_line};
 use crate::members::MetTree;
 use pdp_words::{Sink, write_all};
 use std::alloc::{AllocError, Global};
 use std::cmp::Ordering;
-use vol_archive::WriteFault;
+use vol_archive::{MetEntry, WriteFault};
 
-/// A line, and the places in both trees after what it is about.
-#[derive(Drop)]
-struct Step {
-    /// The line; no bytes if the members are equal.
-    line: Vec<u8>,
-    /// The number of old entries that were compared.
+/// What two trees have at a path.
+#[derive(Clone, Copy)]
+pub(crate) enum Pair<'a> {
+    /// An entry that only the old tree has.
+    Gone(&'a MetEntry),
+    /// An entry that only the new tree has.
+    Added(&'a MetEntry),
+    /// An entry of each tree.
+    Both(&'a MetEntry, &'a MetEntry),
+}
+
+/// What two trees have at the next path, and the places in both after it.
+#[derive(Clone, Copy)]
+struct Step<'a> {
+    /// What they have.
+    pair: Pair<'a>,
+    /// The number of old entries that were merged.
     old: usize,
-    /// The number of new entries that were compared.
+    /// The number of new entries that were merged.
     new: usize,
 }
 
 /// Writes the lines of the differences between two trees, in the order of their paths: of each path that only one of them has, and of each that leads to
 /// different things. The times of the last read and of the last change are compared only if `times` is true. Returns true if there is a line.
 ///
-/// Takes memory for one line at a time. Costs [`first_difference`](crate::bodies::first_difference) of each pair of files.
+/// Takes the memory of [`pairs`], and memory for one line at a time. Costs [`first_difference`](crate::bodies::first_difference) of each pair of files.
 pub fn put_differences<O: Sink>(
     alloc: Global,
     old: &MetTree<'_>,
@@ -42,72 +54,51 @@ pub fn put_differences<O: Sink>(
         (tree_lines times old.now new.now) result }
     ensures differs { IfOk result (λ differs. differs ≡ not (is_nil (tree_lines times old.now new.now))) }
 {
-    let root = pair_line(alloc, old, &old.root, new, &new.root, times)?;
-    put(&root, output)?;
-    put_below(alloc, old, new, times, is_either(false, &root), output)
+    let pairs = pairs(alloc, old, new)?;
+    put_lines(alloc, old, new, times, &pairs, output)
 }
 
-/// Writes the lines of what is below the roots. Returns true if there is one, or `before` is true.
-fn put_below<O: Sink>(
+/// Writes the lines of what two trees have at some paths. Returns true if there is one.
+fn put_lines<O: Sink>(
     alloc: Global,
     old: &MetTree<'_>,
     new: &MetTree<'_>,
     times: bool,
-    before: bool,
+    pairs: &[Pair<'_>],
     output: &mut O,
 ) -> Result<bool, WriteFault>
     requires old_fits { Fits old.now.geometry.now old.now.image.now }
     requires new_fits { Fits new.now.geometry.now new.now.image.now }
     ensures written { Writes (O.contents output.old) (O.contents output.new) (O.failed output.old) (O.failed output.new)
-        (merged_lines (rest_of times old.now 0) (rest_of times new.now 0)) result }
-    ensures differs { IfOk result (λ differs. differs ≡ (before || not (is_nil (merged_lines (rest_of times old.now 0) (rest_of times new.now 0))))) }
+        (flat_map line_of (map (pairing_of times old.now new.now) pairs.now)) result }
+    ensures differs { IfOk result (λ differs. differs ≡ not (is_nil (flat_map line_of (map (pairing_of times old.now new.now) pairs.now)))) }
 {
-    let mut differs = before;
-    let mut i = 0;
-    let mut j = 0;
-    while i < old.founds.len() || j < new.founds.len() {
-        let step = put_step(alloc, old, new, times, i, j, output)?;
-        differs = is_either(differs, &step.line);
-        i = step.old;
-        j = step.new;
+    let mut differs = false;
+    for pair in pairs {
+        let some = put_line(alloc, old, new, times, *pair, output)?;
+        differs = differs || some;
     }
     Ok(differs)
 }
 
-/// True if there is a line now, or was one before.
-fn is_either(before: bool, line: &[u8]) -> bool
-    ensures { result ≡ (before || not (is_nil line.now)) }
-{
-    before || !line.is_empty()
-}
-
-/// Writes the next line, if the next members differ.
-fn put_step<O: Sink>(
+/// Writes the line of what two trees have at a path. Returns true if there is one.
+fn put_line<O: Sink>(
     alloc: Global,
     old: &MetTree<'_>,
     new: &MetTree<'_>,
     times: bool,
-    i: usize,
-    j: usize,
+    pair: Pair<'_>,
     output: &mut O,
-) -> Result<Step, WriteFault>
+) -> Result<bool, WriteFault>
     requires old_fits { Fits old.now.geometry.now old.now.image.now }
     requires new_fits { Fits new.now.geometry.now new.now.image.now }
-    requires old_within { i ≤ length old.now.founds.items }
-    requires new_within { j ≤ length new.now.founds.items }
-    requires some { i + j < length old.now.founds.items + length new.now.founds.items }
     ensures written { Writes (O.contents output.old) (O.contents output.new) (O.failed output.old) (O.failed output.new)
-        (first_line (rest_of times old.now i) (rest_of times new.now j)) result }
-    ensures line { IfOk result (λ step. step.line.items ≡ first_line (rest_of times old.now i) (rest_of times new.now j)) }
-    ensures rest { IfOk result (λ step. first_line (rest_of times old.now i) (rest_of times new.now j)
-        ++ merged_lines (rest_of times old.now step.old) (rest_of times new.now step.new) ≡ merged_lines (rest_of times old.now i) (rest_of times new.now j)) }
-    ensures old_within { IfOk result (λ step. step.old ≤ length old.now.founds.items) }
-    ensures new_within { IfOk result (λ step. step.new ≤ length new.now.founds.items) }
-    ensures on { IfOk result (λ step. i + j < step.old + step.new) }
+        (line_of (pairing_of times old.now new.now pair.entry)) result }
+    ensures some { IfOk result (λ some. some ≡ not (is_nil (line_of (pairing_of times old.now new.now pair.entry)))) }
 {
-    let step = next_step(alloc, old, new, times, i, j)?;
-    put(&step.line, output)?;
-    Ok(step)
+    let line = line_of(alloc, old, new, times, pair)?;
+    put(&line, output)?;
+    Ok(!line.is_empty())
 }
 
 /// Writes a piece of text.
@@ -120,43 +111,76 @@ fn put<O: Sink>(piece: &[u8], output: &mut O) -> Result<(), WriteFault>
     }
 }
 
-/// Returns the next line, and the places after the members that it is about.
-fn next_step(
+/// Returns the line of what two trees have at a path; no bytes if it is the same.
+pub(crate) fn line_of(
     alloc: Global,
     old: &MetTree<'_>,
     new: &MetTree<'_>,
     times: bool,
-    i: usize,
-    j: usize,
-) -> Result<Step, AllocError>
+    pair: Pair<'_>,
+) -> Result<Vec<u8>, AllocError>
     requires old_fits { Fits old.now.geometry.now old.now.image.now }
     requires new_fits { Fits new.now.geometry.now new.now.image.now }
+    ensures { IfOk result (λ line. line.items ≡ line_of (pairing_of times old.now new.now pair.entry)) }
+{
+    match pair {
+        Pair::Gone(found) => gone_line(alloc, old, found, times),
+        Pair::Added(found) => added_line(alloc, new, found, times),
+        Pair::Both(found, other) => pair_line(alloc, old, found, new, other, times),
+    }
+}
+
+/// Returns what two trees have at each path, in the order of the paths.
+///
+/// Takes memory for two places for each path.
+pub(crate) fn pairs<'a>(
+    alloc: Global,
+    old: &'a MetTree<'_>,
+    new: &'a MetTree<'_>,
+) -> Result<Vec<Pair<'a>>, AllocError>
+    requires { old.now.root.path ≡ new.now.root.path }
+    ensures { (times : Bool) → IfOk result (λ pairs. map (pairing_of times old.now new.now) pairs.items ≡ merged (all_of times old.now) (all_of times new.now)) }
+{
+    let mut pairs = Vec::new(alloc);
+    pairs.push(Pair::Both(&old.root, &new.root))?;
+    let mut i = 0;
+    let mut j = 0;
+    while i < old.founds.len() || j < new.founds.len() {
+        let step = next_step(old, new, i, j);
+        pairs.push(step.pair)?;
+        i = step.old;
+        j = step.new;
+    }
+    Ok(pairs)
+}
+
+/// Returns what two trees have at the next path, and the places after it.
+fn next_step<'a>(old: &'a MetTree<'_>, new: &'a MetTree<'_>, i: usize, j: usize) -> Step<'a>
     requires old_within { i ≤ length old.now.founds.items }
     requires new_within { j ≤ length new.now.founds.items }
     requires some { i + j < length old.now.founds.items + length new.now.founds.items }
-    ensures line { IfOk result (λ step. step.line.items ≡ first_line (rest_of times old.now i) (rest_of times new.now j)) }
-    ensures rest { IfOk result (λ step. first_line (rest_of times old.now i) (rest_of times new.now j)
-        ++ merged_lines (rest_of times old.now step.old) (rest_of times new.now step.new) ≡ merged_lines (rest_of times old.now i) (rest_of times new.now j)) }
-    ensures old_within { IfOk result (λ step. step.old ≤ length old.now.founds.items) }
-    ensures new_within { IfOk result (λ step. step.new ≤ length new.now.founds.items) }
-    ensures on { IfOk result (λ step. i + j < step.old + step.new) }
+    ensures rest { (times : Bool) → pairing_of times old.now new.now result.pair
+        ∷ merged (rest_of times old.now result.old) (rest_of times new.now result.new) ≡ merged (rest_of times old.now i) (rest_of times new.now j) }
+    ensures old_within { result.old ≤ length old.now.founds.items }
+    ensures new_within { result.new ≤ length new.now.founds.items }
+    ensures on { i + j < result.old + result.new }
 {
     match next_order(old, new, i, j) {
-        Ordering::Less => Ok(Step {
-            line: gone_line(alloc, old.founds[i].path.as_slice())?,
+        Ordering::Less => Step {
+            pair: Pair::Gone(&old.founds[i]),
             old: i + 1,
             new: j,
-        }),
-        Ordering::Greater => Ok(Step {
-            line: added_line(alloc, new.founds[j].path.as_slice())?,
+        },
+        Ordering::Greater => Step {
+            pair: Pair::Added(&new.founds[j]),
             old: i,
             new: j + 1,
-        }),
-        Ordering::Equal => Ok(Step {
-            line: pair_line(alloc, old, &old.founds[i], new, &new.founds[j], times)?,
+        },
+        Ordering::Equal => Step {
+            pair: Pair::Both(&old.founds[i], &new.founds[j]),
             old: i + 1,
             new: j + 1,
-        }),
+        },
     }
 }
 

@@ -164,7 +164,7 @@ whole='more.img: looks like a volume of edition 7, with 8 blocks, sound'
 printf '%s\n' "$whole" '  at 8: 1 byte follows' > line
 prints line identify more.img
 guessed more.img '"guess":"volume","parts":[{"block":0,"blocks":8,"command":"unixvol ls 7 more.img","edition":7,"rule":null,"sound":true}],"read":4097'
-head -c 1000 /dev/zero >> more.img
+{ cat seven.img; head -c 1001 /dev/zero; } > more.img
 printf '%s\n' "$whole" '  at 9: 489 bytes follow' > line
 prints line identify more.img
 changed more.img broken.img 1090 03

@@ -365,7 +365,7 @@ for edition in 6 7; do
     cmp -s like.tar whole.tar
     has "a disk of edition $edition in a pack" 0 $?
     truncate -s 1000 rk.img
-    refuses 1 'unixvol: 20 NotDirectory' export "$edition" rk.img --like rk05
+    refuses 5 "unixvol: 4871 of 4872 blocks are lost"$'\n'"unixvol: /: i-node $((edition - 5)) is lost" export "$edition" rk.img --like rk05
 done
 refuses 2 'unixvol: no volume has 5 blocks with an i-list of 9' export --sizes 5,9 7 b.img
 refuses 2 'unixvol: no volume has 240 blocks with an i-list of 0' export --sizes 240,0 7 b.img
@@ -557,7 +557,7 @@ for round in range(50):
     words = ("--at", str(at), "--bad", "r.map")
     done, kept = exported(edition, "r.bad", "k.tar", *words)
     if done.stdout == b"":
-        if done.stderr != b"unixvol: 20 NotDirectory\n":
+        if done.returncode != 5 or b"\nunixvol: /: i-node " not in done.stderr:
             print(round, "no archive:", done.stderr)
         continue
     lines = dict(line[9:].split(": ", 1) for line in done.stderr.decode().splitlines() if ": " in line[9:])

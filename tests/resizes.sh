@@ -210,7 +210,7 @@ saves 'what identify says of a pack with smaller volumes' output line
 { cat one; head -c 30720 two; } > cut.pack
 cp cut.pack before
 refuses 3 'unixvol: cannot write cut.pack' resize 7 cut.pack 110
-refuses 3 'unixvol: cannot write cut.pack' mkfs --at 100 7 cut.pack 40 5 0 0 0
+refuses 3 'unixvol: cannot write cut.pack' mkfs --at 110 7 cut.pack 20 5 0 0 0
 saves 'a pack with a volume that is cut off' cut.pack before
 
 # Holes stay holes, and a full disk leaves the old file.

@@ -134,7 +134,7 @@ def of_source() -> tuple[Functions, Fields, dict[str, int]]:
     numbers = {name: int(value) for name, value in re.findall(r"pub const (\w+): (?:i32|u8) = (\d+);", text)}
     numbers["IS_CLOSED"] = numbers.pop("CLOSED")
     refusals = (TOP / "crates/vol_dir/src/refusal.rt").read_text()
-    for name, value in re.findall(r"Refusal::(\w+) => (\d+),", refusals):
+    for name, value in re.findall(r"^ +(\w+) = (\d+),$", refusals, re.MULTILINE):
         numbers[re.sub(r"(?<!^)(?=[A-Z])", "_", name).upper()] = int(value)
     return functions, structs, numbers
 

@@ -1,4 +1,5 @@
 pub mod BodyDifferences
+pub mod JsonLaws
 pub mod MergeLaws
 pub mod MergeSteps
 pub mod NodeBytes

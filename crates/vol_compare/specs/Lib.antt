@@ -1,4 +1,5 @@
 pub mod Bodies
+pub mod Json
 pub mod Laws
 pub mod Lines
 pub mod Members

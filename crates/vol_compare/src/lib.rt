@@ -3,10 +3,12 @@
 
 mod bodies;
 mod changes;
+mod json;
 pub mod laws;
 mod lines;
 mod members;
 mod merge;
 
+pub use json::difference_values;
 pub use members::{MetTree, met_tree};
 pub use merge::put_differences;

@@ -286,7 +286,7 @@ fn is_unseen(reason: Reason) -> bool
 }
 
 /// True if two entries are left out for one reason.
-fn is_one_reason(old: Reason, new: Reason) -> bool
+pub(crate) fn is_one_reason(old: Reason, new: Reason) -> bool
     ensures { result ≡ is_one_reason old new }
 {
     match (old, new) {

@@ -1,4 +1,4 @@
-use Rattle.std.proofs.Common.{◌≡◌, ◌++◌, not, take, map}
+use Rattle.std.proofs.Common.{◌≡◌, not, take, map}
 use Rattle.std.specs.Io.KnownBytes.{Appends}
 use Rattle.std.specs.List.{flat_map}
 use Rattle.vol_dir.specs.Walk.{is_nil}

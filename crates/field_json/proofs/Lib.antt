@@ -1,0 +1,5 @@
+pub mod DifferenceItems
+pub mod DifferenceLaws
+pub mod DigitLaws
+pub mod ItemTexts
+pub mod Whole

@@ -1,0 +1,13 @@
+use Rattle.std.proofs.Common.{◌≡◌, ◌++◌, codes, IfOk, ap, subst, ◌∙◌}
+use Rattle.std.specs.String.{string_bytes}
+use Rattle.serde_json.specs.Data.{Data}
+use Rattle.serde_json.specs.Written.{compact_text, has_float}
+use Rattle.field_json.proofs.Whole.{dump_whole}
+use Rattle.field_json.proofs.rows.rows_json.Goals as goal
+
+pub line-requires : goal.line-requires
+line-requires c = ap has_float c.in_ok-value.ensures ∙ dump_whole c.args.geometry.now c.args.roles.now c.args.image.now c.args.from c.args.rows.now
+
+pub returns : goal.returns
+returns c =
+    subst (λ (d : Data). IfOk c.line.result (λ text. string_bytes text ≡ compact_text d ++ codes "\n")) c.in_ok-value.ensures c.line.ensures

@@ -9,3 +9,4 @@ abbrev pub whole_look : BadLook → Look
 whole_look (bad_looks.Export path options) = looks.Export path options
 whole_look (bad_looks.Find path name lost form) = looks.Find path name lost form
 whole_look (bad_looks.Sums path form lost) = looks.Sums path form lost
+whole_look (bad_looks.Read path damaged) = looks.ReadUnsound path

@@ -25,6 +25,12 @@ pub enum BadLook<'a> {
         form: OutputForm,
         lost: bool,
     },
+    /// The bytes of a regular file, as for [`Look::ReadUnsound`]. With `damaged`, also those of a damaged one, with zeros in place of the bytes that are
+    /// lost.
+    Read {
+        path: &'a str,
+        damaged: bool,
+    },
 }
 
 impl<'a> BadLook<'a> {
@@ -46,6 +52,7 @@ impl<'a> BadLook<'a> {
                 form,
             },
             BadLook::Sums { path, form, lost } => Look::Sums { path, form, lost },
+            BadLook::Read { path, .. } => Look::ReadUnsound { path },
         }
     }
 }

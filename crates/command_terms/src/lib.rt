@@ -7,10 +7,14 @@ pub mod comparison;
 pub mod looks;
 pub mod options;
 pub mod permissions;
+pub mod plays;
 
 pub use bad_looks::BadLook;
 pub use changes::{Change, Needs};
 pub use comparison::Comparison;
-pub use looks::{DumpTarget, ExportOptions, Look, LossOptions, NodeName, OutputForm, Picture};
+pub use looks::{
+    DumpForm, DumpTarget, ExportOptions, Look, LossOptions, NodeName, OutputForm, Picture,
+};
 pub use options::{Keep, Migration, Repairing};
 pub use permissions::PermissionChange;
+pub use plays::PlayForm;

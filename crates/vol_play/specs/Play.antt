@@ -11,7 +11,9 @@ use Rattle.vol_shared.specs.Lists.{BeginsWith, greatest, greatest_of}
 use Rattle.vol_shared.specs.Stored.{Stored, stored_of, next_number, Continues}
 use Rattle.command_faults.specs.Faults.{IsCause, fault_line, fault_status, no_memory}
 use Rattle.command_faults.specs.Streams.{Streams}
-use Rattle.vol_scripts.specs.Endings.{Finishes, PrintsPlay, receipts_in}
+use Rattle.command_terms.specs.declared.plays.PlayForm.{PlayForm}
+use Rattle.command_terms.specs.declared.plays.PlayForm.TheVariants as forms
+use Rattle.vol_scripts.specs.Endings.{Finishes, PrintsPlay, play_json, play_text, receipts_in}
 use Rattle.vol_scripts.specs.Scripts.{ReadsScripts, scripts_in}
 use Rattle.vol_scripts.specs.Refuse.{AnswersFault, SavesNothing}
 use Rattle.vol_trace.specs.Trace.{IsTrace}
@@ -84,21 +86,27 @@ abbrev pub IsTraceIf : Bool → Mounted → List ℕ → Type 0
 IsTraceIf true volume text = IsTrace volume text
 IsTraceIf false volume text = text ≡ []
 
--- a play ends with its report, after which the trace is printed, if it is wanted; or memory for the trace runs out, and nothing is printed. In both
+-- a play ends with its report as lines, after which the trace is printed, if it is wanted; or memory for the trace runs out, and nothing is printed. In both
 -- cases the volume is to be saved (this project)
-abbrev pub EndsPlay : Mounted → Bool → Bool → Bool → List (Vec Played Global) → Streams → Answer → Type 0
-EndsPlay last cuts journal trace played streams answer =
+abbrev pub EndsLines : Mounted → Bool → Bool → Bool → List (Vec Played Global) → Streams → Answer → Type 0
+EndsLines last cuts journal trace played streams answer =
     ((text : List ℕ) × IsTraceIf trace last text
-    × Finishes last cuts played (PrintsPlay last cuts journal text played streams.old streams.new streams.had_failed streams.failed) streams.said answer)
+    × Finishes last cuts played (PrintsPlay last played (play_text last cuts journal text played) streams.old streams.new streams.had_failed streams.failed) streams.said answer)
     ⊎ ((trace ≡ true) × Finishes last cuts played (λ printed. (printed ≡ Err no_memory) × IsSilent streams) streams.said answer)
 
--- scripts are played, and the results of their steps are printed, with the journal and the trace if these are wanted (this project)
-abbrev pub PlaysAll : Edition → List ℕ → Bool → Bool → List Script → Streams → Answer → Type 0
-PlaysAll edition image journal trace scripts streams answer = (last : Mounted) × (played : List (Vec Played Global))
-    × IsPlayed edition image scripts last played × EndsPlay last (any_cut scripts) journal trace played streams answer
+-- a play ends in a form: as lines, with the trace if it is wanted; or with its report as JSON (this project)
+abbrev pub EndsPlay : Mounted → Bool → Bool → PlayForm → List (Vec Played Global) → Streams → Answer → Type 0
+EndsPlay last cuts journal (forms.Lines trace) played streams answer = EndsLines last cuts journal trace played streams answer
+EndsPlay last cuts journal forms.Json played streams answer =
+    Finishes last cuts played (PrintsPlay last played (play_json last cuts journal played) streams.old streams.new streams.had_failed streams.failed) streams.said answer
+
+-- scripts are played, and the results of their steps are printed in a form, with the journal and the trace if these are wanted (this project)
+abbrev pub PlaysAll : Edition → List ℕ → Bool → PlayForm → List Script → Streams → Answer → Type 0
+PlaysAll edition image journal form scripts streams answer = (last : Mounted) × (played : List (Vec Played Global))
+    × IsPlayed edition image scripts last played × EndsPlay last (any_cut scripts) journal form played streams answer
 
 -- the result of `play`: a line of a script can't be read; or all lines can be read, and no step is played; or all scripts are played (this project)
-abbrev pub PlaysVolume : Edition → List ℕ → Bool → Bool → List (Vec ℕ Global) → Streams → Answer → Type 0
-PlaysVolume edition image journal trace scripts streams answer = StopsUnread scripts streams answer
+abbrev pub PlaysVolume : Edition → List ℕ → Bool → PlayForm → List (Vec ℕ Global) → Streams → Answer → Type 0
+PlaysVolume edition image journal form scripts streams answer = StopsUnread scripts streams answer
     ⊎ ((read : List Script) × (scripts_in scripts ≡ Ok read)
-    × (StopsUnplayed edition image streams answer ⊎ PlaysAll edition image journal trace read streams answer))
+    × (StopsUnplayed edition image streams answer ⊎ PlaysAll edition image journal form read streams answer))

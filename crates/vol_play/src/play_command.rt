@@ -10,6 +10,7 @@ use crate::performance::play_on;
 use crate::traced::finish_traced;
 use command_faults::answer::{report, tell};
 use command_faults::{Answer, Fault};
+use command_terms::PlayForm;
 use pdp_words::Sink;
 use std::alloc::Global;
 use std::sync::Wait;
@@ -28,17 +29,17 @@ pub fn play<R: Threads + Wait + Sync, G: Gate, O: Sink, E: Sink>(
     image: Vec<u8>,
     scripts: Vec<Vec<u8>>,
     journal: bool,
-    trace: bool,
+    form: PlayForm,
     gate: &G,
     output: &mut O,
     errors: &mut E,
 ) -> Answer
     requires first { 1 ≤ length scripts.items }
     requires last { length scripts.items ≤ MOST_SESSIONS }
-    ensures { PlaysVolume edition image.items journal trace scripts.items (streams O.contents O.failed output.old output.new (heard E.contents E.failed errors.old errors.new)) result }
+    ensures { PlaysVolume edition image.items journal form scripts.items (streams O.contents O.failed output.old output.new (heard E.contents E.failed errors.old errors.new)) result }
 {
     let answer = perform(
-        rt, alloc, edition, image, scripts, journal, trace, gate, output,
+        rt, alloc, edition, image, scripts, journal, form, gate, output,
     );
     tell(&answer.fault, errors);
     answer
@@ -50,8 +51,8 @@ pub fn play<R: Threads + Wait + Sync, G: Gate, O: Sink, E: Sink>(
 ///
 /// All scripts are read before the first call, and their texts are dropped. If a line can't be read, the volume isn't sound or memory runs out before
 /// the first call, nothing is saved, and the fault reports the reason; the status is 2 for a line, 1 for an image that isn't sound, 4 for memory.
-/// Otherwise the scripts are played, and [`finish_traced`] ends the play: it prints a line for each step on `output`, then the journal if it is wanted,
-/// then the trace if it is wanted, and returns the bytes of the volume to save, whatever the status.
+/// Otherwise the scripts are played, and [`finish_traced`] ends the play: it prints the result of each step on `output` in this form, with the journal
+/// and the trace if they are wanted, and returns the bytes of the volume to save, whatever the status.
 ///
 /// Takes memory for the scripts, for [`Volume::mount`], for each step and call, and for [`finish_traced`].
 pub fn perform<R: Threads + Wait + Sync, G: Gate, O: Sink>(
@@ -61,14 +62,14 @@ pub fn perform<R: Threads + Wait + Sync, G: Gate, O: Sink>(
     image: Vec<u8>,
     scripts: Vec<Vec<u8>>,
     journal: bool,
-    trace: bool,
+    form: PlayForm,
     gate: &G,
     output: &mut O,
 ) -> Answer
     requires first { 1 ≤ length scripts.items }
     requires last { length scripts.items ≤ MOST_SESSIONS }
     ensures { (errors : ErrorStream) → Hears errors result.fault
-        → PlaysVolume edition image.items journal trace scripts.items (streams O.contents O.failed output.old output.new errors) result }
+        → PlaysVolume edition image.items journal form scripts.items (streams O.contents O.failed output.old output.new errors) result }
 {
     let scripts = match read_texts(alloc, scripts) {
         Ok(scripts) => scripts,
@@ -77,7 +78,7 @@ pub fn perform<R: Threads + Wait + Sync, G: Gate, O: Sink>(
     let cuts = any_cut(&scripts);
     match play_image(rt, alloc, edition, image, scripts, gate) {
         Ok((volume, played)) => {
-            finish_traced(alloc, volume, cuts, journal, trace, played, output)
+            finish_traced(alloc, volume, cuts, journal, form, played, output)
         }
         Err(fault) => report(Err(fault)),
     }

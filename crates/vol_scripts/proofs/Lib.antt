@@ -2,3 +2,4 @@ pub mod ReadingLemmas
 pub mod TextLemmas
 pub mod EndingLemmas
 pub mod FlawLemmas
+pub mod ReportWhole

@@ -41,7 +41,7 @@ before_pieces now cred command = simp append_assoc
 pub pair_pieces : (first second : List ℕ) → codes " " ++ (first ++ (codes " " ++ second)) ≡ codes " " ++ first ++ codes " " ++ second
 pair_pieces first second = simp append_assoc
 
--- the parts of a call's line, appended one after another, are this line
-pub call_pieces : (text one two three four before path after : List ℕ) → one ≡ text ++ before → two ≡ one ++ path → three ≡ two ++ after → four ≡ three ++ codes "\n"
-    → four ≡ text ++ (before ++ path ++ after ++ codes "\n")
-call_pieces text one two three four before path after first second third last = rw (last, third, second, first) (simp append_assoc)
+-- the parts of a call's words, appended one after another, are these words
+pub call_pieces : (text one two three before path after : List ℕ) → one ≡ text ++ before → two ≡ one ++ path → three ≡ two ++ after
+    → three ≡ text ++ (before ++ path ++ after)
+call_pieces text one two three before path after first second third = rw (third, second, first) (simp append_assoc)

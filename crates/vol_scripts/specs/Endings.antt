@@ -15,6 +15,9 @@ use Rattle.vol_receipts.specs.declared.receipts.Outcome.TheVariants as outcomes
 use Rattle.vol_receipts.specs.declared.receipts.Receipt.{Receipt}
 use Rattle.vol_scripts.specs.Journal.{journal_if}
 use Rattle.vol_scripts.specs.Report.{lines_text, totals_text}
+use Rattle.vol_scripts.specs.ReportJson.{journal_data, report_line, scripts_data}
+use Rattle.vol_scripts.specs.declared.form.ReportForm.{ReportForm}
+use Rattle.vol_scripts.specs.declared.form.ReportForm.TheVariants as forms
 use Rattle.vol_scripts.specs.declared.played.Played.{Played}
 use Rattle.vol_scripts.specs.declared.played.Played.TheVariants as played
 use Rattle.vol_volume.specs.Volume.{Mounted}
@@ -71,6 +74,17 @@ play_text volume cuts journal more scripts agree =
     scripts_text 1 scripts ++ totals_text (length volume.journal) agree (gone_of volume cuts (all_receipts scripts)) ++ journal_if journal volume.journal
     ++ more
 
+-- the whole report as JSON, given the number of receipts that agree with the journal: the results of all lines, the numbers of the last lines, and the
+-- journal, if it is wanted (this project)
+abbrev pub play_json : Mounted → Bool → Bool → List (Vec Played Global) → ℕ → List ℕ
+play_json volume cuts journal scripts agree =
+    report_line (scripts_data 1 scripts) (length volume.journal) agree (gone_of volume cuts (all_receipts scripts)) (journal_data journal volume.journal)
+
+-- the whole report in a form, given the number of receipts that agree with the journal (this project)
+abbrev pub form_text : Mounted → Bool → Bool → ReportForm → List (Vec Played Global) → ℕ → List ℕ
+form_text volume cuts journal (forms.Lines more) scripts = play_text volume cuts journal more.items scripts
+form_text volume cuts journal forms.Json scripts = play_json volume cuts journal scripts
+
 -- `agree` receipts agree with the journal, or 0 if memory ran out (this project)
 abbrev pub AreConfirmed : Mounted → List Receipt → Option Confirmed → ℕ → Type 0
 AreConfirmed volume receipts (Some confirmed) agree = AreCounted (origin_of volume) volume.journal receipts confirmed × (agree ≡ confirmed.agree)
@@ -81,20 +95,20 @@ abbrev pub printed_status : List (Vec Played Global) → Option Confirmed → �
 printed_status scripts (Some confirmed) = scripts_status scripts
 printed_status scripts None = 4
 
--- for some result of confirming the receipts, the report of the play satisfies `goes_out` (this project)
-abbrev pub Reports : Mounted → Bool → Bool → List ℕ → List (Vec Played Global) → (List ℕ → Option Confirmed → Type 0) → Type 0
-Reports volume cuts journal more scripts goes_out = (confirmed : Option Confirmed) × (agree : ℕ)
+-- for some result of confirming the receipts, the report, which has the number of those that agree with the journal, satisfies `goes_out` (this project)
+abbrev pub Reports : Mounted → List (Vec Played Global) → (ℕ → List ℕ) → (List ℕ → Option Confirmed → Type 0) → Type 0
+Reports volume scripts report goes_out = (confirmed : Option Confirmed) × (agree : ℕ)
     × AreConfirmed volume (all_receipts scripts) confirmed agree
-    × goes_out (play_text volume cuts journal more scripts agree) confirmed
+    × goes_out (report agree) confirmed
 
 -- the bytes that are written to standard output: the report; or, if standard output failed, a prefix of it; or nothing, if memory ran out (this
 -- project)
-abbrev pub PrintsPlay : Mounted → Bool → Bool → List ℕ → List (Vec Played Global) → Option (List ℕ) → Option (List ℕ) → Bool → Bool → Result ℕ Fault → Type 0
-PrintsPlay volume cuts journal more scripts old new had_failed failed (Ok status) = (failed ≡ had_failed)
-    × Reports volume cuts journal more scripts (λ text confirmed. Appends old new text × (status ≡ printed_status scripts confirmed))
-PrintsPlay volume cuts journal more scripts old new had_failed failed (Err faults.Output) =
-    (failed ≡ true) × Reports volume cuts journal more scripts (λ text confirmed. (count : ℕ) × AppendsFront old new text count)
-PrintsPlay volume cuts journal more scripts old new had_failed failed (Err fault) =
+abbrev pub PrintsPlay : Mounted → List (Vec Played Global) → (ℕ → List ℕ) → Option (List ℕ) → Option (List ℕ) → Bool → Bool → Result ℕ Fault → Type 0
+PrintsPlay volume scripts report old new had_failed failed (Ok status) = (failed ≡ had_failed)
+    × Reports volume scripts report (λ text confirmed. Appends old new text × (status ≡ printed_status scripts confirmed))
+PrintsPlay volume scripts report old new had_failed failed (Err faults.Output) =
+    (failed ≡ true) × Reports volume scripts report (λ text confirmed. (count : ℕ) × AppendsFront old new text count)
+PrintsPlay volume scripts report old new had_failed failed (Err fault) =
     (fault ≡ no_memory) × (failed ≡ had_failed) × Keeps old new
 
 -- the result of a play: the bytes of the volume are to be saved; the report is printed without a line on standard error, or there is a fault, with

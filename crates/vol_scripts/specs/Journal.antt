@@ -41,10 +41,14 @@ abbrev pub words_before : ℕ → Cred → List ℕ → List ℕ
 words_before now cred command =
     decimal now ++ codes " " ++ decimal cred.uid ++ codes " " ++ decimal cred.gid ++ codes " " ++ command ++ codes " "
 
+-- the words of a call, as the line of a script has them (this project)
+abbrev pub call_words : Call → List ℕ
+call_words call =
+    words_before (caller_of call).moment (caller_of call).cred (command_word (command_of call)) ++ path_of call ++ words_after call
+
 -- the line of a call in a script (this project)
 abbrev pub call_text : Call → List ℕ
-call_text call =
-    words_before (caller_of call).moment (caller_of call).cred (command_word (command_of call)) ++ path_of call ++ words_after call ++ codes "\n"
+call_text call = call_words call ++ codes "\n"
 
 -- the lines of a journal: one for the call of each record, in order (this project)
 abbrev pub journal_text : List Record → List ℕ

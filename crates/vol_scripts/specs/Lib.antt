@@ -8,4 +8,5 @@ pub mod Numbers
 pub mod Scripts
 pub mod Refuse
 pub mod Report
+pub mod ReportJson
 pub mod Texts

@@ -1,13 +1,15 @@
 //! The end of a play, when its volume is no longer shared: the report, the status, and the bytes to save.
-ghost use Rattle.std.specs.Prelude.{◌≡◌, ◌++◌, IfOk, IfErr, None, OnOk, Some, count_by, nat_lt};
+ghost use Rattle.std.specs.Prelude.{◌≡◌, ◌++◌, IfOk, IfErr, None, OnOk, Some, count_by, length, nat_lt};
 ghost use Rattle.std.specs.String.{string_bytes};
 ghost use Rattle.command_faults.specs.Faults.{fault_status};
 ghost use Rattle.command_faults.specs.Streams.{says, ErrorStream, Hears};
-ghost use Rattle.vol_scripts.specs.Endings.{AreConfirmed, Finishes, PrintsPlay, Reports, all_receipts, receipts_in, script_status, scripts_status, scripts_text, step_status};
+ghost use Rattle.vol_scripts.specs.Endings.{AreConfirmed, Finishes, PrintsPlay, Reports, all_receipts, form_text, gone_of, play_json, play_text, receipts_in, script_status, scripts_status, scripts_text, step_status};
 
+use crate::form::ReportForm;
 use crate::journal::push_journal;
 use crate::played::Played;
-use crate::report::{push_lines, push_totals};
+use crate::report::{Totals, push_lines, push_totals};
+use crate::report_json::{line_values, report_line};
 use command_faults::status::{DONE, NO_MEMORY, REFUSED};
 use command_faults::{Answer, Ending, Fault};
 use pdp_words::{Sink, write_all};
@@ -15,9 +17,10 @@ use std::alloc::{AllocError, Global};
 use vol_receipts::{Confirmed, Outcome, Receipt, confirm_all};
 use vol_volume::Volume;
 
-/// Ends a play. Prints a line for each step of each script, in order, then the number of records in the journal and the number of receipts that agree
-/// with it. If a script cuts the journal, also prints the number of receipts whose records were cut; and, if the journal is wanted, a line for each
-/// of its records, in the format of a script; and `more` after all that. The volume's bytes are to be saved in any case.
+/// Ends a play, and prints its report: the result of each step of each script, in order, then the number of records in the journal and the number of
+/// receipts that agree with it; if a script cuts the journal, also the number of receipts whose records were cut; and the calls of the journal, if it is
+/// wanted. As lines, a step and a number have one each, a call has one in the format of a script, and the bytes of the form follow; as JSON, all is one
+/// object on one line. The volume's bytes are to be saved in any case.
 ///
 /// The status is 3 if `output` failed; else 4 if a step, this report or confirming the receipts ran out of memory (no receipt then counts as
 /// confirmed), or if a view couldn't read the published version; else 1 if a step was refused; else 0. If memory for the report runs out, none of it
@@ -29,15 +32,15 @@ pub fn finish<O: Sink>(
     volume: Volume,
     cuts: bool,
     journal: bool,
-    more: &[u8],
+    form: ReportForm,
     scripts: Vec<Vec<Played>>,
     output: &mut O,
 ) -> Answer
     ensures { (errors : ErrorStream) → Hears errors result.fault → Finishes volume cuts scripts.items
-        (PrintsPlay volume cuts journal more.now scripts.items (O.contents output.old) (O.contents output.new) (O.failed output.old) (O.failed output.new))
+        (PrintsPlay volume scripts.items (form_text volume cuts journal form scripts.items) (O.contents output.old) (O.contents output.new) (O.failed output.old) (O.failed output.new))
         (says errors) result }
 {
-    let printed = print_report(alloc, &volume, cuts, journal, more, scripts, output);
+    let printed = print_report(alloc, &volume, cuts, journal, form, scripts, output);
     let Ending { status, fault } = ending_of(printed);
     Answer {
         status,
@@ -67,15 +70,15 @@ fn print_report<O: Sink>(
     volume: &Volume,
     cuts: bool,
     journal: bool,
-    more: &[u8],
+    form: ReportForm,
     scripts: Vec<Vec<Played>>,
     output: &mut O,
 ) -> Result<u8, Fault>
-    ensures { PrintsPlay volume.now cuts journal more.now scripts.items (O.contents output.old) (O.contents output.new)
+    ensures { PrintsPlay volume.now scripts.items (form_text volume.now cuts journal form scripts.items) (O.contents output.old) (O.contents output.new)
         (O.failed output.old) (O.failed output.new) result }
 {
     let worst = scripts_status(&scripts);
-    let (text, confirmed) = report_of(alloc, volume, cuts, journal, more, scripts)?;
+    let (text, confirmed) = report_of(alloc, volume, cuts, journal, form, scripts)?;
     let status = match confirmed {
         Some(_) => worst,
         None => NO_MEMORY,
@@ -86,8 +89,26 @@ fn print_report<O: Sink>(
     }
 }
 
-/// Returns the report of a play, with the counts of confirmed receipts, or `None` instead of the counts if memory for confirming ran out.
+/// Returns the report of a play in a form, with the counts of confirmed receipts, or `None` instead of the counts if memory for confirming ran out.
 fn report_of(
+    alloc: Global,
+    volume: &Volume,
+    cuts: bool,
+    journal: bool,
+    form: ReportForm,
+    scripts: Vec<Vec<Played>>,
+) -> Result<(Vec<u8>, Option<Confirmed>), AllocError>
+    ensures { IfOk result (λ made. Reports volume.now scripts.items (form_text volume.now cuts journal form scripts.items)
+        (λ text confirmed. (confirmed ≡ made.1) × (made.0.items ≡ text))) }
+{
+    match form {
+        ReportForm::Lines(more) => text_of(alloc, volume, cuts, journal, &more, scripts),
+        ReportForm::Json => json_of(alloc, volume, cuts, journal, scripts),
+    }
+}
+
+/// Returns the report of a play as lines, with `more` after them.
+fn text_of(
     alloc: Global,
     volume: &Volume,
     cuts: bool,
@@ -95,19 +116,55 @@ fn report_of(
     more: &[u8],
     scripts: Vec<Vec<Played>>,
 ) -> Result<(Vec<u8>, Option<Confirmed>), AllocError>
-    ensures { IfOk result (λ made. Reports volume.now cuts journal more.now scripts.items
+    ensures { IfOk result (λ made. Reports volume.now scripts.items (play_text volume.now cuts journal more.now scripts.items)
         (λ text confirmed. (confirmed ≡ made.1) × (made.0.items ≡ text))) }
 {
     let mut text = lines_of(alloc, &scripts)?;
-    let receipts = receipts_of(alloc, scripts)?;
-    let gone = cuts.then_some(gone_among(volume.first(), &receipts));
-    let (confirmed, agree) = confirm(alloc, volume, &receipts);
-    let records = volume.journal().len() as u64;
-    push_totals(&mut text, records, agree, gone)?;
+    let totals = totals_of(alloc, volume, cuts, scripts)?;
+    push_totals(&mut text, totals)?;
     let mut text = text.into_bytes();
     push_journal(alloc, &mut text, journal, volume.journal())?;
     text.extend_from_slice(more)?;
-    Ok((text, confirmed))
+    Ok((text, totals.confirmed))
+}
+
+/// Returns the report of a play as JSON.
+fn json_of(
+    alloc: Global,
+    volume: &Volume,
+    cuts: bool,
+    journal: bool,
+    scripts: Vec<Vec<Played>>,
+) -> Result<(Vec<u8>, Option<Confirmed>), AllocError>
+    ensures { IfOk result (λ made. Reports volume.now scripts.items (play_json volume.now cuts journal scripts.items)
+        (λ text confirmed. (confirmed ≡ made.1) × (made.0.items ≡ text))) }
+{
+    let lines = line_values(alloc, &scripts)?;
+    let totals = totals_of(alloc, volume, cuts, scripts)?;
+    let text = report_line(alloc, lines, totals, journal, volume.journal())?;
+    Ok((text.into_bytes(), totals.confirmed))
+}
+
+/// Returns the numbers at the end of a report.
+fn totals_of(
+    alloc: Global,
+    volume: &Volume,
+    cuts: bool,
+    scripts: Vec<Vec<Played>>,
+) -> Result<Totals, AllocError>
+    ensures confirmed { IfOk result (λ totals. AreConfirmed volume.now (all_receipts scripts.items) totals.confirmed totals.agree) }
+    ensures records { IfOk result (λ totals. totals.records ≡ length volume.now.journal) }
+    ensures gone { IfOk result (λ totals. totals.gone ≡ gone_of volume.now cuts (all_receipts scripts.items)) }
+{
+    let receipts = receipts_of(alloc, scripts)?;
+    let gone = cuts.then_some(gone_among(volume.first(), &receipts));
+    let (confirmed, agree) = confirm(alloc, volume, &receipts);
+    Ok(Totals {
+        records: volume.journal().len() as u64,
+        agree,
+        gone,
+        confirmed,
+    })
 }
 
 /// Confirms the receipts. Returns the counts, or `None` if memory runs out, and the number of receipts that agree with the journal, which is 0 if

@@ -2,7 +2,7 @@
 ghost use Rattle.std.specs.Prelude.{◌≡◌, ◌++◌, IfOk, OnOk, codes, decimal};
 ghost use Rattle.std.specs.String.{string_bytes};
 ghost use Rattle.vol_scripts.specs.Grammar.{command_word};
-ghost use Rattle.vol_scripts.specs.Journal.{call_text, command_of, journal_if, words_after, words_before};
+ghost use Rattle.vol_scripts.specs.Journal.{call_text, call_words, command_of, journal_if, words_after, words_before};
 ghost use Rattle.vol_scripts.specs.Texts.{bytes_text, permissions_text};
 
 use crate::commands::Command;
@@ -32,13 +32,21 @@ pub(crate) fn push_journal(
 pub fn push_call(alloc: Global, text: &mut Vec<u8>, call: &Call) -> Result<(), AllocError>
     ensures { OnOk result (text.new.items ≡ text.old.items ++ call_text call.now) }
 {
+    push_words(alloc, text, call)?;
+    Ok(text.push(b'\n')?)
+}
+
+/// Appends the words of a call, as the line of a script has them. Takes memory for the text.
+pub(crate) fn push_words(alloc: Global, text: &mut Vec<u8>, call: &Call) -> Result<(), AllocError>
+    ensures { OnOk result (text.new.items ≡ text.old.items ++ call_words call.now) }
+{
     let caller = call.caller();
     let before = words_before(alloc, caller.moment, caller.cred, command_of(call).name())?;
     let after = words_after(alloc, call)?;
     text.extend_from_slice(before.as_bytes())?;
     text.extend_from_slice(call.path())?;
     text.extend_from_slice(&after)?;
-    Ok(text.push(b'\n')?)
+    Ok(())
 }
 
 /// Returns the words before the first path of a call.

@@ -8,7 +8,20 @@ use crate::texts::{done_text, reply_text};
 use std::alloc::{AllocError, Global};
 use std::fmt::Write;
 use vol_dir::Refusal;
-use vol_receipts::Outcome;
+use vol_receipts::{Confirmed, Outcome};
+
+/// The numbers at the end of a report.
+#[derive(Clone, Copy)]
+pub(crate) struct Totals {
+    /// The number of records in the journal.
+    pub(crate) records: u64,
+    /// The number of receipts that agree with the journal; 0 if memory for confirming them ran out.
+    pub(crate) agree: u64,
+    /// The number of receipts whose records were cut, if a script cuts the journal.
+    pub(crate) gone: Option<u64>,
+    /// The counts of confirmed receipts, or `None` if memory for confirming them ran out.
+    pub(crate) confirmed: Option<Confirmed>,
+}
 
 /// Returns the text of a call's or query's outcome.
 fn outcome_text(alloc: Global, outcome: &Outcome) -> Result<String, AllocError>
@@ -73,14 +86,15 @@ fn push_came(text: &mut String, script: u64, line: u64, came: &str) -> Result<()
 
 /// Appends the last lines: the number of records in the journal, the number of confirmed receipts, and, if a
 /// script cuts the journal, the number of receipts whose records were cut.
-pub(crate) fn push_totals(
-    text: &mut String,
-    records: u64,
-    confirmed: u64,
-    gone: Option<u64>,
-) -> Result<(), AllocError>
-    ensures { OnOk result (string_bytes text.new ≡ string_bytes text.old ++ totals_text records confirmed gone) }
+pub(crate) fn push_totals(text: &mut String, totals: Totals) -> Result<(), AllocError>
+    ensures { OnOk result (string_bytes text.new ≡ string_bytes text.old ++ totals_text totals.records totals.agree totals.gone) }
 {
+    let Totals {
+        records,
+        agree: confirmed,
+        gone,
+        ..
+    } = totals;
     write!(text, "records {records}\nconfirmed {confirmed}\n").map_err(|_| AllocError)?;
     match gone {
         Some(gone) => writeln!(text, "gone {gone}").map_err(|_| AllocError),

@@ -1,6 +1,7 @@
 //! Scripts that threads play at the same time.
 use crate::fixtures::{copied, new_bytes, stream, taken};
 use crate::meeting::Meeting;
+use command_terms::PlayForm;
 use std::rt::HostRuntime;
 use std::thread;
 use vol_check::Gate;
@@ -65,7 +66,7 @@ fn two_scripts_have_threads_and_no_line_is_played_before_its_gate(rt: HostRuntim
             new_bytes(&rt, alloc, Edition::V6),
             scripts,
             false,
-            false,
+            PlayForm::Lines { trace: false },
             &gate,
             &mut output,
             &mut errors,

@@ -25,7 +25,7 @@ returns-in-Ok-play_image g c errors hears =
     let ends =
     subst
     (λ (cuts : Bool).
-    EndsPlay last cuts c.args.journal c.args.trace played
+    EndsPlay last cuts c.args.journal c.args.form played
     (streams g.O.Sink.contents g.O.Sink.failed c.args.output.now c.finish_traced.new.output errors) c.finish_traced.result)
     (c.any_cut-cuts.ensures ∙ ap any_cut c.deref.ensures.value) (c.finish_traced.ensures errors hears)
     in

@@ -1,4 +1,4 @@
-use Rattle.vol_scripts.specs.Endings.{PrintsPlay}
+use Rattle.vol_scripts.specs.Endings.{PrintsPlay, form_text}
 use Rattle.vol_scripts.proofs.EndingLemmas.{ends}
 use Rattle.vol_scripts.proofs.ending.finish.Goals as goal
 
@@ -7,7 +7,7 @@ returns g c errors hears = record {
   saved = c.unmount.ensures.bytes;
   ended =
       ends
-      (PrintsPlay c.args.volume c.args.cuts c.args.journal c.args.more.now c.args.scripts.items (g.O.Sink.contents c.args.output.now) (g.O.Sink.contents c.print_report-printed.new.output) (g.O.Sink.failed c.args.output.now)
+      (PrintsPlay c.args.volume c.args.scripts.items (form_text c.args.volume c.args.cuts c.args.journal c.args.form c.args.scripts.items) (g.O.Sink.contents c.args.output.now) (g.O.Sink.contents c.print_report-printed.new.output) (g.O.Sink.failed c.args.output.now)
       (g.O.Sink.failed c.print_report-printed.new.output))
       errors c.print_report-printed.result c.ending_of-status.result.status c.ending_of-status.result.fault c.print_report-printed.ensures c.ending_of-status.ensures.printed
       c.ending_of-status.ensures.fault hears;

@@ -21,6 +21,7 @@ use Rattle.command_reads.specs.Inode.{inode_back, inode_data, inode_front, inode
 use Rattle.command_reads.specs.MapJson.{run_data, runs_json}
 use Rattle.command_reads.specs.declared.map_json.UseRun.{UseRun}
 use Rattle.vol_listing.specs.Json.{count}
+use Rattle.field_json.proofs.ItemTexts.{after_items, list_of}
 use Rattle.command_reads.specs.Json.{between_braces, count_or_null, counts, extent_data, item_text, later_text, listed_text}
 
 -- the items after the first, with the bracket after them
@@ -56,10 +57,6 @@ few_around f xs from few =
     ∙ (ap (λ front. front ++ flat_map f (drop (from + few) xs)) (sym (few_more f xs from few))
     ∙ append_assoc (flat_map f (take from xs)) (flat_map f (slice_range xs from (from + few))) (flat_map f (drop (from + few) xs))))
 
--- the brackets and the newline after the items are the last piece of a report
-after_items : (items : List ℕ) → items ++ codes "]}\n" ≡ ((items ++ 93 ∷ []) ++ 125 ∷ []) ++ codes "\n"
-after_items items = sym (append_assoc (items ++ 93 ∷ []) (125 ∷ []) (codes "\n") ∙ append_assoc items (93 ∷ []) (125 ∷ codes "\n"))
-
 -- the text of a report, from that of its format and of its lines on
 abbrev report_of : Bool → List ℕ → List ℕ → List ℕ
 report_of faulty format lines =
@@ -84,12 +81,7 @@ report_pieces report =
     ∙ (ap (λ format. report_of faulty format (lines ++ 93 ∷ []) ++ codes "\n") (sym (decimal_digit 1 (omega arith)))
     ∙ ap (λ items. report_of faulty (decimal 1) items ++ codes "\n") (sym (items_listed line_data report)))
 
--- the text of an object with a list under this key, from that of the format and of the list on
-abbrev pub list_of : List ℕ → List ℕ → List ℕ → List ℕ
-list_of key format found =
-    123 ∷ (compact_text (string (codes "format")) ++ 58 ∷ (format ++ (44 ∷ (compact_text (string key) ++ 58 ∷ (91 ∷ (found ++ 125 ∷ []))))))
-
--- such an object is written in two pieces
+-- an object with a list is written in two pieces
 map_in_two : (items : List ℕ) → codes "{\"format\":1,\"map\":[" ++ (items ++ codes "]}\n") ≡ list_of (codes "map") (codes "1") (items ++ 93 ∷ []) ++ codes "\n"
 unfolding serde_json_on_literals
 map_in_two items = ap (λ rest. codes "{\"format\":1,\"map\":[" ++ rest) (after_items items)

@@ -1,9 +1,8 @@
 -- What a path leads to, if nothing is lost on the way, is the same in every image that agrees outside the lost blocks.
-use Rattle.std.proofs.Common.{◌≡◌, ◌≢◌, ℕ, ◌≤◌, ◌&&◌, ◌||◌, ◌∙◌, Bool, true, false, not, cond, if◌then◌else◌, List, [], ◌∷◌, Option, None, Some, Result, Ok, Err, inl, inr, refl, ap, sym, true≢false}
+use Rattle.std.proofs.Common.{◌≡◌, ◌≢◌, ℕ, ◌≤◌, ◌&&◌, ◌||◌, ◌∙◌, Bool, true, false, not, if◌then◌else◌, List, [], ◌∷◌, Option, None, Some, Ok, Err, inl, inr, refl, ap, sym, true≢false}
 use Rattle.std.specs.Prelude.{codes}
 use Rattle.std.specs.Option.{ok_or, option_map_or}
 use Rattle.std.proofs.lemmas.Bool.{and_parts, cases_Bool, leb-true, or_parts}
-use Rattle.bad_maps.specs.declared.maps.ReadRange.{ReadRange}
 use Rattle.pdp_words.specs.Steps.{and_then}
 use Rattle.vol_layout.specs.Edition.{constants}
 use Rattle.vol_layout.specs.Geometry.{Fits}
@@ -15,9 +14,9 @@ use Rattle.vol_layout.proofs.InodeLaws.{mode_kept}
 use Rattle.vol_file.specs.Rules.{kind_at}
 use Rattle.vol_dir.specs.Access.{user}
 use Rattle.vol_dir.specs.Directories.{directory, directory_of, walked_to}
-use Rattle.vol_dir.specs.Entries.{IsDirectory, slots}
-use Rattle.vol_dir.specs.Names.{Names, get, names_of}
-use Rattle.vol_dir.specs.Tree.{Node, is_number, tree}
+use Rattle.vol_dir.specs.Entries.{slots}
+use Rattle.vol_dir.specs.Names.{get, names_of}
+use Rattle.vol_dir.specs.Tree.{is_number, tree}
 use Rattle.vol_dir.specs.Walk.{components, find_in, has_zero, search, search_node, walk_from}
 use Rattle.vol_dir.specs.declared.refusal.Refusal.{Refusal}
 use Rattle.vol_dir.specs.declared.refusal.Refusal.TheVariants as refusals

@@ -1,10 +1,12 @@
 -- Trees that were compared.
 use Rattle.std.proofs.Common.{◌≡◌, ◌∙◌, ◌⊎◌, ℕ, ◌==◌, Bool, false, if◌then◌else◌, not, List, [], ◌∷◌, length, map, ap, subst, sym, refl, inl, inr, Option, Result, Ok, Err, IfOk, IfErr, Some, arith}
 use Rattle.std.proofs.lemmas.Bool.{ne_eqb}
+use Rattle.std.specs.List.{flat_map}
 use Rattle.vol_archive.specs.Write.{Writes}
 use Rattle.vol_archive.specs.declared.write.WriteFault.{WriteFault}
+use Rattle.vol_compare.specs.Json.{AreTreeData, differences_data, told_data}
 use Rattle.vol_compare.specs.Members.{member_of, members}
-use Rattle.vol_compare.specs.Merge.{IsTreeText, all_of, merged_lines, rest_of, tree_lines}
+use Rattle.vol_compare.specs.Merge.{IsTreeText, all_of, merged, merged_lines, rest_of, tree_lines}
 use Rattle.vol_compare.specs.declared.members.MetTree.{MetTree}
 use Rattle.vol_dir.specs.Walk.{is_nil}
 use Rattle.vol_layout.specs.declared.geometry.Geometry.{Geometry}
@@ -13,10 +15,13 @@ use Rattle.vol_layout.specs.declared.edition.Edition.{Edition}
 use Rattle.command_faults.specs.Faults.{fault_status, line_after, no_memory}
 use Rattle.command_faults.specs.Streams.{Streams}
 use Rattle.command_faults.specs.declared.fault.Fault.{Fault}
-use Rattle.command_reads.specs.Diff.{IsDiffFault, IsUnmeasuredImage, diff_status}
+use Rattle.command_terms.specs.declared.looks.OutputForm.{OutputForm}
+use Rattle.command_terms.specs.declared.looks.OutputForm.TheVariants as forms
+use Rattle.field_json.specs.Items.{lines_json}
+use Rattle.command_reads.specs.Diff.{IsDiffFault, IsUnmeasuredImage, diff_status, items_status}
 use Rattle.command_reads.specs.Export.{unwritten}
 use Rattle.command_reads.specs.Print.{PrintsInPieces, ShowsInPieces}
-use Rattle.command_reads.specs.TreeDiff.{AreRemarks, IsTreeDiff, IsTreeOf, tree_differences, tree_status}
+use Rattle.command_reads.specs.TreeDiff.{AreRemarks, IsTreeDiff, IsTreeDiffData, IsTreeOf, PrintsTrees, tree_differences, tree_status}
 use Rattle.command_reads.specs.declared.diff.NamedImage.{NamedImage}
 use Rattle.command_reads.proofs.Printed.{cut_off}
 
@@ -35,6 +40,20 @@ compares times g old h new was is was_met is_met = (
   was.founds.items,
   was_met.founds,
   (is.founds.items, is_met.founds, λ j. merged_lines (met times g old was was_met j) (met times h new is is_met j)),
+)
+
+-- so are their items
+pub compares_items : (times : Bool) (g : Geometry) (old : List ℕ) (h : Geometry) (new : List ℕ) (was is : MetTree) → IsTreeOf g old was → IsTreeOf h new is
+    → AreTreeData times g old h new (differences_data times was is)
+compares_items times g old h new was is was_met is_met = (
+  was.founds.items,
+  was_met.founds,
+  (
+    is.founds.items,
+    is_met.founds,
+    λ j. flat_map (told_data times (was_met.geometry j).edition (is_met.geometry j).edition)
+        (merged (met times g old was was_met j) (met times h new is is_met j)),
+  ),
 )
 
 -- the status of a comparison of trees is that of its text
@@ -70,25 +89,49 @@ pub second_unmeasured : (edition : Edition) (old new : NamedImage) (bytes : List
 second_unmeasured edition old new bytes fault same (inl is) = inr (inl (subst (λ b. IsUnmeasuredImage edition b new.name.now fault) same is))
 second_unmeasured edition old new bytes fault same (inr memory) = inr (inr memory)
 
--- if the trees of two images were compared, their differences are shown
-pub shows : (edition : Edition) (old new : NamedImage) (times : Bool) (streams : Streams) (status : ℕ) (g h : Geometry) (before after : List ℕ)
-    (was is : MetTree) (lines : List ℕ) → before ≡ old.bytes.items → after ≡ new.bytes.items → geometry_read edition before ≡ Ok g
+-- if the trees of two images were compared and printed, their differences are shown
+pub shows : (form : OutputForm) (edition : Edition) (old new : NamedImage) (times : Bool) (streams : Streams) (status : ℕ) (g h : Geometry)
+    (before after : List ℕ) (was is : MetTree) (lines : List ℕ) → before ≡ old.bytes.items → after ≡ new.bytes.items → geometry_read edition before ≡ Ok g
     → geometry_read edition after ≡ Ok h → IsTreeOf g before was → IsTreeOf h after is
     → AreRemarks edition before old.name.now after new.name.now lines
-    → PrintsInPieces (diff_status (tree_lines times was is)) lines streams (tree_lines times was is) status
-    → ShowsInPieces (tree_differences edition old new times) streams status
-shows edition old new times streams status g h before after was is lines old_is new_is g_is h_is was_met is_met remarks prints =
+    → PrintsTrees form times was is lines streams status
+    → ShowsInPieces (tree_differences edition old new times form) streams status
+shows forms.Text edition old new times streams status g h before after was is lines old_is new_is g_is h_is was_met is_met remarks prints =
     let text = tree_lines times was is in
     inl (
       text,
       diff_status text,
       lines,
       (
-        subst (λ b. IsTreeDiff edition b new.bytes.items times text) old_is
-            (subst (λ a. IsTreeDiff edition before a times text) new_is (g, g_is, (h, h_is, compares times g before h after was is was_met is_met))),
+        (
+          subst (λ b. IsTreeDiff edition b new.bytes.items times text) old_is
+              (subst (λ a. IsTreeDiff edition before a times text) new_is (g, g_is, (h, h_is, compares times g before h after was is was_met is_met))),
+          refl,
+        ),
         subst (λ b. AreRemarks edition b old.name.now new.bytes.items new.name.now lines) old_is
             (subst (λ a. AreRemarks edition before old.name.now a new.name.now lines) new_is remarks),
-        refl,
       ),
       prints,
     )
+shows forms.Json edition old new times streams status g h before after was is lines old_is new_is g_is h_is was_met is_met remarks (inl prints) =
+    let datas = differences_data times was is in
+    inl (
+      lines_json datas,
+      items_status datas,
+      lines,
+      (
+        (
+          datas,
+          subst (λ b. IsTreeDiffData edition b new.bytes.items times datas) old_is
+              (subst (λ a. IsTreeDiffData edition before a times datas) new_is
+              (g, g_is, (h, h_is, compares_items times g before h after was is was_met is_met))),
+          refl,
+          refl,
+        ),
+        subst (λ b. AreRemarks edition b old.name.now new.bytes.items new.name.now lines) old_is
+            (subst (λ a. AreRemarks edition before old.name.now a new.name.now lines) new_is remarks),
+      ),
+      inl prints,
+    )
+shows forms.Json edition old new times streams status g h before after was is lines old_is new_is g_is h_is was_met is_met remarks (inr told) =
+    inr (no_memory, inr (inr refl), told)

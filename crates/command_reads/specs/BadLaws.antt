@@ -1,5 +1,5 @@
 -- Statements on what `find` and `sums` print of an image of which some blocks couldn't be read, and on where its paths lead.
-use Rattle.std.specs.Prelude.{◌≡◌, ℕ, Bool, false, List, Option, All, None, Some, Ok}
+use Rattle.std.specs.Prelude.{◌≡◌, ℕ, Bool, false, true, List, Option, All, None, Some, Ok}
 use Rattle.bad_maps.specs.declared.maps.ReadRange.{ReadRange}
 use Rattle.vol_archive.specs.Laws.{members_of}
 use Rattle.vol_dir.specs.declared.directories.FoundDirectory.{FoundDirectory}
@@ -9,15 +9,18 @@ use Rattle.vol_dir.specs.Directories.{directory_at}
 use Rattle.vol_dir.specs.Entries.{IsDirectory}
 use Rattle.vol_dir.specs.Tree.{tree}
 use Rattle.vol_dir.specs.Walk.{components, walk_from}
+use Rattle.vol_layout.specs.Body.{body}
 use Rattle.vol_layout.specs.Geometry.{Fits}
 use Rattle.vol_layout.specs.declared.edition.Edition.{Edition}
 use Rattle.vol_layout.specs.declared.geometry.Geometry.{Geometry}
 use Rattle.vol_listing.specs.KnownSums.{known_sum}
 use Rattle.vol_listing.specs.Sums.{sum_at}
 use Rattle.vol_losses.specs.BadImages.{HasRead, IsRescued}
+use Rattle.vol_losses.specs.Losses.{is_whole}
 use Rattle.vol_losses.specs.declared.given_sizes.VolumeSizes.{VolumeSizes}
 use Rattle.vol_rescue.specs.Paths.{AreSoundAbove}
 use Rattle.command_reads.specs.Export.{AreFound}
+use Rattle.command_reads.specs.Unsound.{IsFileAt}
 use Rattle.command_reads.specs.Ways.{unsure_on}
 
 -- the path of each entry that `find` prints without `--lost`, and that an archive can hold, leads from the directory that was asked for to the entry's i-number
@@ -35,6 +38,13 @@ abbrev pub BadSumsAreRight : Type 0
 BadSumsAreRight = (edition : Edition) (ranges : List ReadRange) (at : ℕ) (sizes : Option VolumeSizes) (bytes volume image : List ℕ) (lost : List Bool)
     (geometry : Geometry) (i : ℕ) (sum : List ℕ) → IsRescued edition ranges at sizes bytes image lost → HasRead sizes ranges at bytes volume → Fits geometry image
     → known_sum geometry image lost i ≡ Some sum → sum_at (tree geometry volume) i ≡ Some sum
+
+-- the bytes that `get` prints of a file of which nothing is lost are those of the file in every volume that has the bytes of the known blocks, whatever
+-- the lost blocks held (this project)
+abbrev pub BadFilesAreRight : Type 0
+BadFilesAreRight = (edition : Edition) (ranges : List ReadRange) (at : ℕ) (sizes : Option VolumeSizes) (bytes volume image path : List ℕ) (lost : List Bool)
+    (geometry : Geometry) (i : ℕ) → IsRescued edition ranges at sizes bytes image lost → HasRead sizes ranges at bytes volume → Fits geometry image
+    → IsFileAt edition image path geometry i → is_whole geometry image lost i ≡ true → body geometry volume i ≡ body geometry image i
 
 -- a path on which nothing is lost leads to the same directory, or to none for the same reason, in every volume that has the bytes of the known blocks;
 -- whatever the lost blocks held (this project)

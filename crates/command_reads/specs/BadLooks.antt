@@ -17,6 +17,7 @@ use Rattle.vol_losses.specs.declared.given_sizes.VolumeSizes.{VolumeSizes}
 use Rattle.command_faults.specs.Faults.{fault_line, no_memory}
 use Rattle.command_faults.specs.Streams.{Streams}
 use Rattle.command_faults.specs.declared.fault.Fault.{Fault}
+use Rattle.command_reads.specs.BadFiles.{get_sights}
 use Rattle.command_reads.specs.Export.{ExportsFrom, begun}
 use Rattle.command_reads.specs.Find.{found_sights}
 use Rattle.command_reads.specs.Losses.{IsUnreadEnding, TellsIncomplete}
@@ -27,8 +28,6 @@ use Rattle.command_reads.specs.declared.bad_looks.BadBlocks.TheVariants as bads
 use Rattle.command_terms.specs.declared.bad_looks.BadLook.{BadLook}
 use Rattle.command_terms.specs.declared.bad_looks.BadLook.TheVariants as bad_looks
 use Rattle.command_reads.specs.declared.bad_looks.BadMap.{BadMap}
-use Rattle.command_terms.specs.declared.looks.Look.{Look}
-use Rattle.command_terms.specs.declared.looks.Look.TheVariants as looks
 
 -- the words for a line by its number (this project)
 unfoldable pub line_start : ℕ → List ℕ
@@ -86,6 +85,8 @@ ShowsRescued edition image lost screen streams status (bad_looks.Find path name 
     Shows (found_sights edition image lost path.now (option_map (λ word. word.now) name) orphans form screen) streams status
 ShowsRescued edition image lost screen streams status (bad_looks.Sums path form orphans) =
     Shows (sums_sights edition image lost path.now form orphans) streams status
+ShowsRescued edition image lost screen streams status (bad_looks.Read path damaged) =
+    Shows (get_sights edition image lost path.now damaged) streams status
 
 -- part of the image of which only the bytes in the ranges were read is shown, or a fault is reported (this project)
 abbrev pub LooksRescued : Edition → List ℕ → List ReadRange → ℕ → Option VolumeSizes → BadLook → Screen → Streams → ℕ → Type 0

@@ -12,5 +12,5 @@ use Rattle.command_reads.specs.declared.diff.NamedImage.{NamedImage}
 -- two images are compared in this way: the differences between trees are shown piece by piece, and those between fields as a whole; or a fault is
 -- reported (diff)
 abbrev pub ShowsComparison : Edition → NamedImage → NamedImage → Comparison → Streams → ℕ → Type 0
-ShowsComparison edition old new (comparisons.Tree times) streams status = ShowsInPieces (tree_differences edition old new times) streams status
-ShowsComparison edition old new (comparisons.Fields all) streams status = Shows (field_differences edition old new all) streams status
+ShowsComparison edition old new (comparisons.Tree times form) streams status = ShowsInPieces (tree_differences edition old new times form) streams status
+ShowsComparison edition old new (comparisons.Fields all form) streams status = Shows (field_differences edition old new all form) streams status

@@ -3,7 +3,7 @@ use Rattle.std.specs.Prelude.{◌≡◌, ◌⊎◌, ℕ, ◌+◌, ◌*◌, ◌%�
 use Rattle.std.specs.List.{flat_map, range_with_len}
 use Rattle.vol_layout.specs.Edition.{constants}
 use Rattle.vol_layout.specs.Geometry.{geometry_read}
-use Rattle.vol_layout.specs.Inode.{inode_place, kind_of}
+use Rattle.vol_layout.specs.Inode.{inode_place}
 use Rattle.vol_layout.specs.declared.edition.Edition.{Edition}
 use Rattle.vol_layout.specs.declared.geometry.Geometry.{Geometry}
 use Rattle.vol_layout.specs.declared.geometry.GeometryFault.{GeometryFault}
@@ -12,7 +12,8 @@ use Rattle.vol_dir.specs.Tree.{tree}
 use Rattle.vol_dir.specs.Walk.{walk}
 use Rattle.vol_dir.specs.declared.refusal.Refusal.{Refusal}
 use Rattle.vol_dir.specs.declared.refusal.Refusal.TheVariants as refusals
-use Rattle.vol_inspect.specs.Texts.{kind_name}
+use Rattle.field_json.specs.Meanings.{mode_words}
+use Rattle.field_json.specs.Rows.{rows_json}
 use Rattle.vol_fields.specs.Lines.{row_number, row_text}
 use Rattle.vol_fields.specs.Roles.{role_of}
 use Rattle.vol_fields.specs.Rows.{AreRows}
@@ -23,12 +24,13 @@ use Rattle.vol_fields.specs.declared.names.ValueKind.TheVariants as values
 use Rattle.vol_fields.specs.declared.role.Role.{Role}
 use Rattle.vol_fields.specs.declared.rows.Row.{Row}
 use Rattle.vol_listing.specs.Dates.{moment_text}
-use Rattle.vol_listing.specs.LongLines.{kind_letters}
 use Rattle.command_faults.specs.Faults.{no_memory}
 use Rattle.command_faults.specs.declared.fault.Fault.{Fault}
 use Rattle.command_faults.specs.declared.fault.Fault.TheVariants as faults
 use Rattle.command_reads.specs.Faults.{unmeasured}
 use Rattle.command_reads.specs.declared.dump.Span.{Span}
+use Rattle.command_terms.specs.declared.looks.DumpForm.{DumpForm}
+use Rattle.command_terms.specs.declared.looks.DumpForm.TheVariants as dumps
 use Rattle.command_terms.specs.declared.looks.DumpTarget.{DumpTarget}
 use Rattle.command_terms.specs.declared.looks.DumpTarget.TheVariants as targets
 
@@ -53,18 +55,9 @@ span_of g image (targets.Block block) = block_span g block
 span_of g image (targets.Inode number) = inode_span g number
 span_of g image (targets.Path path) = path_span g (walk (tree g image) user path.now)
 
--- letters, or a word if there are none (this project)
-abbrev pub letters_or : List ℕ → Option (List ℕ) → List ℕ
-letters_or word None = word
-letters_or word (Some letters) = letters
-
--- what a mode means: the letters of a long listing, or the word for its kind (ls -l)
-abbrev pub mode_meaning : Edition → ℕ → List ℕ
-mode_meaning edition mode = codes "  " ++ letters_or (kind_name (kind_of edition mode)) (kind_letters mode (kind_of edition mode))
-
 -- what a number means: a mode as letters, a time as a date (ls -l)
 abbrev pub meaning_text : Edition → ValueKind → ℕ → List ℕ
-meaning_text edition values.Mode n = mode_meaning edition (n % 65536)
+meaning_text edition values.Mode n = codes "  " ++ mode_words edition (n % 65536)
 meaning_text edition values.Moment n = codes "  " ++ moment_text n
 meaning_text edition kind n = []
 
@@ -86,16 +79,21 @@ rows_text g table image radix rows = flat_map (row_line g table image radix) row
 abbrev pub all_roles : Geometry → List ℕ → List Role
 all_roles g image = map (role_of g image) (range_with_len 0 g.zone_end)
 
--- the text is the lines of the rows of the bytes at a place: by the law `RowsHaveBytes` of `vol_fields`, the rows have exactly these bytes, in order
--- (this project)
-abbrev pub IsDump : Geometry → List ℕ → Radix → Span → List ℕ → Type 0
-IsDump g image radix span text =
-    (rows : List Row) × AreRows g (all_roles g image) image span.to span.from span.to rows × (text ≡ rows_text g (all_roles g image) image radix rows)
+-- rows of the bytes from byte `from` on, in this format (this project)
+abbrev pub rows_in : Geometry → List Role → List ℕ → DumpForm → ℕ → List Row → List ℕ
+rows_in g table image (dumps.Text radix) from rows = rows_text g table image radix rows
+rows_in g table image dumps.Json from rows = rows_json g table image from rows
+
+-- the text has the rows of the bytes at a place: by the law `RowsHaveBytes` of `vol_fields`, the rows have exactly these bytes, in order, and by the law
+-- `ObjectsHaveBytes` of `field_json` so have their objects (this project)
+abbrev pub IsDump : Geometry → List ℕ → DumpForm → Span → List ℕ → Type 0
+IsDump g image form span text =
+    (rows : List Row) × AreRows g (all_roles g image) image span.to span.from span.to rows × (text ≡ rows_in g (all_roles g image) image form span.from rows)
 
 -- the text is the dump of a block or an i-node of an image (this project)
-abbrev pub IsDumpText : Edition → List ℕ → DumpTarget → Radix → List ℕ → Type 0
-IsDumpText edition image target radix text =
-    (g : Geometry) × (geometry_read edition image ≡ Ok g) × ((span : Span) × (span_of g image target ≡ Ok span) × IsDump g image radix span text)
+abbrev pub IsDumpText : Edition → List ℕ → DumpTarget → DumpForm → List ℕ → Type 0
+IsDumpText edition image target form text =
+    (g : Geometry) × (geometry_read edition image ≡ Ok g) × ((span : Span) × (span_of g image target ≡ Ok span) × IsDump g image form span text)
 
 -- the image breaks rule 1 or 2 (this project)
 abbrev pub IsUnmeasured : Edition → List ℕ → Fault → Type 0

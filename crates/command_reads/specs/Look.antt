@@ -18,6 +18,7 @@ use Rattle.command_reads.specs.Queries.{IsObstacle}
 use Rattle.command_reads.specs.Slots.{IsSlotsFault, IsSlotsText}
 use Rattle.command_reads.specs.Sums.{IsManifest, IsManifestFault}
 use Rattle.command_reads.specs.SuperBlock.{IsSuperFault, IsSuperText}
+use Rattle.command_reads.specs.Unsound.{IsUnshown, IsUnsoundFile, IsUnsoundListing, listable, readable}
 use Rattle.command_terms.specs.declared.looks.Look.{Look}
 use Rattle.command_terms.specs.declared.looks.Look.TheVariants as looks
 use Rattle.command_reads.specs.declared.super_block.SuperPart.TheVariants as parts
@@ -28,7 +29,7 @@ abbrev pub seen : Edition → List ℕ → Screen → Look → Sights
 seen edition image screen (looks.Export path options) = nothing
 seen edition image screen (looks.Sums path form lost) = telling 1 (IsManifest edition image [] path.now form lost) (IsManifestFault edition image path.now lost)
 seen edition image screen (looks.Block block form) = plainly (IsBlockText edition image block form) (IsBlockFault edition image block)
-seen edition image screen (looks.Dump target radix) = plainly (IsDumpText edition image target radix) (IsDumpFault edition image target)
+seen edition image screen (looks.Dump target form) = plainly (IsDumpText edition image target form) (IsDumpFault edition image target)
 seen edition image screen (looks.Free form) = plainly (IsChainText edition image form) (IsChainFault edition image)
 seen edition image screen (looks.Find path name lost form) =
     telling 5 (AreFound edition image [] path.now (option_map (λ word. word.now) name) lost form screen true) (IsManifestFault edition image path.now lost)
@@ -41,6 +42,10 @@ seen edition image screen looks.Uses = plainly (AreUses edition image) (IsMapFau
 seen edition image screen (looks.Check graded form) = checked edition image graded form
 seen edition image screen (looks.List path listing) =
     plainly (IsListing edition image path.now listing screen) (IsObstacle edition image (question_of listing path.now))
+seen edition image screen (looks.ListUnsound path listing) =
+    telling 1 (IsUnsoundListing edition image path.now listing screen) (IsUnshown edition image path.now (listable listing edition image))
+seen edition image screen (looks.ReadUnsound path) =
+    telling 1 (IsUnsoundFile edition image path.now) (IsUnshown edition image path.now (readable edition image))
 seen edition image screen (looks.Slots path form) = plainly (IsSlotsText edition image path.now form screen) (IsSlotsFault edition image path.now)
 
 -- the part that the command names is shown: an export, the uses of the blocks, the slots of a directory and an i-node as JSON piece by piece, all

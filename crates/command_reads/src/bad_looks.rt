@@ -3,6 +3,7 @@ ghost use Rattle.std.specs.Prelude.{◌≡◌, IfOk, string_bytes};
 ghost use Rattle.command_faults.specs.Streams.{ErrorStream, Hears, streams};
 ghost use Rattle.command_reads.specs.BadLooks.{IsMisreadEnding, IsUnrescuedEnding, LooksBad, ShowsRescued, line_start, map_line, sizes_line};
 
+use crate::bad_files::read_in;
 use crate::bad_images::rescue_image;
 use crate::export::{export_read, unread};
 use crate::find::find_in;
@@ -104,6 +105,10 @@ fn show_rescued<O: Sink>(
         BadLook::Sums { path, form, lost } => {
             let shown = sums_of(alloc, edition, &read.image, &read.lost, path, form, lost);
             print(shown, output)
+        }
+        BadLook::Read { path, damaged } => {
+            let (image, lost) = (&read.image, &read.lost);
+            read_in(alloc, edition, image, lost, path, damaged, output)
         }
     }
 }

@@ -13,7 +13,7 @@ use vol_layout::Edition;
 
 /// Shows how two images differ, one line each: their paths, as [`show_tree_diff`] does, or their fields. The images must keep rules 1 and 2, and may
 /// be any bytes otherwise. The status is 0 if they don't differ, 1 if they do or one of them breaks one of these rules; 3 if `output` failed, 4 if
-/// memory ran out. Of fields, nothing is printed until the whole text is ready.
+/// memory ran out. Of fields, and as JSON, nothing is printed until the whole text is ready.
 pub fn show_comparison<O: Sink>(
     alloc: Global,
     edition: Edition,
@@ -26,7 +26,11 @@ pub fn show_comparison<O: Sink>(
         → ShowsComparison edition old.entry new.entry by (streams O.contents O.failed output.old output.new errors) result.status }
 {
     match by {
-        Comparison::Tree { times } => show_tree_diff(alloc, edition, old, new, times, output),
-        Comparison::Fields { all } => print(diff_fields(alloc, edition, old, new, all), output),
+        Comparison::Tree { times, form } => {
+            show_tree_diff(alloc, edition, old, new, times, form, output)
+        }
+        Comparison::Fields { all, form } => {
+            print(diff_fields(alloc, edition, old, new, all, form), output)
+        }
     }
 }

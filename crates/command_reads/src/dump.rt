@@ -1,20 +1,20 @@
 //! `dump`: shows the bytes of a block or an i-node, field by field.
-ghost use Rattle.std.specs.Prelude.{◌≡◌, ◌≤◌, ◌+◌, ◌%◌, ◌++◌, length, IfErr, IfOk, OnOk};
+ghost use Rattle.std.specs.Prelude.{◌≡◌, ◌≤◌, ◌+◌, ◌++◌, length, IfErr, IfOk, OnOk};
 ghost use Rattle.vol_layout.specs.Geometry.{Fits, geometry_read};
 ghost use Rattle.vol_fields.specs.Rows.{AreWithin};
-ghost use Rattle.command_reads.specs.Dump.{IsDump, IsDumpFault, IsDumpText, meaning_text, mode_meaning, row_line, rows_text, span_of};
+ghost use Rattle.command_reads.specs.Dump.{IsDump, IsDumpFault, IsDumpText, meaning_text, row_line, rows_in, rows_text, span_of};
 ghost use Rattle.command_reads.specs.Dump.{inode_span, block_span, path_span};
 
 use crate::faults::unmeasured;
 use command_faults::Fault;
-use command_terms::DumpTarget;
+use command_terms::{DumpForm, DumpTarget};
+use field_json::{push_mode_words, rows_json};
 use pdp_words::{BLOCK, Image};
 use std::alloc::{AllocError, Global};
 use vol_dir::{Cred, Refusal, walk};
 use vol_fields::{Radix, Role, Row, ValueKind, block_roles, push_row, rows_of};
-use vol_inspect::kind_name;
-use vol_layout::{Edition, Geometry, Mode};
-use vol_listing::{kind_letters, push_moment};
+use vol_layout::{Edition, Geometry};
+use vol_listing::push_moment;
 
 /// Bytes of an image that follow one another.
 #[derive(Clone, Copy)]
@@ -25,7 +25,7 @@ pub struct Span {
     pub to: usize,
 }
 
-/// Returns the bytes of a block or an i-node, a line a field. The image must keep rules 1 and 2, and may be any bytes otherwise. Fails if it breaks
+/// Returns the bytes of a block or an i-node, a line a field, or as one JSON object. The image must keep rules 1 and 2, and may be any bytes otherwise. Fails if it breaks
 /// one of these rules, has no such block or i-node, the path leads to none, or memory ran out.
 ///
 /// Takes the time and the memory of [`block_roles`], and memory for the text.
@@ -34,13 +34,13 @@ pub(crate) fn dump_text(
     edition: Edition,
     image: &Image,
     target: DumpTarget<'_>,
-    radix: Radix,
+    form: DumpForm,
 ) -> Result<Vec<u8>, Fault>
-    ensures text { IfOk result (λ text. IsDumpText edition image.now target.entry radix text.items) }
+    ensures text { IfOk result (λ text. IsDumpText edition image.now target.entry form text.items) }
     ensures fault { IfErr result (λ fault. IsDumpFault edition image.now target.entry fault) }
 {
     match Geometry::read(edition, image) {
-        Ok(geometry) => placed_text(alloc, edition, image, &geometry, target, radix),
+        Ok(geometry) => placed_text(alloc, edition, image, &geometry, target, form),
         Err(fault) => Err(unmeasured(fault)),
     }
 }
@@ -52,15 +52,15 @@ fn placed_text(
     image: &Image,
     geometry: &Geometry,
     target: DumpTarget<'_>,
-    radix: Radix,
+    form: DumpForm,
 ) -> Result<Vec<u8>, Fault>
     requires fits { Fits geometry.now image.now }
     requires read { geometry_read edition image.now ≡ Ok geometry.now }
-    ensures text { IfOk result (λ text. IsDumpText edition image.now target.entry radix text.items) }
+    ensures text { IfOk result (λ text. IsDumpText edition image.now target.entry form text.items) }
     ensures fault { IfErr result (λ fault. IsDumpFault edition image.now target.entry fault) }
 {
     match span_of(image, geometry, target) {
-        Ok(span) => Ok(span_text(alloc, image, geometry, span, radix)?),
+        Ok(span) => Ok(span_text(alloc, image, geometry, span, form)?),
         Err(refusal) => Err(Fault::Refused(refusal)),
     }
 }
@@ -119,22 +119,47 @@ fn inode_span(image: &Image, geometry: &Geometry, number: u32) -> Result<Span, R
     })
 }
 
-/// Returns the lines of the bytes at a place.
+/// Returns the bytes at a place in this format.
 fn span_text(
     alloc: Global,
     image: &Image,
     geometry: &Geometry,
     span: Span,
-    radix: Radix,
+    form: DumpForm,
 ) -> Result<Vec<u8>, AllocError>
     requires fits { Fits geometry.now image.now }
     requires order { span.from ≤ span.to }
     requires within { span.to ≤ length image.now }
-    ensures { IfOk result (λ text. IsDump geometry.now image.now radix span text.items) }
+    ensures { IfOk result (λ text. IsDump geometry.now image.now form span text.items) }
 {
     let roles = block_roles(alloc, image, geometry)?;
     let rows = rows_of(alloc, image, geometry, &roles, span.from, span.to)?;
-    rows_text(alloc, image, geometry, &roles, span.to, radix, &rows)
+    rows_in(alloc, image, geometry, &roles, span, form, &rows)
+}
+
+/// Returns the rows of the bytes at a place in this format.
+fn rows_in(
+    alloc: Global,
+    image: &Image,
+    geometry: &Geometry,
+    roles: &[Role],
+    span: Span,
+    form: DumpForm,
+    rows: &[Row],
+) -> Result<Vec<u8>, AllocError>
+    requires fits { Fits geometry.now image.now }
+    requires within { span.to ≤ length image.now }
+    requires rows { AreWithin span.to rows.now }
+    ensures { IfOk result (λ text. text.items ≡ rows_in geometry.now roles.now image.now form span.from rows.now) }
+{
+    let (from, to) = (span.from, span.to);
+    match form {
+        DumpForm::Text(radix) => rows_text(alloc, image, geometry, roles, to, radix, rows),
+        DumpForm::Json => {
+            let text = rows_json(alloc, image, geometry, roles, from, to, rows)?;
+            Ok(text.into_bytes())
+        }
+    }
 }
 
 /// Returns the lines of rows.
@@ -192,7 +217,10 @@ fn push_meaning(
     ensures { OnOk result (text.new.items ≡ text.old.items ++ meaning_text geometry.now.edition kind n) }
 {
     match kind {
-        ValueKind::Mode => push_mode(text, geometry.edition, n),
+        ValueKind::Mode => {
+            text.extend_from_slice(b"  ")?;
+            push_mode_words(text, geometry.edition, n)
+        }
         ValueKind::Moment => {
             text.extend_from_slice(b"  ")?;
             push_moment(text, n)
@@ -202,20 +230,5 @@ fn push_meaning(
         | ValueKind::Block
         | ValueKind::Name
         | ValueKind::Bytes => Ok(()),
-    }
-}
-
-/// Appends what a mode means: the letters of `ls -l`, or a word if it has none.
-fn push_mode(text: &mut Vec<u8>, edition: Edition, n: u32) -> Result<(), AllocError>
-    ensures { OnOk result (text.new.items ≡ text.old.items ++ mode_meaning edition (n % 65536)) }
-{
-    let mode = Mode {
-        bits: (n % 65536) as u16,
-    };
-    let kind = mode.kind(edition);
-    text.extend_from_slice(b"  ")?;
-    match kind_letters(mode, kind) {
-        Some(letters) => Ok(text.extend_from_slice(&letters)?),
-        None => Ok(text.extend_from_slice(kind_name(kind).as_bytes())?),
     }
 }

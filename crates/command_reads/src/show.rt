@@ -16,6 +16,7 @@ use crate::print::{plain, plain_string, print};
 use crate::slots::show_slots;
 use crate::sums::sums;
 use crate::super_block::{SuperPart, super_text};
+use crate::unsound::{list_unsound, read_unsound};
 use command_faults::Ending;
 use command_faults::answer::tell;
 use command_terms::Look;
@@ -83,11 +84,12 @@ fn show<O: Sink>(
         Look::Slots { path, form } => {
             return show_slots(alloc, edition, &image, path, form, screen, output);
         }
+        Look::ReadUnsound { path } => return read_unsound(alloc, edition, &image, path, output),
         Look::Sums { path, form, lost } => sums(alloc, edition, &image, path, form, lost),
         Look::Block { block, form } => plain_string(block_text(
             alloc, edition, &image, block, form,
         )),
-        Look::Dump { target, radix } => plain(dump_text(alloc, edition, &image, target, radix)),
+        Look::Dump { target, form } => plain(dump_text(alloc, edition, &image, target, form)),
         Look::Free { form } => plain_string(free_text(alloc, edition, &image, form)),
         Look::Find {
             path,
@@ -107,6 +109,9 @@ fn show<O: Sink>(
         Look::Check { graded, form } => check(alloc, edition, &image, graded, form),
         Look::List { path, listing } => {
             plain(list_image(alloc, edition, &image, path, listing, screen))
+        }
+        Look::ListUnsound { path, listing } => {
+            list_unsound(alloc, edition, &image, path, listing, screen)
         }
     };
     print(shown, output)

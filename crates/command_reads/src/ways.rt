@@ -56,7 +56,7 @@ fn lines_on(
 }
 
 /// Returns the last of the nodes on a path, up to where it leads or ends, from which it can't be trusted where paths lead.
-fn unsure_on(
+pub(crate) fn unsure_on(
     alloc: Global,
     image: &Image,
     geometry: &Geometry,

@@ -1,16 +1,11 @@
-use Rattle.std.proofs.Common.{◌≡◌, ◌∙◌, ℕ, List, Ok, sym, ap, subst}
+use Rattle.std.proofs.Common.{◌≡◌, ◌∙◌, ℕ, List, sym, ap, subst}
 use Rattle.vol_layout.specs.Geometry.{geometry_read}
 use Rattle.vol_layout.specs.declared.geometry.Geometry.{Geometry}
-use Rattle.vol_layout.specs.declared.geometry.GeometryFault.{GeometryFault}
-use Rattle.std.proofs.Common.{Result}
 use Rattle.vol_fields.proofs.DiffLaws.{equal_is_silent, silent_is_equal}
 use Rattle.command_reads.specs.Diff.{IsMappedText}
 use Rattle.command_reads.specs.Dump.{all_roles}
+use Rattle.command_reads.proofs.DiffItems.{one_geometry}
 use Rattle.command_reads.proofs.laws.equal_images_have_no_differences.Goals as goal
-
--- two results of reading one geometry are equal
-one_geometry : (g h : Geometry) (read : Result Geometry GeometryFault) → read ≡ Ok g → read ≡ Ok h → g ≡ h
-one_geometry g h read first second = cc
 
 pub returns : goal.returns
 returns c edition old new all text made =

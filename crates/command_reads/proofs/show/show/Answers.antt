@@ -3,7 +3,7 @@ use Rattle.command_faults.specs.Streams.{Streams, streams}
 use Rattle.command_reads.specs.Export.{Exports}
 use Rattle.command_reads.proofs.Printed.{plain_sight, showing, string_sight}
 use Rattle.command_reads.proofs.show.show.Goals as goal
-use Rattle.command_reads.proofs.show.show.Goals.{in-Sums, in-Block, in-Dump, in-Free, in-Find, in-Super, in-Df, in-Map, in-Check, in-List}
+use Rattle.command_reads.proofs.show.show.Goals.{in-Sums, in-Block, in-Dump, in-Free, in-Find, in-Super, in-Df, in-Map, in-Check, in-List, in-ListUnsound}
 
 pub returns-in-Export : goal.returns-in-Export
 returns-in-Export g c errors hears =
@@ -16,6 +16,9 @@ returns-in-Inode g c errors hears = rw c.in-Inode.is (c.show_inode.ensures error
 
 pub returns-in-Uses : goal.returns-in-Uses
 returns-in-Uses g c errors hears = rw c.in-Uses.is (c.show_uses.ensures errors hears)
+
+pub returns-in-ReadUnsound : goal.returns-in-ReadUnsound
+returns-in-ReadUnsound g c errors hears = rw c.in-ReadUnsound.is (c.read_unsound.ensures errors hears)
 
 pub returns-in-Slots : goal.returns-in-Slots
 returns-in-Slots g c errors hears = rw c.in-Slots.is (c.show_slots.ensures errors hears)
@@ -36,4 +39,5 @@ returns g c errors hears =
       | in-Map w ↦ rw w.in-Map.is (showing _ both _ _ _ w.shown-is (string_sight _ _ _ _ w.map_text.ensures.text w.map_text.ensures.fault w.plain_string-shown-in-Map.ensures) printed told)
       | in-Check w ↦ rw w.in-Check.is (showing _ both _ _ _ w.shown-is w.check-shown.ensures printed told)
       | in-List w ↦ rw w.in-List.is (showing _ both _ _ _ w.shown-is (plain_sight _ _ _ _ w.list_image.ensures.text w.list_image.ensures.fault w.plain-shown-in-List.ensures) printed told)
+      | in-ListUnsound w ↦ rw w.in-ListUnsound.is (showing _ both _ _ _ w.shown-is w.list_unsound-shown.ensures printed told)
     ]

@@ -27,7 +27,7 @@ returns-in-Err-measured g c errors hears =
 
 pub returns-in-Ok-trees_of : goal.returns-in-Ok-trees_of
 returns-in-Ok-trees_of g c errors hears =
-    shows c.args.edition c.args.old c.args.new c.args.times
+    shows c.args.form c.args.edition c.args.old c.args.new c.args.times
     (streams g.O.Sink.contents g.O.Sink.failed c.args.output.now c.print_trees.new.output errors) c.print_trees.result.status c.in-Ok.geometry
     c.in-Ok-measured.geometry c.from_bytes-before.result c.from_bytes-after.result c.in-Ok-trees_of.trees.old c.in-Ok-trees_of.trees.new
     c.in-Ok-trees_of.trees.remarks.lines.items c.from_bytes-before.ensures c.from_bytes-after.ensures c.in-Ok.ensures.read

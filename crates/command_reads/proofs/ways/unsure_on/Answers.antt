@@ -1,9 +1,9 @@
-use Rattle.std.proofs.Common.{◌≡◌, ◌∙◌, ◌∷◌, ℕ, List, Option, ap, sym}
+use Rattle.std.proofs.Common.{◌≡◌, ◌∙◌, ℕ, List, Option, ap, sym}
 use Rattle.std.specs.Option.{option_map_or}
 use Rattle.vol_archive.specs.declared.met_entries.MetEntry.{MetEntry}
 use Rattle.vol_dir.specs.Walk.{components}
 use Rattle.vol_listing.specs.Places.{joined}
-use Rattle.command_reads.specs.Ways.{last_seen, last_unsure, number_in}
+use Rattle.command_reads.specs.Ways.{last_seen, last_unsure}
 use Rattle.command_reads.proofs.ways.unsure_on.Goals as goal
 
 -- the path has ended

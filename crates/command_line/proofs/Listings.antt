@@ -61,11 +61,12 @@ abbrev seen : Option (List ℕ × List Row) → List (List ℕ)
 seen None = []
 seen (Some met) = met.0 ∷ the_word (words_by met.1) (codes "EDITION") ∷ the_word (words_by met.1) (codes "IMAGE") ∷ the_word (words_by met.1) (codes "PATH")
     ∷ the_word (words_by met.1) (codes "json") ∷ the_word (words_by met.1) (codes "long") ∷ the_word (words_by met.1) (codes "recursive")
-    ∷ the_word (words_by met.1) (codes "directory") ∷ the_word (words_by met.1) (codes "slots") ∷ words_by met.1 (codes "at")
+    ∷ the_word (words_by met.1) (codes "directory") ∷ the_word (words_by met.1) (codes "slots")
+    ∷ the_word (words_by met.1) (codes "unsound") ∷ words_by met.1 (codes "at")
 
 -- the words of options that weren't given
 abbrev no_options : List (List ℕ)
-no_options = codes "false" ∷ codes "false" ∷ codes "false" ∷ codes "false" ∷ codes "false" ∷ []
+no_options = codes "false" ∷ codes "false" ∷ codes "false" ∷ codes "false" ∷ codes "false" ∷ codes "false" ∷ []
 
 -- the name of the command, and the words for the arguments of `ls` without options
 abbrev words_of : Edition → List ℕ → List ℕ → List (List ℕ)
@@ -132,6 +133,7 @@ record HasNoOptions (given : Words) : Type 0 where
   below : first_word (given (codes "recursive")) ≡ codes "false"
   itself : first_word (given (codes "directory")) ≡ codes "false"
   slots : first_word (given (codes "slots")) ≡ codes "false"
+  unsound : first_word (given (codes "unsound")) ≡ codes "false"
   at : given (codes "at") ≡ []
 
 -- if the word of an option is `false`, the option wasn't given
@@ -164,6 +166,8 @@ asks_listing : (clock : Option ℕ) (given : Words) (edition : Edition) (image p
     → IsGiven clock given invocation → IsListing edition image path invocation
 asks_listing clock given edition image path (invocations.Look volume (looks.Slots p form)) test e_is i_is p_is none is =
     absurd (true≢false (sym is.1.1 ∙ unset (given (codes "slots")) none.slots))
+asks_listing clock given edition image path (invocations.Look volume (looks.ListUnsound p listing)) test e_is i_is p_is none is =
+    absurd (true≢false (sym is.1.4 ∙ unset (given (codes "unsound")) none.unsound))
 asks_listing clock given edition image path (invocations.Look volume (looks.List directory listing)) test e_is i_is p_is none is = (
   (given_is volume.edition volume.is_any edition (subst (IsEditionGiven volume.edition volume.is_any) e_is is.0.0)).0,
   is.0.1 ∙ i_is,
@@ -188,7 +192,8 @@ no_options_by met edition image path is = record {
   below = ap (λ (l : List (List ℕ)). slice_index_or l 6 []) is;
   itself = ap (λ (l : List (List ℕ)). slice_index_or l 7 []) is;
   slots = ap (λ (l : List (List ℕ)). slice_index_or l 8 []) is;
-  at = ap (drop 9) is;
+  unsound = ap (λ (l : List (List ℕ)). slice_index_or l 9 []) is;
+  at = ap (drop 10) is;
 }
 
 -- if clap found the command `ls` with its words and no options, every invocation that is read from them is that listing
@@ -235,6 +240,7 @@ listing_asks clock (Some met) edition image path (invocations.Look volume (looks
           plain_given (words_by met.1) listing.lines none listed.3,
           to_names_given (words_by met.1) listing.depth none listed.4,
           unset (words_by met.1 (codes "slots")) none.slots,
+          unset (words_by met.1 (codes "unsound")) none.unsound,
         ),
       ),
     )

@@ -170,7 +170,7 @@ memory_ran_out clock (Err e) editions words are is = refuses clock editions word
 -- if work with several threads is read from words, the number of threads or scripts is 1 to 64
 work_given : (given : Words) (work : Work) → IsWorkGiven given work → IsWorkable work
 work_given given (works.Check checker workers form) is = rw is.0.1 (is.0.0.1, is.0.0.2)
-work_given given (works.Play scripts journal trace) is = (is.1, is.2)
+work_given given (works.Play scripts journal form) is = (is.1, is.2)
 
 work_asked : (clock : Option ℕ) (met : Option (List ℕ × List Row)) (volume : VolumeFile) (work : Work) → MetAsks clock met (invocations.Work volume work) → IsWorkable work
 work_asked clock None volume work asks = absurd asks

@@ -1,5 +1,5 @@
 -- Words that ask for part of an image of which some blocks may not have been read, or for its repair.
-use Rattle.std.proofs.Common.{◌≡◌, ℕ, Bool, false, List, Option, None, Some, codes, slice_get, refl}
+use Rattle.std.proofs.Common.{◌≡◌, ℕ, Bool, false, true, List, Option, None, Some, codes, slice_get, refl}
 use Rattle.std.specs.Borrow.{Bor}
 use Rattle.std.specs.Prelude.{option_map}
 use Rattle.command_terms.specs.declared.bad_looks.BadLook.TheVariants as bad_looks
@@ -7,7 +7,7 @@ use Rattle.command_terms.specs.declared.looks.ExportOptions.{ExportOptions}
 use Rattle.command_terms.specs.declared.looks.OutputForm.{OutputForm}
 use Rattle.command_words.specs.BadWords.{IsBadImageGiven}
 use Rattle.command_terms.specs.declared.options.Repairing.{Repairing}
-use Rattle.command_words.specs.Invocations.{AsksFor, IsExportGiven, IsFormGiven, IsRepairGiven, IsVolumeGiven, Words, is_set, look_at, repair_at, the_word}
+use Rattle.command_words.specs.Invocations.{AsksFor, IsExportGiven, IsFormGiven, IsOnePathGiven, IsRepairGiven, IsVolumeGiven, Words, is_set, look_at, repair_at, the_word}
 use Rattle.command_words.specs.declared.invocation.BadImage.{BadImage}
 use Rattle.command_words.specs.declared.invocation.MadeFile.{MadeFile}
 use Rattle.command_words.specs.declared.invocation.VolumeFile.{VolumeFile}
@@ -42,3 +42,11 @@ pub sums_asked : (clock : Option ℕ) (given : Words) (volume : VolumeFile) (pat
     → AsksFor clock verbs.Sums given (look_at volume (bad_looks.Sums path form lost) bad)
 sums_asked clock given volume path form lost None named is shown orphans none = (refl, (named, (is, shown, orphans, none)))
 sums_asked clock given volume path form lost (Some image) named is shown orphans bad = (refl, (named, (is, shown, orphans, bad)))
+
+-- the words of `get` ask for its invocation, if the volume need not be sound
+pub get_asked : (clock : Option ℕ) (given : Words) (volume : VolumeFile) (path : Bor (List ℕ)) (damaged : Bool) (bad : Option BadImage) → IsVolumeGiven given volume
+    → IsOnePathGiven given path.now → damaged ≡ is_set (given (codes "damaged")) → (bad ≡ None → is_set (given (codes "unsound")) ≡ true)
+    → IsBadImageGiven given volume.edition (is_set (given (codes "cut"))) bad
+    → AsksFor clock verbs.Get given (look_at volume (bad_looks.Read path damaged) bad)
+get_asked clock given volume path damaged None named is shown unsound none = (refl, (named, (is, unsound refl, none)))
+get_asked clock given volume path damaged (Some image) named is shown unsound bad = (refl, (named, (is, shown, bad)))

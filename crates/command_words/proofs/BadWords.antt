@@ -29,6 +29,7 @@ AreTwoGiven given = AreBothGiven given (codes "bad") (codes "bad-blocks") ⊎ Ar
 is_rescuer : Verb → Bool
 is_rescuer verbs.Export = true
 is_rescuer verbs.Find = true
+is_rescuer verbs.Get = true
 is_rescuer verbs.Repair = true
 is_rescuer verbs.Sums = true
 is_rescuer _ = false
@@ -72,6 +73,10 @@ one_way clock given (invocations.LookBad volume image (bad_looks.Find p name los
 one_way clock given (invocations.Repair volume copy repairing) read is both = none_two given V7 is.1 both
 one_way clock given (invocations.RepairBad volume image copy repairing) read is both = image_two given volume.edition _ image is.1 both
 one_way clock given (invocations.LookBad volume image (bad_looks.Sums p form lost)) read is both = image_two given volume.edition _ image is.1.3 both
+one_way clock given (invocations.Get volume path) read is both = none_two given V7 is.3 both
+one_way clock given (invocations.Copy volume (copies.Get folder paths keeps)) read is both = none_two given V7 is.1.4 both
+one_way clock given (invocations.Look volume (looks.ReadUnsound path)) read is both = none_two given V7 is.1.2 both
+one_way clock given (invocations.LookBad volume image (bad_looks.Read p damaged)) read is both = image_two given volume.edition _ image is.1.2 both
 one_way clock given invocation read is both = absurd (true≢false (sym read))
 
 -- if the words about the image aren't valid, none of these commands has an invocation
@@ -102,3 +107,10 @@ sums_wrong clock given (inl list) = no_value clock verbs.Sums given (inr (inr (i
 sums_wrong clock given (inr (inl sizes)) = no_value clock verbs.Sums given (inr (inr (inr (inr (inr (inr (inr (inr (inl sizes)))))))))
 sums_wrong clock given (inr (inr (inl disk))) = no_value clock verbs.Sums given (inr (inr (inr (inr (inr (inr (inr (inr (inr (inl disk))))))))))
 sums_wrong clock given (inr (inr (inr both))) = λ invocation asks. one_way clock given invocation (sym (ap is_rescuer asks.0)) asks.1 both
+
+pub get_wrong : (clock : Option ℕ) (given : Words) → IsBadWrong given → AsksForNothing clock verbs.Get given
+unfolding AsksForNothing is_rescuer
+get_wrong clock given (inl list) = no_value clock verbs.Get given (inr (inr (inr (inr (inr (inr (inr (inr (inr (inr (inl list)))))))))))
+get_wrong clock given (inr (inl sizes)) = no_value clock verbs.Get given (inr (inr (inr (inr (inr (inr (inr (inr (inr (inr (inr (inl sizes))))))))))))
+get_wrong clock given (inr (inr (inl disk))) = no_value clock verbs.Get given (inr (inr (inr (inr (inr (inr (inr (inr (inr (inr (inr (inr (inl disk)))))))))))))
+get_wrong clock given (inr (inr (inr both))) = λ invocation asks. one_way clock given invocation (sym (ap is_rescuer asks.0)) asks.1 both

@@ -1,5 +1,13 @@
 -- Invocations of `put` and `get`: for one file, or for several.
-use Rattle.std.proofs.Common.{◌≡◌, ◌⊎◌, ◌∙◌, ℕ, List, [], Option, Some, None, Bool, true, false, true≢false, codes, map, option_map, sym, ap, inl, inr}
+use Rattle.std.proofs.Common.{◌≡◌, ◌≢◌, ◌⊎◌, ◌∙◌, ◌||◌, refl, ℕ, List, [], Option, Some, None, Bool, true, false, true≢false, codes, map, option_map, sym, ap, inl, inr}
+use Rattle.std.specs.Prelude.{is_some}
+use Rattle.vol_layout.specs.declared.edition.Edition.{Edition}
+use Rattle.vol_layout.specs.declared.edition.Edition.TheVariants.{V7}
+use Rattle.vol_losses.specs.declared.given_sizes.VolumeSizes.{VolumeSizes}
+use Rattle.command_words.specs.BadWords.{IsBadGiven, IsBadImageGiven, IsImageGiven, IsSizesGiven}
+use Rattle.command_words.specs.declared.invocation.BadImage.{BadImage}
+use Rattle.command_words.specs.declared.invocation.GivenBad.{GivenBad}
+use Rattle.command_words.specs.declared.invocation.GivenBad.TheVariants as bads
 use Rattle.command_words.specs.Invocations.{AreFilesGiven, ArePathsGiven, AsksForNothing, IsFirstWord, IsGiven, IsLeftOut, IsMomentGiven, IsNonEmptyWord, IsValue, Words, get_words, is_set, put_words, verb_of}
 use Rattle.command_words.specs.declared.invocation.Copying.TheVariants as copies
 use Rattle.command_words.specs.declared.invocation.Invocation.{Invocation}
@@ -23,7 +31,8 @@ IsPut clock given = ((file : List ℕ) × (now : ℕ) × IsFirstWord given (code
 -- one file is read by `get`, or several files are
 abbrev IsGot : Words → Type 0
 IsGot given = (IsLeftOut given (codes "MORE") × IsLeftOut given (codes "output") × (is_set (given (codes "preserve")) ≡ false))
-    ⊎ ((folder : List ℕ) × (paths : List (List ℕ)) × IsNonEmptyWord given (codes "output") folder × ArePathsGiven (get_words given) paths)
+    ⊎ ((folder : List ℕ) × (paths : List (List ℕ)) × IsNonEmptyWord given (codes "output") folder × ArePathsGiven (get_words given) paths
+    × (is_set (given (codes "unsound")) ≡ false) × IsBadImageGiven given V7 (is_set (given (codes "cut"))) None)
 
 -- true if the command is `put`
 is_put : Verb → Bool
@@ -50,7 +59,9 @@ puts clock given invocation put is = absurd (true≢false (sym put))
 gets : (clock : Option ℕ) (given : Words) (invocation : Invocation) → is_get (verb_of invocation) ≡ true → IsGiven clock given invocation → IsGot given
 unfolding is_get
 gets clock given (invocations.Get volume path) got is = inl (is.1.1, is.1.2, is.1.3)
-gets clock given (invocations.Copy volume (copies.Get folder paths keeps)) got is = inr (folder.now, map (λ path. path.now) paths.items, is.1.0, is.1.1)
+gets clock given (invocations.Look volume (looks.ReadUnsound path)) got is = inl (is.1.0.1, is.1.0.2, is.1.0.3)
+gets clock given (invocations.LookBad volume image (bad_looks.Read path damaged)) got is = inl (is.1.0.1, is.1.0.2, is.1.0.3)
+gets clock given (invocations.Copy volume (copies.Get folder paths keeps)) got is = inr (folder.now, map (λ path. path.now) paths.items, is.1.0, is.1.1, is.1.3, is.1.4)
 gets clock given (invocations.Change volume (changes.Put p file keep now) trace) got is = absurd (true≢false (sym got))
 gets clock given (invocations.Work volume (works.Check checkers.Blocks workers form)) got is = absurd (true≢false (sym got))
 gets clock given (invocations.Look volume (looks.Export path options)) got is = absurd (true≢false (sym got))
@@ -153,3 +164,38 @@ kept_got clock given left set = no_get clock given go
     go : IsGot given → ⊥
     go (inl one) = true≢false (sym set ∙ one.2)
     go (inr several) = both _ several.0 several.2.0 left
+
+-- if `--output` and `--unsound` are given, `get` has no invocation
+pub unsound_got : (clock : Option ℕ) (given : Words) (folder : List ℕ) → IsFirstWord given (codes "output") folder → is_set (given (codes "unsound")) ≡ true
+    → AsksForNothing clock verbs.Get given
+unsound_got clock given folder is set = no_get clock given go
+  where
+    go : IsGot given → ⊥
+    go (inl one) = both _ folder is one.1
+    go (inr several) = true≢false (sym set ∙ several.4)
+
+-- words that say that blocks are lost don't say that none is
+not_whole : (given : Words) (edition : Edition) (is_cut : Bool) (image : BadImage) → IsImageGiven given edition is_cut image → IsBadImageGiven given V7 is_cut None → ⊥
+not_whole given edition is_cut image is none = elim is.1 [
+  | inl bad ↦ listed image.bad bad
+  | inr rest ↦ sized image.sizes is.0 rest.1
+]
+  where
+    listed : (bad : GivenBad) → IsBadGiven given bad → ⊥
+    listed (bads.Map file) named = both _ file.now named.0 none.0.0
+    listed (bads.Outside ranges) named = both _ named.1.0 named.1.1 none.0.1
+
+    sized : (sizes : Option VolumeSizes) → IsSizesGiven given edition sizes → (is_cut || is_some sizes) ≡ true → ⊥
+    sized None left lost = true≢false (sym lost ∙ ap (λ cut. cut || false) none.2)
+    sized (Some sizes) (inl word) lost = both _ word.1.0 word.1.1 none.1.0
+    sized (Some sizes) (inr word) lost = both _ word.1.0 word.1.1 none.1.1
+
+-- if `--output` is given, and blocks of the image are lost, `get` has no invocation
+pub bad_got : (clock : Option ℕ) (given : Words) (folder : List ℕ) (edition : Edition) (bad : Option BadImage) → IsFirstWord given (codes "output") folder
+    → IsBadImageGiven given edition (is_set (given (codes "cut"))) bad → bad ≢ None → AsksForNothing clock verbs.Get given
+bad_got clock given folder edition None is read lost = absurd (lost refl)
+bad_got clock given folder edition (Some image) is read lost = no_get clock given go
+  where
+    go : IsGot given → ⊥
+    go (inl one) = both _ folder is one.1
+    go (inr several) = not_whole given edition (is_set (given (codes "cut"))) image read several.5

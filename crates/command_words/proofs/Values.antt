@@ -12,6 +12,7 @@ use Rattle.command_words.specs.Disks.{disk_blocks}
 use Rattle.command_words.specs.Invocations.{AreValues, AsksForNothing, IsGiven, IsOneWrong, IsVolumeWrong, NameAsksFor, Words, is_set, verb_of}
 use Rattle.command_words.specs.Verbs.{Argument, IsNoCommand, arguments_of, on_volume, verb_name}
 use Rattle.command_words.specs.declared.invocation.BadImage.{BadImage}
+use Rattle.command_words.specs.declared.invocation.Copying.TheVariants as copies
 use Rattle.command_words.specs.declared.invocation.Invocation.{Invocation}
 use Rattle.command_words.specs.declared.invocation.Invocation.TheVariants as invocations
 use Rattle.command_words.specs.declared.verbs.Verb.{Verb}
@@ -63,6 +64,11 @@ values_given clock given (invocations.LookBad volume image (bad_looks.Sums path 
 values_given clock given (invocations.Repair volume copy repairing) is = let whole = none_values given is.1 in search (rules, whole)
 values_given clock given (invocations.RepairBad volume image copy repairing) is =
     let whole = image_values given volume.edition image is.1 in search (rules, whole)
+values_given clock given (invocations.Get volume path) is = let whole = none_values given is.3 in search (rules, whole)
+values_given clock given (invocations.Copy volume (copies.Get folder paths keeps)) is = let whole = none_values given is.1.4 in search (rules, whole)
+values_given clock given (invocations.Look volume (looks.ReadUnsound path)) is = let whole = none_values given is.1.2 in search (rules, whole)
+values_given clock given (invocations.LookBad volume image (bad_looks.Read path damaged)) is =
+    let whole = image_values given volume.edition image is.1.2 in search (rules, whole)
 values_given clock given invocation is = search (rules, scripts_value)
 
 -- if all words are valid, none of them is wrong

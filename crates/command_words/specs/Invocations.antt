@@ -42,12 +42,15 @@ use Rattle.command_terms.specs.declared.comparison.Comparison.TheVariants as com
 use Rattle.command_terms.specs.declared.looks.ExportOptions.{ExportOptions}
 use Rattle.command_terms.specs.declared.looks.OutputForm.{OutputForm}
 use Rattle.command_terms.specs.declared.looks.OutputForm.TheVariants as forms
+use Rattle.vol_listing.specs.Depths.{goes_below}
 use Rattle.vol_listing.specs.declared.options.Depth.{Depth}
 use Rattle.vol_listing.specs.declared.options.Depth.TheVariants as depths
 use Rattle.vol_listing.specs.declared.options.Lines.{Lines}
 use Rattle.vol_listing.specs.declared.options.Lines.TheVariants as lines
 use Rattle.command_terms.specs.declared.looks.Look.{Look}
 use Rattle.command_terms.specs.declared.looks.Look.TheVariants as looks
+use Rattle.command_terms.specs.declared.looks.DumpForm.{DumpForm}
+use Rattle.command_terms.specs.declared.looks.DumpForm.TheVariants as dumps
 use Rattle.command_terms.specs.declared.looks.DumpTarget.{DumpTarget}
 use Rattle.command_terms.specs.declared.looks.DumpTarget.TheVariants as targets
 use Rattle.command_terms.specs.declared.looks.NodeName.{NodeName}
@@ -62,6 +65,8 @@ use Rattle.command_terms.specs.declared.changes.Change.{Change}
 use Rattle.command_terms.specs.declared.changes.Change.TheVariants as changes
 use Rattle.command_terms.specs.declared.options.Migration.{Migration}
 use Rattle.command_terms.specs.declared.options.Repairing.{Repairing}
+use Rattle.command_terms.specs.declared.plays.PlayForm.{PlayForm}
+use Rattle.command_terms.specs.declared.plays.PlayForm.TheVariants as plays
 use Rattle.vol_fields.specs.declared.lines.Radix.{Radix}
 use Rattle.vol_fields.specs.declared.lines.Radix.TheVariants as radixes
 use Rattle.vol_import.specs.declared.import_options.ImportOptions.{ImportOptions}
@@ -200,7 +205,7 @@ checker_verb checkers.Names = verbs.Ncheck
 -- the command for work with several threads (this project)
 abbrev pub work_verb : Work → Verb
 work_verb (works.Check checker workers form) = checker_verb checker
-work_verb (works.Play scripts journal trace) = verbs.Play
+work_verb (works.Play scripts journal form) = verbs.Play
 
 -- the command for a change (this project)
 abbrev pub change_verb : Change → Verb
@@ -227,7 +232,7 @@ look_verb (looks.Inode node form) = verbs.Inode
 look_verb (looks.Super form) = verbs.Super
 look_verb (looks.Free form) = verbs.Free
 look_verb (looks.Block block form) = verbs.Block
-look_verb (looks.Dump target radix) = verbs.Dump
+look_verb (looks.Dump target form) = verbs.Dump
 look_verb (looks.Df form) = verbs.Df
 look_verb (looks.Find path name lost form) = verbs.Find
 look_verb (looks.Map picture file) = verbs.Map
@@ -235,6 +240,8 @@ look_verb looks.Uses = verbs.Map
 look_verb (looks.Check graded form) = verbs.Check
 look_verb (looks.List path listing) = verbs.Ls
 look_verb (looks.Slots path form) = verbs.Ls
+look_verb (looks.ListUnsound path listing) = verbs.Ls
+look_verb (looks.ReadUnsound path) = verbs.Get
 
 -- the command that copies files (this project)
 abbrev pub copying_verb : Copying → Verb
@@ -456,6 +463,15 @@ abbrev pub IsRadixGiven : Words → Radix → Type 0
 IsRadixGiven given radixes.Hex = is_set (given (codes "octal")) ≡ false
 IsRadixGiven given radixes.Octal = is_set (given (codes "octal")) ≡ true
 
+-- the words choose this format of a dump: JSON if its option is given, which has no octal digits, else lines (this project)
+abbrev pub IsDumpFormGiven : Words → DumpForm → Type 0
+IsDumpFormGiven given (dumps.Text radix) = (is_set (given (codes "json")) ≡ false) × IsRadixGiven given radix
+IsDumpFormGiven given dumps.Json = (is_set (given (codes "json")) ≡ true) × (is_set (given (codes "octal")) ≡ false)
+
+-- the words ask for JSON with octal digits (this project)
+abbrev pub AreDigitsOfJson : Words → Type 0
+AreDigitsOfJson given = (is_set (given (codes "json")) ≡ true) × (is_set (given (codes "octal")) ≡ true)
+
 -- the words describe an export of what is below this path, with these options (this project)
 abbrev pub IsExportGiven : Words → List ℕ → ExportOptions → Type 0
 IsExportGiven given path options = (path ≡ the_word given (codes "PATH")) × (options.lost ≡ is_set (given (codes "lost")))
@@ -471,8 +487,8 @@ IsLookGiven given (looks.Inode node form) = IsNodeGiven (the_word given (codes "
 IsLookGiven given (looks.Super form) = IsFormGiven given form
 IsLookGiven given (looks.Free form) = IsFormGiven given form
 IsLookGiven given (looks.Block block form) = IsNumberGiven 4294967295 (the_word given (codes "BLOCK")) block × IsFormGiven given form
-IsLookGiven given (looks.Dump target radix) =
-    IsTargetGiven (the_word given (codes "BLOCK")) (is_set (given (codes "inode"))) target × IsRadixGiven given radix
+IsLookGiven given (looks.Dump target form) =
+    IsTargetGiven (the_word given (codes "BLOCK")) (is_set (given (codes "inode"))) target × IsDumpFormGiven given form
 IsLookGiven given (looks.Df form) = IsFormGiven given form
 IsLookGiven given (looks.Find path name lost form) = (path.now ≡ the_word given (codes "PATH"))
     × (option_map (λ word. word.now) name ≡ slice_get (given (codes "name")) 0) × (lost ≡ is_set (given (codes "lost"))) × IsFormGiven given form
@@ -483,9 +499,14 @@ IsLookGiven given looks.Uses =
     (is_set (given (codes "json")) ≡ true) × (is_set (given (codes "svg")) ≡ false) × (slice_get (given (codes "file")) 0 ≡ None)
 IsLookGiven given (looks.Check graded form) = (graded ≡ is_set (given (codes "status"))) × IsFormGiven given form
 IsLookGiven given (looks.List path listing) = (path.now ≡ the_word given (codes "PATH")) × AreLinesGiven given listing.lines
-    × IsDepthGiven given listing.depth × (is_set (given (codes "slots")) ≡ false)
+    × IsDepthGiven given listing.depth × (is_set (given (codes "slots")) ≡ false) × (is_set (given (codes "unsound")) ≡ false)
 IsLookGiven given (looks.Slots path form) = (path.now ≡ the_word given (codes "PATH")) × (is_set (given (codes "slots")) ≡ true)
     × IsFormGiven given form
+IsLookGiven given (looks.ListUnsound path listing) = (path.now ≡ the_word given (codes "PATH")) × AreLinesGiven given listing.lines
+    × IsDepthGiven given listing.depth × (is_set (given (codes "slots")) ≡ false) × (is_set (given (codes "unsound")) ≡ true)
+    × (goes_below listing.depth ≡ false)
+IsLookGiven given (looks.ReadUnsound path) = IsOnePathGiven given path.now × (is_set (given (codes "unsound")) ≡ true)
+    × IsBadImageGiven given V7 (is_set (given (codes "cut"))) None
 
 -- the words describe this part of an image of which some blocks couldn't be read, and the image; an export of an image that was only cut off isn't
 -- one of these (this project)
@@ -497,6 +518,8 @@ IsBadLookGiven given edition image (bad_looks.Find path name lost form) = (path.
     × IsBadImageGiven given edition (is_set (given (codes "cut"))) (Some image)
 IsBadLookGiven given edition image (bad_looks.Sums path form lost) = (path.now ≡ the_word given (codes "PATH")) × IsFormGiven given form
     × (lost ≡ is_set (given (codes "lost"))) × IsBadImageGiven given edition (is_set (given (codes "cut"))) (Some image)
+IsBadLookGiven given edition image (bad_looks.Read path damaged) = IsOnePathGiven given path.now × (damaged ≡ is_set (given (codes "damaged")))
+    × IsBadImageGiven given edition (is_set (given (codes "cut"))) (Some image)
 
 -- the invocation that shows part of an image, of which some blocks may not have been read (this project)
 abbrev pub look_at : VolumeFile → BadLook → Option BadImage → Invocation
@@ -556,18 +579,31 @@ IsCopyGiven clock given (copies.Put directory files keep now trace) = IsNonEmpty
     × IsKeepGiven given keep × (trace ≡ is_set (given (codes "trace")))
 IsCopyGiven clock given (copies.Get folder paths keeps) = IsNonEmptyWord given (codes "output") folder.now
     × ArePathsGiven (get_words given) (map (λ path. path.now) paths.items) × (keeps ≡ is_set (given (codes "preserve")))
+    × (is_set (given (codes "unsound")) ≡ false) × IsBadImageGiven given V7 (is_set (given (codes "cut"))) None
+
+-- the words choose this form of a play's results: JSON if that option is given, but not with a trace; else lines, with the trace if that option is given
+-- (this project)
+abbrev pub IsPlayFormGiven : Words → PlayForm → Type 0
+IsPlayFormGiven given (plays.Lines trace) = (is_set (given (codes "json")) ≡ false) × (trace ≡ is_set (given (codes "trace")))
+IsPlayFormGiven given plays.Json = (is_set (given (codes "json")) ≡ true) × (is_set (given (codes "trace")) ≡ false)
+
+-- the words ask for JSON and a trace (this project)
+abbrev pub IsTraceAsJson : Words → Type 0
+IsTraceAsJson given = (is_set (given (codes "json")) ≡ true) × (is_set (given (codes "trace")) ≡ true)
 
 -- the words describe this work with several threads (this project)
 abbrev pub IsWorkGiven : Words → Work → Type 0
 IsWorkGiven given (works.Check checker workers form) = IsThreadsGiven (the_word given (codes "WORKERS")) workers × IsFormGiven given form
-IsWorkGiven given (works.Play scripts journal trace) =
+IsWorkGiven given (works.Play scripts journal form) =
     (map (λ script. script.now) scripts.items ≡ given (codes "SCRIPT")) × (1 ≤ length scripts.items) × (length scripts.items ≤ 64)
-    × (journal ≡ is_set (given (codes "journal"))) × (trace ≡ is_set (given (codes "trace")))
+    × (journal ≡ is_set (given (codes "journal"))) × IsPlayFormGiven given form
 
--- the words choose how two images are compared: by fields if that option is given, else by tree (this project)
+-- the words choose how two images are compared: by fields if that option is given, else by tree; and the format (this project)
 abbrev pub IsComparisonGiven : Words → Comparison → Type 0
-IsComparisonGiven given (comparisons.Tree times) = (is_set (given (codes "fields")) ≡ false) × (times ≡ is_set (given (codes "times")))
-IsComparisonGiven given (comparisons.Fields all) = (is_set (given (codes "fields")) ≡ true) × (all ≡ is_set (given (codes "all")))
+IsComparisonGiven given (comparisons.Tree times form) =
+    (is_set (given (codes "fields")) ≡ false) × (times ≡ is_set (given (codes "times"))) × IsFormGiven given form
+IsComparisonGiven given (comparisons.Fields all form) =
+    (is_set (given (codes "fields")) ≡ true) × (all ≡ is_set (given (codes "all"))) × IsFormGiven given form
 
 -- this file was named for a rescue; or none was (this project)
 abbrev pub IsRescueGiven : List (List ℕ) → Option (List ℕ) → Type 0
@@ -585,7 +621,9 @@ IsGiven clock given (invocations.Cat volume node) = IsVolumeGiven given volume �
 IsGiven clock given (invocations.Mkfs place volume) = IsNewPlaceGiven given place × IsNewVolumeGiven clock given volume
 IsGiven clock given (invocations.Migrate old at new migration) = (old.now ≡ the_word given (codes "OLD"))
     × IsMadeGiven given (codes "NEW") new × IsMigrationGiven clock given migration × IsAtGiven given at
-IsGiven clock given (invocations.Get volume path) = IsVolumeGiven given volume × IsOnePathGiven given path.now
+IsGiven clock given (invocations.Get volume path) =
+    IsVolumeGiven given volume × IsOnePathGiven given path.now × (is_set (given (codes "unsound")) ≡ false)
+    × IsBadImageGiven given V7 (is_set (given (codes "cut"))) None
 IsGiven clock given (invocations.Salvage volume None) = IsVolumeGiven given volume × (is_set (given (codes "dry-run")) ≡ true)
 IsGiven clock given (invocations.Salvage volume (Some copy)) = IsVolumeGiven given volume × (is_set (given (codes "dry-run")) ≡ false)
     × IsFirstWord given (codes "output") copy.now
@@ -632,4 +670,4 @@ IsWrong (faults.Wrong word) = Unit {0}
 -- the number of threads, or of scripts, is 1 to 64 (this project)
 abbrev pub IsWorkable : Work → Type 0
 IsWorkable (works.Check checker workers form) = (1 ≤ workers) × (workers ≤ 64)
-IsWorkable (works.Play scripts journal trace) = (1 ≤ length scripts.items) × (length scripts.items ≤ 64)
+IsWorkable (works.Play scripts journal form) = (1 ≤ length scripts.items) × (length scripts.items ≤ 64)

@@ -1,5 +1,5 @@
 -- A user and a group on the command line.
-use Rattle.std.specs.Prelude.{◌≡◌, ℕ, ◌==◌, Bool, List, [], ◌∷◌, Option, None, Some}
+use Rattle.std.specs.Prelude.{◌≡◌, ℕ, ◌==◌, List, [], ◌∷◌, Option, None, Some}
 use Rattle.std.specs.List.{after_first, before_first}
 use Rattle.vol_dir.specs.declared.cred.Cred.{Cred}
 use Rattle.command_words.specs.Decimal.{IsNumberGiven, IsNumberUpTo}

@@ -102,9 +102,13 @@ row_of verbs.Cat = (codes "cat", on_volume (node ∷ []))
 row_of verbs.Ls = (
   codes "ls",
   on_volume (maybe_path ∷ lettered (codes "long") 108 ∷ lettered (codes "recursive") 82
-      ∷ lettered (codes "directory") 100 ∷ option (codes "json") ∷ option (codes "slots") ∷ []),
+      ∷ lettered (codes "directory") 100 ∷ option (codes "json") ∷ option (codes "slots") ∷ option (codes "unsound") ∷ []),
 )
-row_of verbs.Get = (codes "get", on_volume (word (codes "PATH") ∷ more_words ∷ valued (codes "output") 111 values.Folder ∷ lettered (codes "preserve") 112 ∷ []))
+row_of verbs.Get = (
+  codes "get",
+  on_volume (word (codes "PATH") ∷ more_words ∷ valued (codes "output") 111 values.Folder ∷ lettered (codes "preserve") 112
+      ∷ option (codes "unsound") ∷ option (codes "cut") ∷ with_bad (option (codes "damaged") ∷ [])),
+)
 row_of verbs.Find = (
   codes "find",
   on_volume (maybe_path ∷ valued (codes "name") 103 values.Pattern ∷ option (codes "lost") ∷ option (codes "cut") ∷ with_bad (option (codes "json") ∷ [])),
@@ -118,8 +122,8 @@ row_of verbs.Inode = (codes "inode", on_volume (node ∷ option (codes "json") �
 row_of verbs.Super = (codes "super", on_volume (option (codes "json") ∷ []))
 row_of verbs.Free = (codes "free", on_volume (option (codes "json") ∷ []))
 row_of verbs.Block = (codes "block", on_volume (long_number (codes "BLOCK") ∷ option (codes "json") ∷ []))
-row_of verbs.Dump = (codes "dump", on_volume ((codes "BLOCK", kinds.Place, needs.Once) ∷ lettered (codes "inode") 105 ∷ option (codes "octal") ∷ []))
-row_of verbs.Diff = (codes "diff", on_volume (word (codes "OTHER") ∷ option (codes "times") ∷ option (codes "fields") ∷ option (codes "all") ∷ []))
+row_of verbs.Dump = (codes "dump", on_volume ((codes "BLOCK", kinds.Place, needs.Once) ∷ lettered (codes "inode") 105 ∷ option (codes "octal") ∷ option (codes "json") ∷ []))
+row_of verbs.Diff = (codes "diff", on_volume (word (codes "OTHER") ∷ option (codes "times") ∷ option (codes "fields") ∷ option (codes "all") ∷ option (codes "json") ∷ []))
 row_of verbs.Df = (codes "df", on_volume (option (codes "json") ∷ []))
 row_of verbs.Map = (codes "map", on_volume (option (codes "svg") ∷ option (codes "json") ∷ (codes "file", kinds.Text, needs.Value None values.Path) ∷ []))
 row_of verbs.Check = (codes "check", on_volume (option (codes "status") ∷ option (codes "json") ∷ []))
@@ -157,7 +161,7 @@ row_of verbs.Repair = (
       ∷ (codes "blocks", kinds.LongOr, needs.Value None values.Size) ∷ option (codes "cut") ∷ with_bad []),
 )
 row_of verbs.Resize = (codes "resize", on_volume (long_number (codes "BLOCKS") ∷ lettered (codes "dry-run") 110 ∷ []))
-row_of verbs.Play = (codes "play", on_volume ((codes "SCRIPT", kinds.Scripts, needs.Several) ∷ option (codes "journal") ∷ option (codes "trace") ∷ []))
+row_of verbs.Play = (codes "play", on_volume ((codes "SCRIPT", kinds.Scripts, needs.Several) ∷ option (codes "journal") ∷ option (codes "trace") ∷ option (codes "json") ∷ []))
 row_of verbs.Migrate = (codes "migrate", word (codes "OLD") ∷ word (codes "NEW") ∷ long_number (codes "FSIZE") ∷ number (codes "IBLOCKS") ∷ moment ∷ option (codes "new") ∷ at ∷ [])
 row_of verbs.Serve = (
   codes "serve",

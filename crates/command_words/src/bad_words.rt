@@ -50,6 +50,13 @@ pub(crate) const LIKE: Parameter = Parameter {
     help: "Take the super-block as lost, and the sizes of a volume that `mkfs` makes for this disk; not with --sizes",
 };
 
+pub(crate) const DAMAGED: Parameter = Parameter {
+    name: "damaged",
+    kind: WordKind::Flag,
+    need: Need::Flag(None),
+    help: "If blocks are lost, write damaged files too, with zeros in place of the bytes that are lost",
+};
+
 /// Reads what the words say of the blocks of an image that couldn't be read, and of the sizes of its volume. Returns `None` if they say nothing, and the
 /// image isn't cut off either.
 pub(crate) fn bad_image_in<'a, G: Given<'a>>(

@@ -4,7 +4,7 @@ ghost use Rattle.command_words.specs.Invocations.{volume_of, with_volume};
 
 use bad_maps::ReadRange;
 use command_terms::{
-    BadLook, Change, Comparison, Keep, Look, Migration, NodeName, OutputForm, Repairing,
+    BadLook, Change, Comparison, Keep, Look, Migration, NodeName, OutputForm, PlayForm, Repairing,
 };
 use vol_check::Checker;
 use vol_layout::Edition;
@@ -80,12 +80,11 @@ pub enum Work<'a> {
         workers: usize,
         form: OutputForm,
     },
-    /// Play the scripts in these files, 1 to 64, each in a thread of its own; if `journal`, print the journal at the end; if `trace`, print what each
-    /// of its records changed.
+    /// Play the scripts in these files, 1 to 64, each in a thread of its own, and print the results in this form; if `journal`, print the journal too.
     Play {
         scripts: Vec<&'a str>,
         journal: bool,
-        trace: bool,
+        form: PlayForm,
     },
 }
 

@@ -187,6 +187,13 @@ pub(crate) const JSON: Parameter = Parameter {
     help: "Print JSON",
 };
 
+pub(crate) const UNSOUND: Parameter = Parameter {
+    name: "unsound",
+    kind: WordKind::Flag,
+    need: Need::Flag(None),
+    help: "Show what is there even if the volume breaks one of rules 3 to 12",
+};
+
 pub(crate) const UNREPLACED: Parameter = Parameter {
     name: "new",
     kind: WordKind::Flag,

@@ -7,8 +7,8 @@ ghost use Rattle.command_words.specs.declared.verbs.Verb.TheVariants as verbs;
 use crate::fault::WordFault;
 use crate::given::{Given, flag_in, text_in};
 use crate::invocation::Invocation;
-use crate::parameters::{EDITION, IMAGE, Need, Parameter, ValueName, WordKind};
-use crate::read_words::volume_in;
+use crate::parameters::{EDITION, IMAGE, JSON, Need, Parameter, ValueName, WordKind};
+use crate::read_words::{form_in, volume_in};
 use command_terms::Comparison;
 use std::alloc::Global;
 
@@ -47,6 +47,12 @@ the block. A mode is printed in octal, a time in seconds.
 Neighbouring blocks that changed alike, as those of one file that are free now, are one line, which names the roles of
 the first. Nine or more fields of one array are one line too. Nothing is printed if and only if the volumes are equal
 byte for byte.
+
+With --json, one object is printed on one line. Its \"lines\" has an object for each line that would be printed, whose
+\"line\" says which it is. By tree that is \"added\", \"gone\", \"changed\", \"turned\" or \"unseen\"; each has \"path\", and \"old\"
+and \"new\", what IMAGE and OTHER have there, with all that is compared and not only what differs; \"first_byte\" is the
+first place at which a file's bytes differ. With --fields it is \"length\", \"role\", \"field\", \"fields\" (of one array) or
+\"bytes\"; \"old\" is null if IMAGE has another field at this place, and \"was\" says what. The status is the same.
 
 The volumes need not be sound. Only rules 1 and 2 must hold: the image's size, and the sizes in its super-block.
 
@@ -96,7 +102,7 @@ const TIMES: Parameter = Parameter {
 };
 
 /// The words that `diff` takes.
-pub(crate) const WORDS: &[Parameter] = &[EDITION, IMAGE, BOTH_AT, OTHER, TIMES, FIELDS, ALL];
+pub(crate) const WORDS: &[Parameter] = &[EDITION, IMAGE, BOTH_AT, OTHER, TIMES, FIELDS, ALL, JSON];
 
 /// Reads the words of `diff`.
 pub(crate) fn read<'a, G: Given<'a>>(
@@ -113,17 +119,19 @@ pub(crate) fn read<'a, G: Given<'a>>(
     Ok(Invocation::Diff { volume, other, by })
 }
 
-/// Reads the way in which two images are compared.
+/// Reads the way in which two images are compared, and the format.
 fn comparison_in<'a, G: Given<'a>>(given: &G) -> Comparison
     ensures { IsComparisonGiven (G.words given.now) result }
 {
     if flag_in(given, "fields") {
         Comparison::Fields {
             all: flag_in(given, "all"),
+            form: form_in(given),
         }
     } else {
         Comparison::Tree {
             times: flag_in(given, "times"),
+            form: form_in(given),
         }
     }
 }

@@ -1,15 +1,14 @@
 //! The command `dump`.
 ghost use Rattle.std.specs.Prelude.{IfErr, IfOk};
-ghost use Rattle.command_words.specs.Invocations.{AsksFor, IsOneWrong, TellsOf};
-ghost use Rattle.command_words.specs.Verbs.{arguments_of};
+ghost use Rattle.command_words.specs.Invocations.{AreDigitsOfJson, AsksFor, AsksForNothing, IsDumpFormGiven, TellsOf};
 ghost use Rattle.command_words.specs.declared.verbs.Verb.TheVariants as verbs;
 
 use crate::fault::WordFault;
-use crate::given::{Given, radix_in, target_in};
+use crate::given::{Given, excluded, flag_in, radix_in, target_in};
 use crate::invocation::Invocation;
-use crate::parameters::{AT, EDITION, IMAGE, Need, Parameter, WordKind};
+use crate::parameters::{AT, EDITION, IMAGE, JSON, Need, Parameter, WordKind};
 use crate::read_words::volume_in;
-use command_terms::Look;
+use command_terms::{DumpForm, Look};
 use std::alloc::Global;
 
 pub(crate) const NAME: &str = "dump";
@@ -21,6 +20,7 @@ Examples:
   unixvol dump 7 disk.img 1                 the super-block
   unixvol dump 7 disk.img -i 2              the i-node of /
   unixvol dump 7 disk.img -i /etc/passwd    the i-node of a file
+  unixvol dump 7 disk.img 1 --json | jq '.rows[] | select(.field == \"time\").value'
 
 A heading names the block and what it is used for, or the i-node and its place. Then each field has a line: the place
 of its first byte in the block, its bytes, its name in the manual, its value, and what that means. A mode is printed in
@@ -32,6 +32,12 @@ The lines have all bytes of the block or the i-node, in order, but bytes that ar
 16 of one field, or neighbours in an array, as addr[1..12]. A field of more than 16 bytes has a line for each 16. A
 block of a directory has a slot in each 16 bytes up to the directory's size; the bytes after the end of a file or
 directory are its slack.
+
+With --json, one object is printed on one line: \"block\", the block; \"role\", what it is used for; and \"rows\", an object
+for each line but the headings: \"field\", the name, \"index\" and \"count\" (the index of the first field, and how many share
+the line), \"offset\" (its place in the block), \"hex\" (all its bytes, the zeros too), \"value\" (null if it has none),
+\"meaning\", and \"ino\", the i-number if it is in an i-node. The role has \"use\" and, if an i-node uses the block, \"ino\",
+\"level\" and \"logical\".
 
 The volume need not be sound. Only rules 1 and 2 are checked: the image's size, and the sizes in its super-block.
 
@@ -63,11 +69,11 @@ const OCTAL: Parameter = Parameter {
     name: "octal",
     kind: WordKind::Flag,
     need: Need::Flag(None),
-    help: "Print the bytes in octal digits",
+    help: "Print the bytes in octal digits; not with --json",
 };
 
 /// The words that `dump` takes.
-pub(crate) const WORDS: &[Parameter] = &[EDITION, IMAGE, AT, PLACE, INODE, OCTAL];
+pub(crate) const WORDS: &[Parameter] = &[EDITION, IMAGE, AT, PLACE, INODE, OCTAL, JSON];
 
 /// Reads the words of `dump`.
 pub(crate) fn read<'a, G: Given<'a>>(
@@ -76,13 +82,27 @@ pub(crate) fn read<'a, G: Given<'a>>(
     _clock: Option<u32>,
 ) -> Result<Invocation<'a>, WordFault<'a>>
     ensures read { IfOk result (AsksFor _clock verbs.Dump (G.words given.now)) }
-    ensures refused { IfErr result (TellsOf (IsOneWrong _clock (G.words given.now) (arguments_of verbs.Dump))) }
+    ensures refused { IfErr result (TellsOf (AsksForNothing _clock verbs.Dump (G.words given.now))) }
 {
     let volume = volume_in(given)?;
     let target = target_in(given)?;
-    let radix = radix_in(given);
+    let form = form_in(given)?;
     Ok(Invocation::Look {
         volume,
-        look: Look::Dump { target, radix },
+        look: Look::Dump { target, form },
     })
+}
+
+/// Reads the format of a dump. JSON has no digits to choose.
+fn form_in<'a, G: Given<'a>>(given: &G) -> Result<DumpForm, WordFault<'a>>
+    ensures read { IfOk result (IsDumpFormGiven (G.words given.now)) }
+    ensures refused { IfErr result (TellsOf (AreDigitsOfJson (G.words given.now))) }
+{
+    if !flag_in(given, "json") {
+        return Ok(DumpForm::Text(radix_in(given)));
+    }
+    if flag_in(given, "octal") {
+        return Err(excluded("octal", "json", OCTAL.help));
+    }
+    Ok(DumpForm::Json)
 }

@@ -3,7 +3,7 @@ ghost use Rattle.std.specs.Prelude.{IfErr, IfOk};
 ghost use Rattle.command_words.specs.Invocations.{AsksFor, AsksForNothing, TellsOf};
 ghost use Rattle.command_words.specs.declared.verbs.Verb.TheVariants as verbs;
 
-use crate::bad_words::{BAD, BAD_BLOCKS, CUT, LIKE, SIZES, bad_image_in, look_at};
+use crate::bad_words::{BAD, BAD_BLOCKS, CUT, DAMAGED, LIKE, SIZES, bad_image_in, look_at};
 use crate::fault::WordFault;
 use crate::given::{Given, flag_in, text_in};
 use crate::invocation::Invocation;
@@ -99,13 +99,6 @@ const GRADED: Parameter = Parameter {
     kind: WordKind::Flag,
     need: Need::Flag(None),
     help: "Exit with status 5 if something isn't exported, and 6 if the image has no volume of this edition",
-};
-
-const DAMAGED: Parameter = Parameter {
-    name: "damaged",
-    kind: WordKind::Flag,
-    need: Need::Flag(None),
-    help: "If blocks are lost, export damaged files too, with zeros in place of the bytes that are lost",
 };
 
 /// The words that `export` takes.

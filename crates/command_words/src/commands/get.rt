@@ -1,14 +1,16 @@
 //! The command `get`.
-ghost use Rattle.std.specs.Prelude.{◌≡◌, false, true, IfErr, IfOk, codes};
+ghost use Rattle.std.specs.Prelude.{◌≡◌, ◌≢◌, None, false, true, IfErr, IfOk, codes};
 ghost use Rattle.command_words.specs.Invocations.{AsksFor, AsksForNothing, TellsOf, is_set};
 ghost use Rattle.command_words.specs.declared.verbs.Verb.TheVariants as verbs;
 
+use crate::bad_words::{BAD, BAD_BLOCKS, CUT, DAMAGED, LIKE, SIZES, bad_image_in, look_at};
 use crate::fault::WordFault;
-use crate::given::{Given, flag_in, missing, text_in};
-use crate::invocation::{Copying, Invocation};
-use crate::parameters::{AT, EDITION, IMAGE, NAMED, Need, Parameter, ValueName, WordKind};
+use crate::given::{Given, excluded, flag_in, missing, text_in};
+use crate::invocation::{BadImage, Copying, Invocation};
+use crate::parameters::{AT, EDITION, IMAGE, NAMED, Need, Parameter, UNSOUND, ValueName, WordKind};
 use crate::read_words::volume_in;
 use crate::several::{no_more, not_empty, paths_in};
+use command_terms::BadLook;
 use std::alloc::Global;
 
 pub(crate) const NAME: &str = "get";
@@ -36,19 +38,36 @@ With -p too, each file gets its permissions and its time of last modification fr
 place. It belongs to the caller, so the set-user-ID and set-group-ID bits are left out, and so is the sticky bit.
 
 A path starts at the root, with or without a leading slash. Repeated slashes count as one, trailing slashes are
-ignored, and each name is cut to 14 bytes. The volume must be sound: its twelve rules are checked first.
+ignored, and each name is cut to 14 bytes. Without --unsound the volume must be sound: its twelve rules are checked
+first.
+
+With --unsound, a file is printed as it is there even if the volume breaks one of rules 3 to 12, which a line names.
+Its bytes may be those of another file, if both use a block. -o can't be used then; `unixvol export` writes many
+files of such a volume.
+
+With --cut, --bad, --bad-blocks, --sizes and --like, blocks of the image are lost, as `unixvol export --help` says of
+them. A file is printed only if none of its bytes is lost, unless --damaged is given. The lines on standard error say
+how many blocks are lost, and what is lost of the file and of the last directory on its path that isn't whole. -o can't
+be used then.
 
 Status:
   0  the file was printed, or all files were written
-  1  `unixvol: unsound, rule N`: this is the first rule that the volume breaks; `unixvol check` says what breaks it
+  1  `unixvol: unsound, rule N`: this is the first rule that the volume breaks; `unixvol check` says what breaks it;
+     nothing was printed, or, with --unsound and from rule 3 on, the file was
      `unixvol: 2 NoEntry`: there is no such file or directory
      `unixvol: 20 NotDirectory`: PATH leads through something that isn't a directory
      `unixvol: 21 IsDirectory`, `unixvol: 102 NotRegular`: PATH is a directory, or a special file
      With -o, all of these lines but the first end with the path, as in `unixvol: 2 NoEntry: /etc/group`
-  2  the command line is wrong
+     if blocks are lost (--cut, --bad, --bad-blocks, --sizes, --like): nothing is lost of the file or on the way to it,
+     and it was printed
+  2  the command line is wrong; or no volume of the edition has the sizes of --sizes or --like
   3  `unixvol: cannot read IMAGE`, or `unixvol: cannot write -`: standard output failed; with -o,
-     `unixvol: cannot write FILE`: this file in FOLDER can't be written; the files before it were written
-  4  `unixvol: 12 NoMemory`";
+     `unixvol: cannot write FILE`: this file in FOLDER can't be written; the files before it were written; or MAPFILE
+     can't be read
+  4  `unixvol: 12 NoMemory`
+  5  if blocks are lost: something is lost of the file, which was not printed without --damaged, or on the way to it; or
+     PATH isn't found and something is lost on the way, as standard error says
+  6  if blocks are lost: more than 1048576 blocks of the image are missing";
 
 const EMPTY_FOLDER: &str = "it is empty; the current folder is .";
 
@@ -78,7 +97,10 @@ const PRESERVE: Parameter = Parameter {
 };
 
 /// The words that `get` takes.
-pub(crate) const WORDS: &[Parameter] = &[EDITION, IMAGE, AT, NAMED, MORE_FILES, OUTPUT, PRESERVE];
+pub(crate) const WORDS: &[Parameter] = &[
+    EDITION, IMAGE, AT, NAMED, MORE_FILES, OUTPUT, PRESERVE, UNSOUND, CUT, BAD, BAD_BLOCKS, SIZES,
+    LIKE, DAMAGED,
+];
 
 /// Reads the words of `get`.
 pub(crate) fn read<'a, G: Given<'a>>(
@@ -90,8 +112,12 @@ pub(crate) fn read<'a, G: Given<'a>>(
     ensures refused { IfErr result (TellsOf (AsksForNothing _clock verbs.Get (G.words given.now))) }
 {
     let volume = volume_in(given)?;
+    let cut = flag_in(given, "cut");
+    let bad = bad_image_in(alloc, given, volume.edition, cut)?;
     match given.first("output") {
         Some(folder) => {
+            not_unsound(given)?;
+            not_bad(given, &bad)?;
             not_empty("FOLDER", folder, EMPTY_FOLDER)?;
             let paths = paths_in(alloc, given)?;
             let copying = Copying::Get {
@@ -105,8 +131,58 @@ pub(crate) fn read<'a, G: Given<'a>>(
             let path = text_in(given, "PATH");
             no_more(given, WANTS_OUTPUT)?;
             nothing_kept(given)?;
-            Ok(Invocation::Get { volume, path })
+            if is_plain(given, &bad) {
+                return Ok(Invocation::Get { volume, path });
+            }
+            let damaged = flag_in(given, "damaged");
+            Ok(look_at(volume, bad, BadLook::Read { path, damaged }))
         }
+    }
+}
+
+/// Succeeds if the words don't ask for files of an unsound volume, of which only one can be read.
+fn not_unsound<'a, G: Given<'a>>(given: &G) -> Result<(), WordFault<'a>>
+    ensures none { IfOk result (λ _. is_set (G.words given.now (codes "unsound")) ≡ false) }
+    ensures refused { IfErr result (TellsOf (is_set (G.words given.now (codes "unsound")) ≡ true)) }
+{
+    if flag_in(given, "unsound") {
+        Err(excluded("output", "unsound", OUTPUT.help))
+    } else {
+        Ok(())
+    }
+}
+
+/// True if the words ask for a file of a sound volume: the volume has to be sound, and none of its blocks is lost.
+fn is_plain<'a, G: Given<'a>>(given: &G, bad: &Option<BadImage<'a>>) -> bool
+    ensures plain { result ≡ true → (bad.now ≡ None) × (is_set (G.words given.now (codes "unsound")) ≡ false) }
+    ensures other { result ≡ false → bad.now ≡ None → is_set (G.words given.now (codes "unsound")) ≡ true }
+{
+    bad.is_none() && !flag_in(given, "unsound")
+}
+
+/// Succeeds if no block of the image is lost, so that several files can be read.
+fn not_bad<'a, G: Given<'a>>(given: &G, bad: &Option<BadImage<'a>>) -> Result<(), WordFault<'a>>
+    ensures none { IfOk result (λ _. bad.now ≡ None) }
+    ensures refused { IfErr result (TellsOf (bad.now ≢ None)) }
+{
+    match bad {
+        None => Ok(()),
+        Some(_) => Err(excluded("output", losing_in(given), OUTPUT.help)),
+    }
+}
+
+/// Returns the name of the first option that says that blocks of the image are lost.
+fn losing_in<'a, G: Given<'a>>(given: &G) -> &'a str {
+    match (
+        given.first("bad"),
+        given.first("bad-blocks"),
+        given.first("sizes"),
+    ) {
+        _ if flag_in(given, "cut") => "cut",
+        (Some(_), ..) => "bad",
+        (None, Some(_), _) => "bad-blocks",
+        (None, None, Some(_)) => "sizes",
+        (None, None, None) => "like",
     }
 }
 

@@ -1,13 +1,14 @@
 //! The command `ls`.
-ghost use Rattle.std.specs.Prelude.{IfErr, IfOk};
-ghost use Rattle.command_words.specs.Invocations.{AreLinesGiven, AsksFor, IsDepthGiven, IsOneWrong, TellsOf};
-ghost use Rattle.command_words.specs.Verbs.{arguments_of};
+ghost use Rattle.std.specs.Prelude.{◌≡◌, false, true, IfErr, IfOk};
+ghost use Rattle.vol_listing.specs.Depths.{goes_below};
+ghost use Rattle.vol_listing.specs.declared.options.Depth.{Depth};
+ghost use Rattle.command_words.specs.Invocations.{AreLinesGiven, AsksFor, AsksForNothing, IsDepthGiven, TellsOf};
 ghost use Rattle.command_words.specs.declared.verbs.Verb.TheVariants as verbs;
 
 use crate::fault::WordFault;
-use crate::given::{Given, flag_in, text_in};
+use crate::given::{Given, excluded, flag_in, text_in};
 use crate::invocation::Invocation;
-use crate::parameters::{AT, EDITION, IMAGE, JSON, Need, Parameter, WordKind};
+use crate::parameters::{AT, EDITION, IMAGE, JSON, Need, Parameter, UNSOUND, WordKind};
 use crate::read_words::{form_in, volume_in};
 use command_terms::Look;
 use std::alloc::Global;
@@ -42,12 +43,17 @@ options have no effect then. The volume need not be sound: only rules 1 and 2 ar
 sizes in its super-block.
 
 A path starts at the root, with or without a leading slash. Repeated slashes count as one, trailing slashes are
-ignored, and each name is cut to 14 bytes. Without --slots the volume must be sound: its twelve rules are checked
-first.
+ignored, and each name is cut to 14 bytes. Without --slots and --unsound the volume must be sound: its twelve rules are
+checked first.
+
+With --unsound, what is there is listed even if the volume breaks one of rules 3 to 12, which a line names. An i-node
+that was damaged is listed as it is. -R can't be used then, since a directory of an unsound volume may be within
+itself; `unixvol find` prints the paths of everything below.
 
 Status:
   0  the names were printed
-  1  `unixvol: unsound, rule N`: this is the first rule that the volume breaks; `unixvol check` says what breaks it
+  1  `unixvol: unsound, rule N`: this is the first rule that the volume breaks; `unixvol check` says what breaks it;
+     nothing was printed, or, with --unsound and from rule 3 on, the names were
      `unixvol: 2 NoEntry`: there is no such file or directory
      `unixvol: 20 NotDirectory`: PATH leads through something that isn't a directory; or, with --slots or without -l,
      -R, -d and --json, PATH isn't a directory itself
@@ -92,7 +98,7 @@ const SLOTS: Parameter = Parameter {
 
 /// The words that `ls` takes.
 pub(crate) const WORDS: &[Parameter] = &[
-    EDITION, IMAGE, AT, PATH, LONG, RECURSIVE, DIRECTORY, JSON, SLOTS,
+    EDITION, IMAGE, AT, PATH, LONG, RECURSIVE, DIRECTORY, JSON, SLOTS, UNSOUND,
 ];
 
 /// Reads the words of `ls`.
@@ -102,13 +108,16 @@ pub(crate) fn read<'a, G: Given<'a>>(
     _clock: Option<u32>,
 ) -> Result<Invocation<'a>, WordFault<'a>>
     ensures read { IfOk result (AsksFor _clock verbs.Ls (G.words given.now)) }
-    ensures refused { IfErr result (TellsOf (IsOneWrong _clock (G.words given.now) (arguments_of verbs.Ls))) }
+    ensures refused { IfErr result (TellsOf (AsksForNothing _clock verbs.Ls (G.words given.now))) }
 {
     let volume = volume_in(given)?;
     let path = text_in(given, "PATH");
     let look = if flag_in(given, "slots") {
         let form = form_in(given);
         Look::Slots { path, form }
+    } else if flag_in(given, "unsound") {
+        let listing = level_in(given)?;
+        Look::ListUnsound { path, listing }
     } else {
         let listing = ListOptions {
             lines: lines_in(given),
@@ -117,6 +126,23 @@ pub(crate) fn read<'a, G: Given<'a>>(
         Look::List { path, listing }
     };
     Ok(Invocation::Look { volume, look })
+}
+
+/// Reads the options of a listing without the directories below, which have no end if an unsound volume has a directory within itself.
+fn level_in<'a, G: Given<'a>>(given: &G) -> Result<ListOptions, WordFault<'a>>
+    ensures lines { IfOk result (λ listing. AreLinesGiven (G.words given.now) listing.lines) }
+    ensures depth { IfOk result (λ listing. IsDepthGiven (G.words given.now) listing.depth) }
+    ensures level { IfOk result (λ listing. goes_below listing.depth ≡ false) }
+    ensures refused { IfErr result (TellsOf ((depth : Depth) × IsDepthGiven (G.words given.now) depth × (goes_below depth ≡ true))) }
+{
+    let depth = depth_in(given);
+    match depth {
+        Depth::Below => Err(excluded("recursive", "unsound", RECURSIVE.help)),
+        Depth::Itself | Depth::Names => Ok(ListOptions {
+            lines: lines_in(given),
+            depth,
+        }),
+    }
 }
 
 /// Reads the format of the lines.

@@ -1,14 +1,14 @@
 //! The command `play`.
 ghost use Rattle.std.specs.Prelude.{IfErr, IfOk};
-ghost use Rattle.command_words.specs.Invocations.{AsksFor, IsOneWrong, TellsOf};
-ghost use Rattle.command_words.specs.Verbs.{arguments_of};
+ghost use Rattle.command_words.specs.Invocations.{AsksFor, AsksForNothing, IsPlayFormGiven, IsTraceAsJson, TellsOf};
 ghost use Rattle.command_words.specs.declared.verbs.Verb.TheVariants as verbs;
 
 use crate::fault::WordFault;
-use crate::given::{Given, flag_in, scripts_in};
+use crate::given::{Given, excluded, flag_in, scripts_in};
 use crate::invocation::{Invocation, Work};
-use crate::parameters::{AT, EDITION, IMAGE, Need, Parameter, WordKind};
+use crate::parameters::{AT, EDITION, IMAGE, JSON, Need, Parameter, WordKind};
 use crate::read_words::volume_in;
+use command_terms::PlayForm;
 use std::alloc::Global;
 
 pub(crate) const NAME: &str = "play";
@@ -20,6 +20,7 @@ Examples:
   unixvol play 7 disk.img first.txt second.txt
   unixvol play --journal 7 disk.img first.txt second.txt
   unixvol play --trace 7 disk.img first.txt        what each call changed, field by field
+  unixvol play --json 7 disk.img first.txt | jq '.lines[] | select(.line == \"refused\")'
 
 Each line of a script is NOW UID GID followed by one of these, with single spaces between all words:
   create PATH PERM        mkdir PATH PERM        link FROM TO          unlink PATH        rmdir PATH
@@ -41,6 +42,12 @@ With --journal the calls in the journal follow, in the order in which they were 
 the last cut. Each is a line of a script. Played on the volume as it was before them, they make the same volume.
 With --trace each of these calls follows, also as a line of a script, and below it, indented, what it changed: the lines
 of `unixvol diff --fields` for the volume before this call and after it. The calls are made again on a copy for that.
+
+With --json, one object is printed on one line. Its \"lines\" has an object for each line of output: \"script\",
+\"line_number\", and \"line\", which is \"ok\" (with \"ino\" or \"count\", if there is a number), \"refused\" (with
+\"refusal\", as \"17 Exists\"), \"stat\" (with the attributes), \"read\" (\"hex\"), \"list\" (\"count\") or \"cut\" (\"record\").
+The other keys are \"records\", \"confirmed\", \"gone\" (null if no script cuts the journal), and \"journal\", the calls in the
+journal with --journal, else null.
 
 Status:
   0  all lines were played, and the volume was saved
@@ -69,11 +76,11 @@ const TRACE: Parameter = Parameter {
     name: "trace",
     kind: WordKind::Flag,
     need: Need::Flag(None),
-    help: "Print at the end what each call in the journal changed, field by field",
+    help: "Print at the end what each call in the journal changed, field by field; not with --json",
 };
 
 /// The words that `play` takes.
-pub(crate) const WORDS: &[Parameter] = &[EDITION, IMAGE, AT, SCRIPT, JOURNAL, TRACE];
+pub(crate) const WORDS: &[Parameter] = &[EDITION, IMAGE, AT, SCRIPT, JOURNAL, TRACE, JSON];
 
 /// Reads the words of `play`.
 pub(crate) fn read<'a, G: Given<'a>>(
@@ -82,14 +89,27 @@ pub(crate) fn read<'a, G: Given<'a>>(
     _clock: Option<u32>,
 ) -> Result<Invocation<'a>, WordFault<'a>>
     ensures read { IfOk result (AsksFor _clock verbs.Play (G.words given.now)) }
-    ensures refused { IfErr result (TellsOf (IsOneWrong _clock (G.words given.now) (arguments_of verbs.Play))) }
+    ensures refused { IfErr result (TellsOf (AsksForNothing _clock verbs.Play (G.words given.now))) }
 {
     let volume = volume_in(given)?;
     let scripts = scripts_in(alloc, given)?;
+    let form = form_in(given)?;
     let work = Work::Play {
         scripts,
         journal: flag_in(given, "journal"),
-        trace: flag_in(given, "trace"),
+        form,
     };
     Ok(Invocation::Work { volume, work })
+}
+
+/// Reads the form of the results. JSON and a trace exclude each other.
+fn form_in<'a, G: Given<'a>>(given: &G) -> Result<PlayForm, WordFault<'a>>
+    ensures read { IfOk result (IsPlayFormGiven (G.words given.now)) }
+    ensures refused { IfErr result (TellsOf (IsTraceAsJson (G.words given.now))) }
+{
+    match (flag_in(given, "json"), flag_in(given, "trace")) {
+        (false, trace) => Ok(PlayForm::Lines { trace }),
+        (true, false) => Ok(PlayForm::Json),
+        (true, true) => Err(excluded("trace", "json", TRACE.help)),
+    }
 }

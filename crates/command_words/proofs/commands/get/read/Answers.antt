@@ -1,7 +1,11 @@
-use Rattle.std.proofs.Common.{drop, sym}
-use Rattle.command_words.proofs.Copies.{empty_output, kept_got, no_paths, too_many_got}
+use Rattle.std.proofs.Common.{drop, subst, sym}
+use Rattle.command_words.proofs.BadLooks.{get_asked}
+use Rattle.command_words.proofs.BadWords.{get_wrong}
+use Rattle.command_words.proofs.Copies.{bad_got, empty_output, kept_got, no_paths, too_many_got, unsound_got}
 use Rattle.command_words.proofs.Faults.{hands_on}
 use Rattle.command_words.proofs.Values.{no_value, volume_wrong}
+use Rattle.command_words.specs.BadWords.{IsBadImageGiven}
+use Rattle.command_words.specs.Invocations.{AsksFor}
 use Rattle.command_words.specs.Verbs.{arguments_of}
 use Rattle.command_words.specs.declared.verbs.Verb.TheVariants as verbs
 use Rattle.command_words.proofs.commands.get.read.Goals as goal
@@ -30,3 +34,27 @@ pub returns-in_err-nothing_kept-in-None-clause-refused : goal.returns-in_err-not
 returns-in_err-nothing_kept-in-None-clause-refused g c =
     hands_on _ _ _ _ c.from_residual-in_err-nothing_kept-in-None.ensures.1 c.in_err-nothing_kept-in-None.ensures.refused
     (kept_got c.args._clock (g.G.Given.words c.args.given.now) (sym c.in-None.ensures))
+
+pub returns-in_err-not_unsound-in-Some-clause-refused : goal.returns-in_err-not_unsound-in-Some-clause-refused
+returns-in_err-not_unsound-in-Some-clause-refused g c =
+    hands_on _ _ _ _ c.from_residual-in_err-not_unsound-in-Some.ensures.1 c.in_err-not_unsound-in-Some.ensures.refused
+    (unsound_got c.args._clock (g.G.Given.words c.args.given.now) c.in-Some.folder.now (sym c.in-Some.ensures))
+
+pub returns-in_err-bad-clause-refused : goal.returns-in_err-bad-clause-refused
+returns-in_err-bad-clause-refused g c =
+    hands_on _ _ _ _ c.from_residual-in_err-bad.ensures.1 c.in_err-bad.ensures.refused (get_wrong c.args._clock (g.G.Given.words c.args.given.now))
+
+pub returns-in_err-not_bad-in-Some-clause-refused : goal.returns-in_err-not_bad-in-Some-clause-refused
+returns-in_err-not_bad-in-Some-clause-refused g c =
+    hands_on _ _ _ _ c.from_residual-in_err-not_bad-in-Some.ensures.1 c.in_err-not_bad-in-Some.ensures.refused
+    (bad_got c.args._clock (g.G.Given.words c.args.given.now) c.in-Some.folder.now c.in_ok-volume.volume.edition c.in_ok-bad.bad (sym c.in-Some.ensures)
+    (subst (λ cut. IsBadImageGiven (g.G.Given.words c.args.given.now) c.in_ok-volume.volume.edition cut c.in_ok-bad.bad) c.flag_in-cut.ensures c.in_ok-bad.ensures.read))
+
+pub returns-clause-read : goal.returns-clause-read
+returns-clause-read g c =
+    subst (AsksFor c.args._clock verbs.Get (g.G.Given.words c.args.given.now)) (sym c.look_at.ensures)
+    (get_asked c.args._clock (g.G.Given.words c.args.given.now) c.in_ok-volume.volume c.text_in-path.result c.flag_in-damaged.result c.in_ok-bad.bad
+    c.in_ok-volume.ensures.read
+    (c.text_in-path.ensures, c.in_ok-no_more-in-None.ensures.none, sym c.in-None.ensures, c.in_ok-nothing_kept-in-None.ensures.none)
+    c.flag_in-damaged.ensures (c.is_plain.ensures.other c.if-is_plain.false)
+    (subst (λ cut. IsBadImageGiven (g.G.Given.words c.args.given.now) c.in_ok-volume.volume.edition cut c.in_ok-bad.bad) c.flag_in-cut.ensures c.in_ok-bad.ensures.read))

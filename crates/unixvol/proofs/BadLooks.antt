@@ -1,9 +1,10 @@
 -- The end of a command that shows part of an image of which some blocks couldn't be read.
-use Rattle.std.proofs.Common.{◌≡◌, ◌≤◌, ℕ, Bool, true, false, List, [], Option, inl, inr, arith}
+use Rattle.std.proofs.Common.{◌≡◌, ◌≤◌, ℕ, Bool, true, false, List, [], ◌∷◌, Option, inl, inr, arith}
 use Rattle.std.specs.Prelude.{option_map}
 use Rattle.bad_maps.specs.declared.maps.ReadRange.{ReadRange}
 use Rattle.command_faults.specs.Faults.{no_memory}
 use Rattle.command_faults.specs.Streams.{Streams}
+use Rattle.command_reads.specs.BadFiles.{get_sights}
 use Rattle.command_reads.specs.BadLooks.{LooksBad, LooksRescued, ShowsRescued, TellsUnrescued}
 use Rattle.command_reads.specs.Export.{begun, told_status}
 use Rattle.command_reads.specs.Find.{found_sights}
@@ -62,6 +63,16 @@ ends_rescued edition image lost screen streams status (bad_looks.Sums path form 
           let told = told_few graded summed.0.short in
           lines_few 6 (told_status graded summed.0.short) wanted lines told.0 told.1 summed.1
       | inr unreached ↦ unreached_few orphans edition image lost path.now text wanted lines unreached
+    ]) shows
+ends_rescued edition image [] screen streams status (bad_looks.Read path damaged) shows =
+    ends_shows 6 (get_sights edition image [] path.now damaged) streams status (omega arith) (λ text wanted lines is. lines_few 6 1 wanted lines (omega arith) (omega arith) is.1) shows
+ends_rescued edition image (mark ∷ lost) screen streams status (bad_looks.Read path damaged) shows =
+    ends_shows 6 (get_sights edition image (mark ∷ lost) path.now damaged) streams status (omega arith)
+    (λ text wanted lines is. elim is [
+      | inl known ↦
+          let told = told_few true known.0.short in
+          lines_few 6 (told_status true known.0.short) wanted lines told.0 told.1 known.1
+      | inr (why, found, way, none, five) ↦ (omega (arith, five), λ e. absurd (omega (arith, five, e)))
     ]) shows
 
 ends_read : (edition : Edition) (bytes : List ℕ) (ranges : List ReadRange) (at : ℕ) (sizes : Option VolumeSizes) (look : BadLook) (screen : Screen) (streams : Streams)

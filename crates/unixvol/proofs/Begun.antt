@@ -1,5 +1,5 @@
 -- The result of a run of the program, from the contents of its two streams before.
-use Rattle.std.proofs.Common.{◌≡◌, ◌⊎◌, ◌∙◌, Bool, false, ℕ, List, Option, inl, inr, subst}
+use Rattle.std.proofs.Common.{◌≡◌, ◌∙◌, Bool, false, ℕ, List, Option, inl, inr, sym, subst}
 use Rattle.command_faults.specs.Streams.{Gets, Streams}
 use Rattle.unixvol.specs.Exits.{Exits, ExitsAfterSaving, ToEnd}
 
@@ -32,12 +32,12 @@ to_end runs ends exits output errors old was had_failed new told failed untold s
   exit,
 )
 
--- if a run ends with the status of `finish_printed`, this is the run's own status or 3
-pub ended_printed : (status finished end : ℕ) → end ≡ finished → Exits status finished → Exits status end
-ended_printed status finished end is (inl same) = inl (is ∙ same)
-ended_printed status finished end is (inr file) = inr (is ∙ file)
+-- if a run ends with the status of `finish_printed`, given its own, this is the run's own status or 3
+pub ended_printed : (status own finished end : ℕ) → own ≡ status → end ≡ finished → Exits own finished → Exits status end
+ended_printed status own finished end told is (inl same) = inl (is ∙ same ∙ told)
+ended_printed status own finished end told is (inr file) = inr (is ∙ file)
 
--- if a run ends with the status of `finish`, this is the run's own status, or 3 instead of 0
-pub ended : (status finished end : ℕ) → end ≡ finished → ExitsAfterSaving status finished → ExitsAfterSaving status end
-ended status finished end is (inl same) = inl (is ∙ same)
-ended status finished end is (inr kept) = inr (kept.0, is ∙ kept.1)
+-- if a run ends with the status of `finish`, given its own, this is the run's own status, or 3 instead of 0
+pub ended : (status own finished end : ℕ) → own ≡ status → end ≡ finished → ExitsAfterSaving own finished → ExitsAfterSaving status end
+ended status own finished end told is (inl same) = inl (is ∙ same ∙ told)
+ended status own finished end told is (inr kept) = inr (sym told ∙ kept.0, is ∙ kept.1)

@@ -1,12 +1,14 @@
 -- Copies of several files: their names, and the result of saving them.
-use Rattle.std.proofs.Common.{◌≡◌, ◌⊎◌, ◌∙◌, ◌<◌, ◌+◌, ◌++◌, ℕ, List, [], ◌∷◌, length, map, take, get_or, Ok, inl, inr, sym, ap, subst, arith}
+use Rattle.std.proofs.Common.{◌≡◌, ◌∙◌, ◌<◌, ◌+◌, ◌++◌, ℕ, List, [], ◌∷◌, length, map, take, get_or, Result, Ok, Err, IfErr, OnOk, inl, inr, sym, ap, subst}
 use Rattle.std.specs.Borrow.{Bor}
 use Rattle.std.specs.Global.{Vec}
 use Rattle.std.proofs.lemmas.List.{map-append, take_more}
 use Rattle.command_reads.specs.declared.get.FileRead.{FileRead}
 use Rattle.command_changes.specs.declared.put.NewFile.{NewFile}
 use Rattle.unixvol.specs.Copies.{AreSaved, EndsRead, name_of}
+use Rattle.unixvol.specs.FileFaults.{file_status, saved_status}
 use Rattle.unixvol.specs.Runs.{IsStatusOfFileOrMemory}
+use Rattle.unixvol.specs.declared.file_fault.FileFault.{FileFault}
 
 -- the name of a new file
 abbrev file_name : NewFile → List ℕ
@@ -26,14 +28,9 @@ names_more paths k d old new file within was is named =
     ∙ ap (λ (name : List ℕ). map path_name (take k paths) ++ name ∷ []) named
     ∙ sym (ap (map path_name) (take_more paths k d within) ∙ map-append path_name (take k paths) (get_or paths k d ∷ []))
 
--- if the status is 0, the files were saved
-pub saved_one : (status : ℕ) (P : Type 0) → ((status ≡ 0) × P) ⊎ IsStatusOfFileOrMemory status → status ≡ 0 → P
-saved_one status P (inl own) is = own.1
-saved_one status P (inr (inl three)) is = absurd (omega (arith, three, is))
-saved_one status P (inr (inr four)) is = absurd (omega (arith, four, is))
-
--- the end of a run that saved the files that were read
-pub saved_read : (taken said : List ℕ → Type 0) (files : Vec FileRead) (given : List FileRead) (status : ℕ) → given ≡ files.items
-    → ((status ≡ 0) × AreSaved taken given) ⊎ IsStatusOfFileOrMemory status → said [] → EndsRead taken said (Ok files) status
-saved_read taken said files given status same saved quiet =
-    (subst (λ (fs : List FileRead). ((status ≡ 0) × AreSaved taken fs) ⊎ IsStatusOfFileOrMemory status) same saved, quiet)
+-- the end of a run that was to save the files that were read
+pub saved_read : (taken said : List ℕ → Type 0) (files : Vec FileRead) (given : List FileRead) (saved : Result (Unit {0}) FileFault) (status : ℕ) → given ≡ files.items
+    → status ≡ saved_status 0 saved → OnOk saved (AreSaved taken given) → IfErr saved (λ fault. IsStatusOfFileOrMemory (file_status fault)) → said []
+    → EndsRead taken said (Ok files) status
+saved_read taken said files given (Ok done) status same is ok err quiet = (inl (is, subst (AreSaved taken) same ok), quiet)
+saved_read taken said files given (Err fault) status same is ok err quiet = (inr (subst IsStatusOfFileOrMemory (sym is) err), quiet)

@@ -57,9 +57,9 @@ script_unread remaining script status is (inl whole) = inr (is, whole.0, whole.1
 script_unread remaining script status is (inr (front, old, new, read, count, bad, same)) = inr (is, old, new, (front, read))
 
 -- an image that was read up to the end of the other edition's volume is one for `check` if that one is longer
-pub other_read : {F : Type 0} (remaining : F → Option (List ℕ)) (at : ℕ) (edition other : Edition) (own : List ℕ) (result : Result (Vec ℕ) ℕ)
+pub other_read : {E F : Type 0} (remaining : F → Option (List ℕ)) (at : ℕ) (edition other : Edition) (own : List ℕ) (result : Result (Vec ℕ) E)
     → other ≡ other_edition edition → GaveAt at (Volume edition) remaining own → is_other_longer edition own ≡ true
     → IfOk result (λ bytes. GaveAt at (Volume other) remaining bytes.items) → IfOk result (λ image. GaveImage at edition remaining image.items)
 other_read remaining at edition other own (Ok image) is read longer gave =
     inr ((own, read, longer), subst (λ (edition : Edition). GaveAt at (Volume edition) remaining image.items) is gave)
-other_read remaining at edition other own (Err status) is read longer gave = tt
+other_read remaining at edition other own (Err fault) is read longer gave = tt

@@ -6,6 +6,7 @@ pub mod Compared
 pub mod Concluded
 pub mod Copied
 pub mod Done
+pub mod FileFaults
 pub mod Given
 pub mod Identified
 pub mod Looked

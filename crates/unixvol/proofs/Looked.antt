@@ -243,7 +243,7 @@ seen_few edition image screen (looks.Inode node form) = found_few edition image 
 seen_few edition image screen (looks.Super form) = plain_few 4 _
 seen_few edition image screen (looks.Free form) = plain_few 4 _
 seen_few edition image screen (looks.Block block form) = plain_few 4 _
-seen_few edition image screen (looks.Dump target radix) = plain_few 4 _
+seen_few edition image screen (looks.Dump target form) = plain_few 4 _
 seen_few edition image screen (looks.Df form) = plain_few 4 _
 seen_few edition image screen (looks.Find path name lost form) = telling_few 5 5 _ (omega arith) (omega arith)
 seen_few edition image screen (looks.Map picture file) = plain_few 4 _
@@ -251,6 +251,8 @@ seen_few edition image screen looks.Uses = plain_few 4 _
 seen_few edition image screen (looks.Check graded form) = checked_few edition image graded form
 seen_few edition image screen (looks.List path listing) = plain_few 4 _
 seen_few edition image screen (looks.Slots path form) = plain_few 4 _
+seen_few edition image screen (looks.ListUnsound path listing) = telling_few 4 1 _ (omega arith) (omega arith)
+seen_few edition image screen (looks.ReadUnsound path) = telling_few 4 1 _ (omega arith) (omega arith)
 
 -- the highest status of a command is at least 4
 highest_few : (look : Look) → 4 ≤ highest_status look
@@ -260,7 +262,7 @@ highest_few (looks.Inode node form) = omega arith
 highest_few (looks.Super form) = omega arith
 highest_few (looks.Free form) = omega arith
 highest_few (looks.Block block form) = omega arith
-highest_few (looks.Dump target radix) = omega arith
+highest_few (looks.Dump target form) = omega arith
 highest_few (looks.Df form) = omega arith
 highest_few (looks.Find path name lost form) = omega arith
 highest_few (looks.Map picture file) = omega arith
@@ -268,6 +270,8 @@ highest_few looks.Uses = omega arith
 highest_few (looks.Check graded form) = most_few graded
 highest_few (looks.List path listing) = omega arith
 highest_few (looks.Slots path form) = omega arith
+highest_few (looks.ListUnsound path listing) = omega arith
+highest_few (looks.ReadUnsound path) = omega arith
 
 ends_seen : (edition : Edition) (image : List ℕ) (screen : Screen) (streams : Streams) (status : ℕ) (look : Look) → Shows (seen edition image screen look) streams status
     → IsEndWithin (highest_status look) streams status
@@ -284,12 +288,14 @@ ends_looks edition image screen streams status (looks.Sums path form lost) shows
 ends_looks edition image screen streams status (looks.Super form) shows = ends_seen edition image screen streams status (looks.Super form) shows
 ends_looks edition image screen streams status (looks.Free form) shows = ends_seen edition image screen streams status (looks.Free form) shows
 ends_looks edition image screen streams status (looks.Block block form) shows = ends_seen edition image screen streams status (looks.Block block form) shows
-ends_looks edition image screen streams status (looks.Dump target radix) shows = ends_seen edition image screen streams status (looks.Dump target radix) shows
+ends_looks edition image screen streams status (looks.Dump target form) shows = ends_seen edition image screen streams status (looks.Dump target form) shows
 ends_looks edition image screen streams status (looks.Df form) shows = ends_seen edition image screen streams status (looks.Df form) shows
 ends_looks edition image screen streams status (looks.Find path name lost form) shows = ends_seen edition image screen streams status (looks.Find path name lost form) shows
 ends_looks edition image screen streams status (looks.Map picture file) shows = ends_seen edition image screen streams status (looks.Map picture file) shows
 ends_looks edition image screen streams status (looks.Check graded form) shows = ends_seen edition image screen streams status (looks.Check graded form) shows
 ends_looks edition image screen streams status (looks.List path listing) shows = ends_seen edition image screen streams status (looks.List path listing) shows
+ends_looks edition image screen streams status (looks.ListUnsound path listing) shows = ends_seen edition image screen streams status (looks.ListUnsound path listing) shows
+ends_looks edition image screen streams status (looks.ReadUnsound path) shows = ends_seen edition image screen streams status (looks.ReadUnsound path) shows
 
 pub ends_unread : {F : Type 0} (remaining : F → Option (List ℕ)) (most : ℕ) (streams : Streams) (status : ℕ) → 4 ≤ most → IsUnread remaining status
     → IsEndWithin most streams status

@@ -1,5 +1,5 @@
 -- The result of a run of `mkfs`, from the volume that was made and whether it was saved.
-use Rattle.std.proofs.Common.{◌≡◌, ◌≢◌, ◌↔◌, ◌⊎◌, ◌∙◌, ℕ, zero, suc, ◌≤◌, true≢false, true, false, List, [], Option, None, Some, IsSome, IfSome, inl, inr, refl, sym, subst, arith}
+use Rattle.std.proofs.Common.{◌≡◌, ◌≢◌, ◌↔◌, ◌⊎◌, ◌∙◌, ℕ, zero, suc, ◌≤◌, true≢false, true, false, List, [], Option, None, Some, IsSome, IfSome, inl, inr, sym, subst, arith}
 use Rattle.std.specs.Io.KnownBytes.{Keeps}
 use Rattle.vol_mkfs.specs.Blank.{Blank, blank_of, IsMade}
 use Rattle.vol_mkfs.specs.Mkfs.{is_size}
@@ -10,7 +10,7 @@ use Rattle.command_changes.specs.Mkfs.{mkfs_line_at}
 use Rattle.command_faults.specs.declared.fault.Fault.{Fault}
 use Rattle.command_changes.specs.declared.mkfs.MadeVolume.{MadeVolume}
 use Rattle.vol_mkfs.specs.declared.blank.NewVolume.{NewVolume}
-use Rattle.unixvol.specs.Runs.{IsStatusOfFileOrMemory, MadeSaved, RunsMkfs, SavesMade}
+use Rattle.unixvol.specs.Runs.{IsStatusOfFileOrMemory, MadeSaved, RunsMkfs}
 
 -- if the volume that was made is the requested one and it was saved, the requested one was saved
 taken_whole : (made : Option Blank) (wanted : Blank) (taken : List ℕ → Type 0) → IfSome made (λ blank. blank ≡ wanted)
@@ -36,13 +36,6 @@ pub told_at : (volume : NewVolume) (status known : ℕ) (fault : Option Fault) (
     → says errors (mkfs_line_at (is_size volume.edition volume.blocks volume.list_blocks) known)
 told_at volume status known fault errors line hears is =
     subst (λ n. says errors (mkfs_line_at (is_size volume.edition volume.blocks volume.list_blocks) n)) is (subst (says errors) line hears)
-
--- if the volume that was made was to be saved, the status after that is the status after `mkfs`
-pub made_saved : (taken : List ℕ → Type 0) (made : MadeVolume) (blank : Blank) (status : ℕ) → made.volume ≡ Some blank → SavesMade taken blank made.status status
-    → MadeSaved taken made status
-made_saved taken made blank status is (inl own) =
-    inl (own.0, subst (λ (volume : Option Blank). IfSome volume (λ one. (bytes : List ℕ) × IsMade one bytes × taken bytes)) (sym is) (own.1, own.2, own.3))
-made_saved taken made blank status is (inr file) = inr (subst (λ (volume : Option Blank). IsSome volume) (sym is) refl, file)
 
 -- the result of `mkfs` satisfies `RunsMkfs`, whether the volume was saved or not
 pub runs_by : (streams : Streams) (taken : List ℕ → Type 0) (volume : NewVolume) (made : MadeVolume) (status : ℕ)

@@ -6,12 +6,14 @@ use Rattle.command_faults.specs.Faults.{fault_status, no_memory}
 use Rattle.command_faults.specs.Streams.{Streams}
 use Rattle.command_faults.specs.declared.answer.Answer.{Answer}
 use Rattle.command_faults.specs.declared.fault.Fault.{Fault}
+use Rattle.command_terms.specs.declared.plays.PlayForm.{PlayForm}
+use Rattle.command_terms.specs.declared.plays.PlayForm.TheVariants as forms
 use Rattle.vol_layout.specs.declared.edition.Edition.{Edition}
 use Rattle.vol_play.specs.Play.{EndsPlay, IsSilent, PlaysVolume}
 use Rattle.vol_receipts.specs.declared.confirm_many.Confirmed.{Confirmed}
 use Rattle.vol_receipts.specs.declared.receipts.Outcome.{Outcome}
 use Rattle.vol_receipts.specs.declared.receipts.Outcome.TheVariants as outcomes
-use Rattle.vol_scripts.specs.Endings.{Finishes, PrintsPlay, outcome_status, printed_status, script_status, step_status}
+use Rattle.vol_scripts.specs.Endings.{Finishes, PrintsPlay, outcome_status, play_json, play_text, printed_status, script_status, step_status}
 use Rattle.vol_scripts.specs.Refuse.{AnswersFault}
 use Rattle.vol_scripts.specs.declared.played.Played.{Played}
 use Rattle.vol_scripts.specs.declared.played.Played.TheVariants as played
@@ -66,9 +68,9 @@ answered_unread streams answer (unread.Line script line flaw) (inl refused) = an
 answered_unread streams answer (unread.Line script line flaw) (inr refused) = answered_fault streams answer 4 refused.ends (omega arith) (omega arith)
 answered_unread streams answer unread.NoMemory refused = answered_fault streams answer 4 refused.ends (omega arith) (omega arith)
 
-answered_finished : (streams : Streams) (answer : Answer) (last : Mounted) (cuts journal : _) (more : List ℕ) (scripts : List (Vec Played))
-    → Finishes last cuts scripts (PrintsPlay last cuts journal more scripts streams.old streams.new streams.had_failed streams.failed) streams.said answer → Answered streams answer
-answered_finished streams answer last cuts journal more scripts finishes = elim finishes.ended [
+answered_finished : (streams : Streams) (answer : Answer) (last : Mounted) (cuts : _) (report : ℕ → List ℕ) (scripts : List (Vec Played))
+    → Finishes last cuts scripts (PrintsPlay last scripts report streams.old streams.new streams.had_failed streams.failed) streams.said answer → Answered streams answer
+answered_finished streams answer last cuts report scripts finishes = elim finishes.ended [
   | inl printed ↦ record {
     within = subst (λ n. n ≤ 4) (sym printed.0.1.3.1) (printed_few scripts printed.0.1.0);
     whole = λ e. (printed.0.0, printed.1);
@@ -84,17 +86,20 @@ answered_untraced streams answer last cuts scripts finishes = elim finishes.ende
   | inr failed ↦ answered_fault streams answer (fault_status failed.0) failed.2 (fault_few failed.0).0 (fault_few failed.0).1
 ]
 
-answered_played : (streams : Streams) (answer : Answer) (last : Mounted) (cuts journal trace : Bool) (scripts : List (Vec Played))
-    → EndsPlay last cuts journal trace scripts streams answer → Answered streams answer
-answered_played streams answer last cuts journal trace scripts (inl (text, is, finishes)) = answered_finished streams answer last cuts journal text scripts finishes
-answered_played streams answer last cuts journal trace scripts (inr (wanted, finishes)) = answered_untraced streams answer last cuts scripts finishes
+answered_played : (streams : Streams) (answer : Answer) (last : Mounted) (cuts journal : Bool) (form : PlayForm) (scripts : List (Vec Played))
+    → EndsPlay last cuts journal form scripts streams answer → Answered streams answer
+answered_played streams answer last cuts journal (forms.Lines trace) scripts (inl (text, is, finishes)) =
+    answered_finished streams answer last cuts (play_text last cuts journal text scripts) scripts finishes
+answered_played streams answer last cuts journal (forms.Lines trace) scripts (inr (wanted, finishes)) = answered_untraced streams answer last cuts scripts finishes
+answered_played streams answer last cuts journal forms.Json scripts finishes =
+    answered_finished streams answer last cuts (play_json last cuts journal scripts) scripts finishes
 
-answered : (edition : Edition) (image : List ℕ) (journal trace : _) (scripts : List (Vec ℕ)) (streams : Streams) (answer : Answer) → PlaysVolume edition image journal trace scripts streams answer
-    → Answered streams answer
-answered edition image journal trace scripts streams answer (inl (silent, (fault, reads, answers))) = answered_unread streams answer fault answers
-answered edition image journal trace scripts streams answer (inr (read, is, inl (silent, (fault, why, refused)))) =
+answered : (edition : Edition) (image : List ℕ) (journal : _) (form : PlayForm) (scripts : List (Vec ℕ)) (streams : Streams) (answer : Answer)
+    → PlaysVolume edition image journal form scripts streams answer → Answered streams answer
+answered edition image journal form scripts streams answer (inl (silent, (fault, reads, answers))) = answered_unread streams answer fault answers
+answered edition image journal form scripts streams answer (inr (read, is, inl (silent, (fault, why, refused)))) =
     answered_fault streams answer (fault_status fault) refused.ends (fault_few fault).0 (fault_few fault).1
-answered edition image journal trace scripts streams answer (inr (read, is, inr (last, came, plays, ends))) = answered_played streams answer last _ _ _ came ends
+answered edition image journal form scripts streams answer (inr (read, is, inr (last, came, plays, ends))) = answered_played streams answer last _ _ _ came ends
 
 ends_saved : (streams : Streams) (taken : List ℕ → Type 0) (answer : Answer) (status : ℕ) → Answered streams answer → EndsSaved taken answer status → IsEnd streams status
 ends_saved streams taken answer status ends (inl own) = record {
@@ -112,8 +117,8 @@ ends_unread remaining streams status (inr memory) = record { within = omega (ari
 
 -- a play's run ends with a status of at most 4, and with 0 only if everything was printed and no fault was reported
 pub ends_played : {F : Type 0} (at : ℕ) (remaining contents : F → Option (List ℕ)) (had : F → Stamp → Type 0) (stood : Stamp → Type 0) (streams : Streams)
-    (edition : Edition) (count : ℕ) (journal trace : Bool) (status : ℕ) → RunsPlay streams (host_files at remaining contents had stood) edition count journal trace status
+    (edition : Edition) (count : ℕ) (journal : Bool) (form : PlayForm) (status : ℕ) → RunsPlay streams (host_files at remaining contents had stood) edition count journal form status
     → IsEnd streams status
-ends_played at remaining contents had stood streams edition count journal trace status (inl nothing) = ends_unread remaining streams status nothing.0
-ends_played at remaining contents had stood streams edition count journal trace status (inr (image, stamp, scripts, answer, opened, given, same, plays, saved)) =
-    ends_saved streams _ answer status (answered edition image journal trace scripts streams answer plays) saved.0
+ends_played at remaining contents had stood streams edition count journal form status (inl nothing) = ends_unread remaining streams status nothing.0
+ends_played at remaining contents had stood streams edition count journal form status (inr (image, stamp, scripts, answer, opened, given, same, plays, saved)) =
+    ends_saved streams _ answer status (answered edition image journal form scripts streams answer plays) saved.0

@@ -1,5 +1,5 @@
 -- The end of `repair` of an image of which some blocks couldn't be read.
-use Rattle.std.proofs.Common.{ℕ, ◌≤◌, Bool, true, false, List, ◌++◌, [], Option, None, Some, inl, inr, refl, sym, subst, arith}
+use Rattle.std.proofs.Common.{ℕ, ◌≤◌, Bool, true, false, List, Option, None, Some, inl, inr, refl, sym, subst, arith}
 use Rattle.std.specs.Option.{is_some}
 use Rattle.command_changes.specs.RepairLosses.{losses_status}
 use Rattle.command_terms.specs.declared.options.Repairing.{Repairing}

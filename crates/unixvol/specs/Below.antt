@@ -1,5 +1,5 @@
 -- `identify -r`: the files and folders that it visits, and the lines that it prints.
-use Rattle.std.specs.Prelude.{◌≡◌, ◌⊎◌, ℕ, zero, suc, max, Bool, false, List, [], ◌∷◌, ◌++◌, reverse, Option, None, Some, string_bytes}
+use Rattle.std.specs.Prelude.{◌≡◌, ◌⊎◌, ℕ, zero, suc, max, List, [], ◌∷◌, ◌++◌, reverse, Option, None, Some, string_bytes}
 use Rattle.std.specs.declared.io.Error.{Error}
 use Rattle.command_faults.specs.Streams.{Streams}
 use Rattle.command_reads.specs.Print.{IsBrokenOff, IsPrintedWith}

@@ -1,5 +1,5 @@
 -- `diff`: the files that it reads, and its result.
-use Rattle.std.specs.Prelude.{◌≡◌, ◌⊎◌, ℕ, ◌≤◌, Bool, false, List, [], Option}
+use Rattle.std.specs.Prelude.{◌≡◌, ◌⊎◌, ℕ, ◌≤◌, List, [], Option}
 use Rattle.command_faults.specs.Streams.{Streams}
 use Rattle.command_reads.specs.Comparison.{ShowsComparison}
 use Rattle.command_reads.specs.TreeDiff.{AreRemarks}
@@ -19,9 +19,9 @@ RunsDiff streams files volume other by status =
 
 -- the lines of a comparison whose status is 0: by fields none, and by tree those of images that aren't sound (this project)
 abbrev pub AreTold : VolumeFile → List ℕ → Comparison → List ℕ → Type 0
-AreTold volume other (comparisons.Tree times) lines =
+AreTold volume other (comparisons.Tree times form) lines =
     (old : List ℕ) × (new : List ℕ) × AreRemarks volume.edition old volume.image.now new other lines
-AreTold volume other (comparisons.Fields all) lines = lines ≡ []
+AreTold volume other (comparisons.Fields all form) lines = lines ≡ []
 
 -- `diff` ends with a status of at most 4; if it is 0, no output failed, and nothing was reported but lines of images that aren't sound (this project)
 pub record EndsComparison (volume : VolumeFile) (other : List ℕ) (by : Comparison) (streams : Streams) (status : ℕ) : Type 0 where

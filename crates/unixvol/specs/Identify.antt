@@ -1,5 +1,5 @@
 -- `identify`: the part of each file that it reads, and the lines that it prints.
-use Rattle.std.specs.Prelude.{◌≡◌, ◌⊎◌, ℕ, ◌+◌, ◌*◌, ◌==◌, max, Bool, false, if◌then◌else◌, List, [], ◌∷◌, ◌++◌, length, take, Option, None, Some}
+use Rattle.std.specs.Prelude.{◌≡◌, ◌⊎◌, ℕ, ◌+◌, ◌*◌, ◌==◌, max, if◌then◌else◌, List, [], ◌∷◌, ◌++◌, length, take, Option, None, Some}
 use Rattle.std.specs.List.{flat_map}
 use Rattle.command_faults.specs.Streams.{Streams}
 use Rattle.command_reads.specs.Print.{IsBrokenOff, IsPrintedWith}

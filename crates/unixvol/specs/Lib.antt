@@ -3,6 +3,7 @@ pub mod Compare
 pub mod Copies
 pub mod Editions
 pub mod Exits
+pub mod FileFaults
 pub mod LookBad
 pub mod Identify
 pub mod RepairBad

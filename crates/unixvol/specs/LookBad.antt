@@ -1,5 +1,5 @@
 -- Commands that show part of an image of which some blocks couldn't be read: the files that they read, and their result.
-use Rattle.std.specs.Prelude.{◌≡◌, ◌⊎◌, ◌*◌, ℕ, Bool, false, List, Option, None, Some}
+use Rattle.std.specs.Prelude.{◌≡◌, ◌⊎◌, ◌*◌, ℕ, List, Option, None, Some}
 use Rattle.command_faults.specs.Streams.{Streams}
 use Rattle.command_reads.specs.BadLooks.{LooksBad}
 use Rattle.command_reads.specs.declared.bad_looks.BadBlocks.{BadBlocks}

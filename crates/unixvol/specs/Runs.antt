@@ -63,6 +63,7 @@ use Rattle.vol_check.specs.declared.checker.Checker.{Checker}
 use Rattle.command_changes.specs.declared.mkfs.MadeVolume.{MadeVolume}
 use Rattle.command_terms.specs.declared.options.Migration.{Migration}
 use Rattle.command_terms.specs.declared.options.Repairing.{Repairing}
+use Rattle.command_terms.specs.declared.plays.PlayForm.{PlayForm}
 use Rattle.vol_mkfs.specs.declared.blank.NewVolume.{NewVolume}
 use Rattle.host_files.specs.OpenedFiles.{IsOpened}
 use Rattle.host_files.specs.Packs.{IsMovedTo, IsReadFrom}
@@ -225,16 +226,13 @@ EndsSaved taken answer status =
 abbrev pub EndsPlayed : (List ℕ → Type 0) → Answer → ℕ → Type 0
 EndsPlayed taken answer status = EndsSaved taken answer status × (answer.status ≡ 3 → status ≡ 3)
 
+-- the bytes of a new volume were saved (this project)
+abbrev pub IsSavedAs : (List ℕ → Type 0) → Blank → Type 0
+IsSavedAs taken blank = (bytes : List ℕ) × IsMade blank bytes × taken bytes
+
 -- the status after `mkfs`: its own if the volume that it made, if any, was saved; otherwise the status of a file (this project)
 abbrev pub MadeSaved : (List ℕ → Type 0) → MadeVolume → ℕ → Type 0
-MadeSaved taken made status =
-    ((status ≡ made.status) × IfSome made.volume (λ blank. (bytes : List ℕ) × IsMade blank bytes × taken bytes))
-    ⊎ (IsSome made.volume × IsStatusOfFileOrMemory status)
-
--- the status after a new volume is to be saved: this one if its bytes were saved, otherwise the status of a file (this project)
-abbrev pub SavesMade : (List ℕ → Type 0) → Blank → ℕ → ℕ → Type 0
-SavesMade taken blank status result =
-    ((result ≡ status) × (bytes : List ℕ) × IsMade blank bytes × taken bytes) ⊎ IsStatusOfFileOrMemory result
+MadeSaved taken made status = ((status ≡ made.status) × IfSome made.volume (IsSavedAs taken)) ⊎ (IsSome made.volume × IsStatusOfFileOrMemory status)
 
 -- nothing is done: a file isn't read, and nothing is printed (this project)
 abbrev pub RunsNothing : Streams → HostFiles → ℕ → Type 0
@@ -318,17 +316,17 @@ RunsCheck streams files screen edition checker form status =
 
 -- `count` scripts are played: nothing is done; or they are read from files and played on an image, which is read from a file and may be changed, and
 -- the volume is saved if the system reported that some file had the stamp of the image's file (this project)
-abbrev pub RunsPlay : Streams → HostFiles → Edition → ℕ → Bool → Bool → ℕ → Type 0
-RunsPlay streams files edition count journal trace status =
+abbrev pub RunsPlay : Streams → HostFiles → Edition → ℕ → Bool → PlayForm → ℕ → Type 0
+RunsPlay streams files edition count journal form status =
     RunsNothing streams files status
     ⊎ ((image : List ℕ) × (stamp : Stamp) × (scripts : List (Vec ℕ)) × (answer : Answer) × files.opened edition image stamp
     × All (λ script. files.script script.items) scripts × (length scripts ≡ count)
-    × PlaysVolume edition image journal trace scripts streams answer × EndsPlayed (λ saved. files.stored saved × files.stood stamp) answer status)
+    × PlaysVolume edition image journal form scripts streams answer × EndsPlayed (λ saved. files.stored saved × files.stood stamp) answer status)
 
 -- work with several threads runs (this project)
 abbrev pub RunsWork : Streams → HostFiles → Screen → Edition → Work → ℕ → Type 0
 RunsWork streams files screen edition (works.Check checker workers form) status = RunsCheck streams files screen edition checker form status
-RunsWork streams files screen edition (works.Play scripts journal trace) status = RunsPlay streams files edition (length scripts.items) journal trace status
+RunsWork streams files screen edition (works.Play scripts journal form) status = RunsPlay streams files edition (length scripts.items) journal form status
 
 -- the screen is a terminal with at least one column if the system reports that standard output is a terminal; otherwise it is no terminal (this
 -- project)
@@ -343,13 +341,15 @@ abbrev pub IsSeen : HostFiles → Edition → Look → List ℕ → Type 0
 IsSeen files edition (looks.Check graded form) image = files.checked edition image
 IsSeen files edition (looks.List path listing) image = files.shown edition image
 IsSeen files edition (looks.Slots path form) image = files.shown edition image
+IsSeen files edition (looks.ListUnsound path listing) image = files.shown edition image
+IsSeen files edition (looks.ReadUnsound path) image = files.shown edition image
 IsSeen files edition (looks.Export path options) image = files.shown edition image
 IsSeen files edition (looks.Sums path form lost) image = files.shown edition image
 IsSeen files edition (looks.Inode node form) image = files.shown edition image
 IsSeen files edition (looks.Super form) image = files.shown edition image
 IsSeen files edition (looks.Free form) image = files.shown edition image
 IsSeen files edition (looks.Block block form) image = files.shown edition image
-IsSeen files edition (looks.Dump target radix) image = files.shown edition image
+IsSeen files edition (looks.Dump target form) image = files.shown edition image
 IsSeen files edition (looks.Df form) image = files.shown edition image
 IsSeen files edition (looks.Find path name lost form) image = files.shown edition image
 IsSeen files edition (looks.Map picture file) image = files.shown edition image
@@ -550,13 +550,15 @@ highest_status (looks.Inode node form) = 4
 highest_status (looks.Super form) = 4
 highest_status (looks.Free form) = 4
 highest_status (looks.Block block form) = 4
-highest_status (looks.Dump target radix) = 4
+highest_status (looks.Dump target form) = 4
 highest_status (looks.Df form) = 4
 highest_status (looks.Find path name lost form) = 5
 highest_status (looks.Map picture file) = 4
 highest_status looks.Uses = 4
 highest_status (looks.List path listing) = 4
 highest_status (looks.Slots path form) = 4
+highest_status (looks.ListUnsound path listing) = 4
+highest_status (looks.ReadUnsound path) = 4
 
 -- work with several threads runs to its end (this project)
 abbrev pub WorksToEnd : HostFiles → Screen → Option (List ℕ) → Option (List ℕ) → Edition → Work → ℕ → Type 0

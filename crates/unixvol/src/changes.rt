@@ -2,12 +2,14 @@
 ghost use Rattle.std.specs.Prelude.{◌≡◌, ◌+◌, ◌*◌, ◌/◌, ◌^◌, ◌≤◌, min, ℕ, IfErr, IfOk, List};
 ghost use Rattle.std.specs.Process.{exit_status};
 ghost use Rattle.command_faults.specs.Streams.{ErrorStream, Hears, streams};
+ghost use Rattle.unixvol.specs.FileFaults.{file_status, run_fault, run_status};
 ghost use Rattle.unixvol.specs.Runs.{ChangesToEnd, EndsWith, GaveArchive, GavePut, IsGivenTo, IsUngiven, IsUnread, RunsChange, host_files, host_input, wants_terminal};
 
-use crate::explain::{NamedFile, explain_unread, finish, tell_fault};
+use crate::explain::{finish, tell_end};
+use crate::file_fault::{FailedRun, FileFault, NamedFile};
 use crate::host::Surroundings;
 use crate::packed::packed_words;
-use crate::read::{Begun, begin, read_given, read_open};
+use crate::read::{expect_volume, read_given, read_image, read_open};
 use crate::save::save_traced;
 use crate::subject::Subject;
 use command_changes::change::perform;
@@ -58,7 +60,7 @@ pub fn run_to_end<
     let mut errors = IntoWrite::new(errors);
     let mut output = noted_writer(output);
     let mut packed = None;
-    let ending = run(
+    let ended = run(
         host,
         input,
         is_terminal,
@@ -69,58 +71,38 @@ pub fn run_to_end<
         &mut packed,
     );
     let subject = Subject::of_change(volume, change).with_packed(packed);
-    tell_fault(
-        host,
-        &mut errors,
-        &ending.fault,
-        output.error(),
-        Some(subject),
-    );
-    ExitCode::from(finish(host, output.into_inner().into_inner(), ending.status))
+    let status = tell_end(host, &mut errors, &ended, output.error(), Some(subject));
+    ExitCode::from(finish(host, output.into_inner().into_inner(), status))
 }
 
 /// Changes the volume in a file, saves it, prints its trace if `trace`, and returns the result of the run. If the bytes to import are a compressed file, sets
 /// `packed` to the message for it.
-fn run<R: ImageFiles + Clock + Eprint + AllocGlobal, I: Read + Drop, O: Sink>(
+fn run<'a, R: ImageFiles + Clock + Eprint + AllocGlobal, I: Read + Drop, O: Sink>(
     host: &Surroundings<'_, R>,
     input: I,
     is_terminal: bool,
     output: &mut O,
-    volume: VolumeFile<'_>,
-    change: Change<'_>,
+    volume: VolumeFile<'a>,
+    change: Change<'a>,
     trace: bool,
     packed: &mut Option<&'static str>,
-) -> Ending
-    ensures { (errors : ErrorStream) → Hears errors result.fault → (lines : List ℕ)
-        × RunsChange (streams O.contents O.failed output.old output.new errors) (host_files volume.entry.at R.File.remaining R.File.contents R.had R.stood) (host_input I.remaining) is_terminal volume.entry.edition change.entry trace lines result.status
-        × EndsWith lines (streams O.contents O.failed output.old output.new errors) result.status }
+) -> Result<Ending, FailedRun<'a>>
+    ensures { (errors : ErrorStream) → Hears errors (run_fault result) → (lines : List ℕ)
+        × RunsChange (streams O.contents O.failed output.old output.new errors) (host_files volume.entry.at R.File.remaining R.File.contents R.had R.stood) (host_input I.remaining) is_terminal volume.entry.edition change.entry trace lines (run_status result)
+        × EndsWith lines (streams O.contents O.failed output.old output.new errors) (run_status result) }
 {
     let needs = change.needs();
     if wants_terminal(is_terminal, needs) {
-        return Ending {
-            status: explain_unread(host, NamedFile::Input, io::Error::other(TERMINAL)),
-            fault: None,
-        };
+        let why = io::Error::other(TERMINAL);
+        return Err(FailedRun::from(FileFault::Unread(NamedFile::Input, why)));
     }
-    let begun = match begin(host, volume, || given_to(host, volume, input, needs)) {
-        Ok(begun) => begun,
-        Err(status) => {
-            return Ending {
-                status,
-                fault: None,
-            };
-        }
-    };
+    expect_volume(host.rt, volume)?;
+    let given = given_to(host.rt, volume, input, needs)?;
     // The image's file stays open, and so locked, until the result is saved.
-    let Begun {
-        given,
-        image,
-        stamp,
-        locked: _locked,
-    } = begun;
+    let (image, stamp, _locked) = read_image(host, volume)?;
     *packed = packed_words(&given.bytes);
     let outcome = perform(host.rt.alloc(), volume.edition, image, given, change, trace);
-    save_traced(host, volume, stamp, outcome, output)
+    save_traced(host.rt, volume, stamp, outcome, output)
 }
 
 /// True if an archive is needed from standard input, which is a terminal.
@@ -131,23 +113,23 @@ fn wants_terminal(is_terminal: bool, needs: Needs<'_>) -> bool
 }
 
 /// Returns the bytes that a change needs, with what is kept of their file; none if it needs nothing.
-fn given_to<R: ImageFiles + Eprint + AllocGlobal, I: Read + Drop>(
-    host: &Surroundings<'_, R>,
+fn given_to<'a, R: ImageFiles + AllocGlobal, I: Read + Drop>(
+    rt: &R,
     volume: VolumeFile<'_>,
     input: I,
-    needs: Needs<'_>,
-) -> Result<GivenFile, u8>
+    needs: Needs<'a>,
+) -> Result<GivenFile, FileFault<'a>>
     ensures given { IfOk result (IsGivenTo (GavePut volume.entry.edition R.File.remaining) (GaveArchive I.remaining) needs.entry) }
-    ensures fault { IfErr result (IsUngiven (IsUnread R.File.remaining) (IsUnread I.remaining) needs.entry) }
+    ensures fault { IfErr result (λ fault. IsUngiven (IsUnread R.File.remaining) (IsUnread I.remaining) needs.entry (file_status fault)) }
 {
     match needs {
-        Needs::File { file, keep } => read_given(host, volume.edition, file, keep),
+        Needs::File { file, keep } => read_given(rt, volume.edition, file, keep),
         Needs::Archive => {
-            let blocks = archive_room(host.rt, volume.image);
-            let read = read_open(host, NamedFile::Input, UpTo::Archive(blocks), input)?;
+            let up_to = UpTo::Archive(archive_room(rt, volume.image));
+            let read = read_open(rt.alloc(), NamedFile::Input, up_to, input)?;
             Ok(with_nothing(read.bytes))
         }
-        Needs::Nothing => Ok(with_nothing(Vec::new(host.rt.alloc()))),
+        Needs::Nothing => Ok(with_nothing(Vec::new(rt.alloc()))),
     }
 }
 

@@ -1,19 +1,21 @@
 //! `cat`, `get`, `mkfs`, `migrate`, `resize`, `salvage -n`, `salvage -o` and `repair`, which print all or nothing: the files they open and save.
-ghost use Rattle.std.specs.Prelude.{◌≡◌, ◌≢◌, ◌≤◌, ℕ, Bool, true, List, Option, IfOk};
+ghost use Rattle.std.specs.Prelude.{◌≡◌, ◌≢◌, ◌≤◌, ℕ, Bool, true, List, None, Option, IfOk};
 ghost use Rattle.std.specs.Io.KnownBytes.{Keeps};
 ghost use Rattle.std.specs.Process.{exit_status};
 ghost use Rattle.command_faults.specs.Faults.{line_after};
 ghost use Rattle.command_faults.specs.Streams.{ErrorStream, Hears, still, streams};
+ghost use Rattle.unixvol.specs.FileFaults.{run_fault, run_status};
 ghost use Rattle.unixvol.specs.Reports.{IsOneFile, may_report, may_report_read};
 ghost use Rattle.unixvol.specs.Runs.{IsPlainCommand, IsUnread, GaveAt, PrintsBody, RunsMigrate, RunsMkfs, RunsRepair, RunsSalvage, Runs, RunsRead, SavesCopy, RunsToEnd, Ends, but_remarks, host_files, made_in, new_place_at, read_at, volume_at};
 ghost use Rattle.host_files.specs.Save.{IsTaken};
 
-use crate::explain::{explain_cat, explain_command_line, finish, tell_fault};
+use crate::explain::{explain_cat, explain_command_line, finish, tell_end};
+use crate::file_fault::{FailedRun, after_saving};
 use crate::host::Surroundings;
 use crate::looks::run_get;
 use crate::read::{read_stamped, read_volume};
 use crate::resize::run_resize;
-use crate::save::{explain_there, is_kept, save_made, save_migrated, save_over};
+use crate::save::{expect_new, save_made, save_migrated, save_over};
 use crate::subject::Subject;
 use clap::Error;
 use command_changes::migrate::migrate_image;
@@ -49,50 +51,47 @@ pub fn run_to_end<R: ImageFiles + Clock + Eprint + AllocGlobal, O: Write + Drop,
     let mut errors = IntoWrite::new(errors);
     let mut output = noted_writer(output);
     let subject = Subject::of_read(&read);
-    let ending = run(host, &mut output, read);
-    tell_fault(host, &mut errors, &ending.fault, output.error(), subject);
-    ExitCode::from(finish(host, output.into_inner().into_inner(), ending.status))
+    let ended = run(host, &mut output, read);
+    let status = tell_end(host, &mut errors, &ended, output.error(), subject);
+    ExitCode::from(finish(host, output.into_inner().into_inner(), status))
 }
 
 /// Runs the command line that was read, and returns the result of the run, which holds if [`finish`] succeeds.
-fn run<R: ImageFiles + Clock + Eprint + AllocGlobal, O: Sink>(
+fn run<'a, R: ImageFiles + Clock + Eprint + AllocGlobal, O: Sink>(
     host: &Surroundings<'_, R>,
     output: &mut O,
-    read: Result<Invocation<'_>, Error>,
-) -> Ending
+    read: Result<Invocation<'a>, Error>,
+) -> Result<Ending, FailedRun<'a>>
     requires { IfOk read IsPlainCommand }
-    ensures runs { (errors : ErrorStream) → Hears errors result.fault
-        → RunsRead (streams O.contents O.failed output.old output.new errors) (host_files (read_at read.entry) R.File.remaining R.File.contents R.had R.stood) result.status read.entry }
-    ensures ends { (errors : ErrorStream) → Hears errors result.fault
-        → Ends (but_remarks (may_report_read read.entry) (streams O.contents O.failed output.old output.new errors)) result.status }
+    ensures runs { (errors : ErrorStream) → Hears errors (run_fault result)
+        → RunsRead (streams O.contents O.failed output.old output.new errors) (host_files (read_at read.entry) R.File.remaining R.File.contents R.had R.stood) (run_status result) read.entry }
+    ensures ends { (errors : ErrorStream) → Hears errors (run_fault result)
+        → Ends (but_remarks (may_report_read read.entry) (streams O.contents O.failed output.old output.new errors)) (run_status result) }
 {
     match read {
         Ok(invocation) => carry_out(host, output, invocation),
-        Err(error) => Ending {
+        Err(error) => Ok(Ending {
             status: explain_command_line(host, output, &error),
             fault: None,
-        },
+        }),
     }
 }
 
 /// Runs a command, and returns the result of the run.
-fn carry_out<R: ImageFiles + Clock + Eprint + AllocGlobal, O: Sink>(
+fn carry_out<'a, R: ImageFiles + Clock + Eprint + AllocGlobal, O: Sink>(
     host: &Surroundings<'_, R>,
     output: &mut O,
-    invocation: Invocation<'_>,
-) -> Ending
+    invocation: Invocation<'a>,
+) -> Result<Ending, FailedRun<'a>>
     requires { IsPlainCommand invocation }
-    ensures runs { (errors : ErrorStream) → Hears errors result.fault
-        → Runs (streams O.contents O.failed output.old output.new errors) (host_files (volume_at invocation.entry) R.File.remaining R.File.contents R.had R.stood) result.status invocation.entry }
-    ensures ends { (errors : ErrorStream) → Hears errors result.fault
-        → Ends (but_remarks (may_report invocation.entry) (streams O.contents O.failed output.old output.new errors)) result.status }
+    ensures runs { (errors : ErrorStream) → Hears errors (run_fault result)
+        → Runs (streams O.contents O.failed output.old output.new errors) (host_files (volume_at invocation.entry) R.File.remaining R.File.contents R.had R.stood) (run_status result) invocation.entry }
+    ensures ends { (errors : ErrorStream) → Hears errors (run_fault result)
+        → Ends (but_remarks (may_report invocation.entry) (streams O.contents O.failed output.old output.new errors)) (run_status result) }
 {
     match invocation {
-        Invocation::Cat { volume, node } => Ending {
-            status: run_cat(host, output, volume, node),
-            fault: None,
-        },
-        Invocation::Get { volume, path } => run_get(host, output, volume, path),
+        Invocation::Cat { volume, node } => run_cat(host, output, volume, node),
+        Invocation::Get { volume, path } => run_get(host.rt, output, volume, path),
         Invocation::Mkfs { place, volume } => run_mkfs(host, place, volume),
         Invocation::Migrate {
             old,
@@ -123,58 +122,56 @@ fn carry_out<R: ImageFiles + Clock + Eprint + AllocGlobal, O: Sink>(
     }
 }
 
-/// Prints the body of an i-node of the volume in a file, and returns the exit status.
-fn run_cat<R: ImageFiles + Eprint + AllocGlobal, O: Sink>(
+/// Prints the body of an i-node of the volume in a file, and returns the result of the run.
+fn run_cat<'a, R: ImageFiles + Eprint + AllocGlobal, O: Sink>(
     host: &Surroundings<'_, R>,
     output: &mut O,
-    volume: VolumeFile<'_>,
+    volume: VolumeFile<'a>,
     node: NodeName<'_>,
-) -> u8
+) -> Result<Ending, FailedRun<'a>>
     ensures shown { PrintsBody (IsUnread R.File.remaining) (GaveAt volume.entry.at (UpTo.Volume volume.entry.edition) R.File.remaining) (O.contents output.old) (O.contents output.new)
-        (O.failed output.old) (O.failed output.new) volume.entry.edition node.entry result }
-    ensures whole { result ≡ 0 → O.failed output.new ≡ O.failed output.old }
-    ensures silent { result ≢ 0 → result ≢ 3 → Keeps (O.contents output.old) (O.contents output.new) }
-    ensures within { result ≤ 4 }
+        (O.failed output.old) (O.failed output.new) volume.entry.edition node.entry (run_status result) }
+    ensures whole { run_status result ≡ 0 → O.failed output.new ≡ O.failed output.old }
+    ensures silent { run_status result ≢ 0 → run_status result ≢ 3 → Keeps (O.contents output.old) (O.contents output.new) }
+    ensures within { run_status result ≤ 4 }
+    ensures quiet { run_fault result ≡ None }
 {
-    let image = match read_volume(host, volume) {
-        Ok(image) => Image::from_bytes(image),
-        Err(status) => return status,
-    };
+    let image = Image::from_bytes(read_volume(host.rt, volume)?);
     match print_file(volume.edition, node, &image, output) {
-        Ok(()) => DONE,
-        Err(fault) => explain_cat(host, fault, Subject::of_cat(volume, node)),
+        Ok(()) => Ok(Ending {
+            status: DONE,
+            fault: None,
+        }),
+        Err(fault) => Ok(explain_cat(host, fault, Subject::of_cat(volume, node))),
     }
 }
 
 /// Makes a new volume, saves it in its place, and returns the result of the run.
-fn run_mkfs<R: ImageFiles + Clock + Eprint + AllocGlobal>(
+fn run_mkfs<'a, R: ImageFiles + Clock + Eprint + AllocGlobal>(
     host: &Surroundings<'_, R>,
-    place: NewPlace<'_>,
+    place: NewPlace<'a>,
     volume: NewVolume,
-) -> Ending
-    ensures { (known : Option (List ℕ)) (failed : Bool) (errors : ErrorStream) → Hears errors result.fault
-        → RunsMkfs (still known failed errors) (made_in (host_files (new_place_at place.entry) R.File.remaining R.File.contents R.had R.stood) place.entry volume.blocks) volume result.status }
+) -> Result<Ending, FailedRun<'a>>
+    ensures { (known : Option (List ℕ)) (failed : Bool) (errors : ErrorStream) → Hears errors (run_fault result)
+        → RunsMkfs (still known failed errors) (made_in (host_files (new_place_at place.entry) R.File.remaining R.File.contents R.had R.stood) place.entry volume.blocks) volume (run_status result) }
 {
     let made = make_volume(host.rt.alloc(), volume);
-    let status = save_made(host, place, volume.blocks, &made);
-    Ending {
-        status,
-        fault: made.fault,
-    }
+    let saved = save_made(host, place, volume.blocks, &made);
+    after_saving(saved, made.status, made.fault)
 }
 
 /// Makes a volume of the seventh edition from the one that begins at block `at` of the file `old`, saves it in a file, and returns the result of the run.
-fn run_migrate<R: ImageFiles + Clock + Eprint + AllocGlobal>(
+fn run_migrate<'a, R: ImageFiles + Clock + Eprint + AllocGlobal>(
     host: &Surroundings<'_, R>,
-    old: &str,
+    old: &'a str,
     at: u32,
-    new: MadeFile<'_>,
+    new: MadeFile<'a>,
     migration: Migration,
-) -> Ending
-    ensures runs { (known : Option (List ℕ)) (failed : Bool) (errors : ErrorStream) → Hears errors result.fault
-        → RunsMigrate (still known failed errors) (host_files at R.File.remaining R.File.contents R.had R.stood) migration result.status }
-    ensures ends { (known : Option (List ℕ)) (failed : Bool) (errors : ErrorStream) → Hears errors result.fault
-        → Ends (still known failed errors) result.status }
+) -> Result<Ending, FailedRun<'a>>
+    ensures runs { (known : Option (List ℕ)) (failed : Bool) (errors : ErrorStream) → Hears errors (run_fault result)
+        → RunsMigrate (still known failed errors) (host_files at R.File.remaining R.File.contents R.had R.stood) migration (run_status result) }
+    ensures ends { (known : Option (List ℕ)) (failed : Bool) (errors : ErrorStream) → Hears errors (run_fault result)
+        → Ends (still known failed errors) (run_status result) }
 {
     let volume = VolumeFile {
         edition: Edition::V6,
@@ -182,127 +179,89 @@ fn run_migrate<R: ImageFiles + Clock + Eprint + AllocGlobal>(
         image: old,
         at,
     };
-    let (image, stamp) = match read_stamped(host, volume) {
-        Ok(read) => read,
-        Err(status) => {
-            return Ending {
-                status,
-                fault: None,
-            };
-        }
-    };
+    let (image, stamp) = read_stamped(host.rt, volume)?;
     let alloc = host.rt.alloc();
     let answer = conclude(unremarked(alloc, migrate_image(alloc, image, migration)));
-    let status = save_migrated(host, new, stamp, &answer);
-    Ending {
-        status,
-        fault: answer.fault,
-    }
+    let saved = save_migrated(host, new, stamp, &answer);
+    after_saving(saved, answer.status, answer.fault)
 }
 
 /// Salvages the volume in a file, in memory; saves it in the file `copy`, if one is named; prints how its free list changed, and returns how the run ends.
-fn run_salvage<R: ImageFiles + Clock + Eprint + AllocGlobal, O: Sink>(
+fn run_salvage<'a, R: ImageFiles + Clock + Eprint + AllocGlobal, O: Sink>(
     host: &Surroundings<'_, R>,
     output: &mut O,
-    volume: VolumeFile<'_>,
-    copy: Option<&str>,
-) -> Ending
-    ensures { (errors : ErrorStream) → Hears errors result.fault
-        → RunsSalvage (streams O.contents O.failed output.old output.new errors) (host_files volume.entry.at R.File.remaining R.File.contents R.had R.stood) volume.entry.edition copy.entry result.status }
+    volume: VolumeFile<'a>,
+    copy: Option<&'a str>,
+) -> Result<Ending, FailedRun<'a>>
+    ensures { (errors : ErrorStream) → Hears errors (run_fault result)
+        → RunsSalvage (streams O.contents O.failed output.old output.new errors) (host_files volume.entry.at R.File.remaining R.File.contents R.had R.stood) volume.entry.edition copy.entry (run_status result) }
 {
-    let (image, stamp) = match read_stamped(host, volume) {
-        Ok(read) => read,
-        Err(status) => {
-            return Ending {
-                status,
-                fault: None,
-            };
-        }
-    };
+    let (image, stamp) = read_stamped(host.rt, volume)?;
     let salvaged = match salvage_with_report(host.rt.alloc(), volume.edition, image) {
         Ok(salvaged) => salvaged,
-        Err(fault) => return Ending::from(fault),
+        Err(fault) => return Ok(Ending::from(fault)),
     };
     match copy {
         Some(copy) => save_copy(host, output, copy, stamp, salvaged),
-        None => print_with(&salvaged.report, DONE, output),
+        None => Ok(print_with(&salvaged.report, DONE, output)),
     }
 }
 
 /// Repairs the volume in a file, to a copy in memory; saves it in the file `copy`, if one is named; prints all that differs, and returns how the run ends.
-fn run_repair<R: ImageFiles + Clock + Eprint + AllocGlobal, O: Sink>(
+fn run_repair<'a, R: ImageFiles + Clock + Eprint + AllocGlobal, O: Sink>(
     host: &Surroundings<'_, R>,
     output: &mut O,
-    volume: VolumeFile<'_>,
-    copy: Option<MadeFile<'_>>,
+    volume: VolumeFile<'a>,
+    copy: Option<MadeFile<'a>>,
     repairing: Repairing,
-) -> Ending
-    ensures { (errors : ErrorStream) → Hears errors result.fault
-        → RunsRepair (streams O.contents O.failed output.old output.new errors) (host_files volume.entry.at R.File.remaining R.File.contents R.had R.stood) volume.entry.edition copy.entry repairing result.status }
+) -> Result<Ending, FailedRun<'a>>
+    ensures { (errors : ErrorStream) → Hears errors (run_fault result)
+        → RunsRepair (streams O.contents O.failed output.old output.new errors) (host_files volume.entry.at R.File.remaining R.File.contents R.had R.stood) volume.entry.edition copy.entry repairing (run_status result) }
 {
-    let (image, stamp) = match read_stamped(host, volume) {
-        Ok(read) => read,
-        Err(status) => {
-            return Ending {
-                status,
-                fault: None,
-            };
-        }
-    };
+    let (image, stamp) = read_stamped(host.rt, volume)?;
     let repaired = match repair_with_report(host.rt.alloc(), volume.edition, image, repairing) {
         Ok(repaired) => repaired,
-        Err(fault) => return Ending::from(fault),
+        Err(fault) => return Ok(Ending::from(fault)),
     };
     match copy {
         Some(copy) => save_unless_kept(host, output, copy, stamp, repaired),
-        None => print_with(&repaired.report, DONE, output),
+        None => Ok(print_with(&repaired.report, DONE, output)),
     }
 }
 
-/// Saves a volume as [`save_copy`] does, unless the file must be new and something exists at its path, which is reported then.
-fn save_unless_kept<R: ImageFiles + Clock + Eprint + AllocGlobal, O: Sink>(
+/// Saves a volume as [`save_copy`] does, unless the file must be new and something exists at its path.
+fn save_unless_kept<'a, R: ImageFiles + Clock + Eprint + AllocGlobal, O: Sink>(
     host: &Surroundings<'_, R>,
     output: &mut O,
-    copy: MadeFile<'_>,
+    copy: MadeFile<'a>,
     old: Stamp,
     made: ReportedVolume,
-) -> Ending
-    ensures { (errors : ErrorStream) → Hears errors result.fault
-        → SavesCopy (streams O.contents O.failed output.old output.new errors) (IsTaken R.File.contents) R.stood made.bytes.items made.report.items result.status }
+) -> Result<Ending, FailedRun<'a>>
+    ensures { (errors : ErrorStream) → Hears errors (run_fault result)
+        → SavesCopy (streams O.contents O.failed output.old output.new errors) (IsTaken R.File.contents) R.stood made.bytes.items made.report.items (run_status result) }
 {
-    if is_kept(host, copy) {
-        return Ending {
-            status: explain_there(host, copy.path),
-            fault: None,
-        };
-    }
+    expect_new(host.rt, copy)?;
     save_copy(host, output, copy.path, old, made)
 }
 
 /// Saves a volume in the file `copy`, prints its report, and returns how the run ends. The file with the stamp `old`, from which
 /// it was made, isn't replaced. If the file is standard output, the report goes to standard error.
-fn save_copy<R: ImageFiles + Clock + Eprint + AllocGlobal, O: Sink>(
+fn save_copy<'a, R: ImageFiles + Clock + Eprint + AllocGlobal, O: Sink>(
     host: &Surroundings<'_, R>,
     output: &mut O,
-    copy: &str,
+    copy: &'a str,
     old: Stamp,
     made: ReportedVolume,
-) -> Ending
-    ensures { (errors : ErrorStream) → Hears errors result.fault
-        → SavesCopy (streams O.contents O.failed output.old output.new errors) (IsTaken R.File.contents) R.stood made.bytes.items made.report.items result.status }
+) -> Result<Ending, FailedRun<'a>>
+    ensures { (errors : ErrorStream) → Hears errors (run_fault result)
+        → SavesCopy (streams O.contents O.failed output.old output.new errors) (IsTaken R.File.contents) R.stood made.bytes.items made.report.items (run_status result) }
 {
     let is_output = is_output(host.rt, copy);
-    let status = save_over(host, copy, old, &made.bytes, DONE);
-    if status != DONE {
-        return Ending {
-            status,
-            fault: None,
-        };
-    }
+    save_over(host, copy, old, &made.bytes)?;
     if is_output {
-        return tell_report(made.report);
+        return Ok(tell_report(made.report));
     }
-    print_with(&made.report, DONE, output)
+    Ok(print_with(&made.report, DONE, output))
 }
 
 /// Returns the result of a run that succeeds, and has a report for standard error.

@@ -3,9 +3,11 @@ ghost use Rattle.std.specs.Prelude.{◌≡◌, IfErr, IfOk};
 ghost use Rattle.std.specs.Process.{exit_status};
 ghost use Rattle.command_faults.specs.Streams.{ErrorStream, Hears, streams};
 ghost use Rattle.unixvol.specs.Compare.{ComparesToEnd, RunsDiff};
+ghost use Rattle.unixvol.specs.FileFaults.{file_status, run_fault, run_status};
 ghost use Rattle.unixvol.specs.Runs.{IsUnread, host_files};
 
-use crate::explain::{finish_printed, tell_fault};
+use crate::explain::{finish_printed, tell_end};
+use crate::file_fault::{FailedRun, FileFault};
 use crate::host::Surroundings;
 use crate::read::read_volume;
 use crate::subject::Subject;
@@ -35,16 +37,10 @@ pub fn run_to_end<R: ImageFiles + Eprint + AllocGlobal, O: Write + Drop, E: Writ
 {
     let mut errors = IntoWrite::new(errors);
     let mut output = noted_writer(output);
-    let ending = run(host, &mut output, volume, other, by);
-    let subject = subject_of(host.rt.alloc(), volume, other, &ending.fault);
-    tell_fault(
-        host,
-        &mut errors,
-        &ending.fault,
-        output.error(),
-        Some(subject),
-    );
-    ExitCode::from(finish_printed(host, output.into_inner().into_inner(), ending.status))
+    let ended = run(host.rt, &mut output, volume, other, by);
+    let subject = subject_of(host.rt.alloc(), volume, other, &ended);
+    let status = tell_end(host, &mut errors, &ended, output.error(), Some(subject));
+    ExitCode::from(finish_printed(host, output.into_inner().into_inner(), status))
 }
 
 /// Returns the subject of a comparison: the image that the last line of its fault names, or else the old one.
@@ -52,13 +48,18 @@ fn subject_of<'a>(
     alloc: Global,
     volume: VolumeFile<'a>,
     other: &'a str,
-    fault: &Option<Fault>,
+    ended: &Result<Ending, FailedRun<'_>>,
 ) -> Subject<'a> {
-    let image = match fault {
-        Some(
-            Fault::Worded {
-                rule: Some(rule),
-                lines,
+    let image = match ended {
+        Ok(
+            Ending {
+                fault: Some(
+                    Fault::Worded {
+                        rule: Some(rule),
+                        lines,
+                    },
+                ),
+                ..
             },
         ) if is_about(alloc, lines, *rule, other) => other,
         _ => volume.image,
@@ -76,52 +77,36 @@ fn is_about(alloc: Global, lines: &[u8], rule: u8, name: &str) -> bool {
 }
 
 /// Shows how the volumes in two files differ, and returns the result of the run, which holds if [`finish_printed`] succeeds.
-fn run<R: ImageFiles + Eprint + AllocGlobal, O: Sink>(
-    host: &Surroundings<'_, R>,
+fn run<'a, R: ImageFiles + AllocGlobal, O: Sink>(
+    rt: &R,
     output: &mut O,
-    volume: VolumeFile<'_>,
-    other: &str,
+    volume: VolumeFile<'a>,
+    other: &'a str,
     by: Comparison,
-) -> Ending
-    ensures { (errors : ErrorStream) → Hears errors result.fault
+) -> Result<Ending, FailedRun<'a>>
+    ensures { (errors : ErrorStream) → Hears errors (run_fault result)
         → RunsDiff (streams O.contents O.failed output.old output.new errors)
-        (host_files volume.entry.at R.File.remaining R.File.contents R.had R.stood) volume.entry other.now by result.status }
+        (host_files volume.entry.at R.File.remaining R.File.contents R.had R.stood) volume.entry other.now by (run_status result) }
 {
-    let old = match read_named(host, volume) {
-        Ok(image) => image,
-        Err(status) => {
-            return Ending {
-                status,
-                fault: None,
-            };
-        }
-    };
+    let old = read_named(rt, volume)?;
     let second = VolumeFile {
         image: other,
         ..volume
     };
-    let new = match read_named(host, second) {
-        Ok(image) => image,
-        Err(status) => {
-            return Ending {
-                status,
-                fault: None,
-            };
-        }
-    };
-    show_comparison(host.rt.alloc(), volume.edition, old, new, by, output)
+    let new = read_named(rt, second)?;
+    Ok(show_comparison(rt.alloc(), volume.edition, old, new, by, output))
 }
 
-/// Reads the image in a file. If it can't be read, prints the fault and returns the status.
-fn read_named<'a, R: ImageFiles + Eprint + AllocGlobal>(
-    host: &Surroundings<'_, R>,
+/// Reads the image in a file.
+fn read_named<'a, R: ImageFiles + AllocGlobal>(
+    rt: &R,
     volume: VolumeFile<'a>,
-) -> Result<NamedImage<'a>, u8>
+) -> Result<NamedImage<'a>, FileFault<'a>>
     ensures given { IfOk result (λ image. (host_files volume.entry.at R.File.remaining R.File.contents R.had R.stood).shown volume.entry.edition image.bytes.items) }
     ensures name { IfOk result (λ image. image.name.now ≡ volume.entry.image.now) }
-    ensures fault { IfErr result (IsUnread R.File.remaining) }
+    ensures fault { IfErr result (λ fault. IsUnread R.File.remaining (file_status fault)) }
 {
-    let bytes = read_volume(host, volume)?;
+    let bytes = read_volume(rt, volume)?;
     Ok(NamedImage {
         name: volume.image,
         bytes,

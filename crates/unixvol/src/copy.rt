@@ -1,16 +1,16 @@
 //! The commands that copy several files between the host and a volume: opening and saving their files.
-ghost use Rattle.std.specs.Prelude.{◌≡◌, ◌≢◌, ◌⊎◌, ℕ, All, Bool, IfErr, IfOk, IfSome, List, None, Option, map};
+ghost use Rattle.std.specs.Prelude.{◌≡◌, ℕ, All, Bool, IfErr, IfOk, IfSome, List, None, OnOk, Option, map};
 ghost use Rattle.std.specs.Process.{exit_status};
 ghost use Rattle.command_faults.specs.Streams.{ErrorStream, Hears, still, streams};
-ghost use Rattle.unixvol.specs.Copies.{AreGiven, AreSaved, CopiesToEnd, IsFileToo, IsMomentAlone, RunsCopy, RunsGet, RunsPut, name_of};
+ghost use Rattle.unixvol.specs.FileFaults.{file_status, run_fault, run_status};
+ghost use Rattle.unixvol.specs.Copies.{AreSaved, CopiesToEnd, IsFileToo, IsMomentAlone, RunsCopy, RunsGet, RunsPut, name_of};
 ghost use Rattle.unixvol.specs.Runs.{Ends, GavePut, IsGivenFile, IsStatusOfFileOrMemory, IsUnread, host_files};
 ghost use Rattle.host_files.specs.Save.{IsTaken};
 
-use crate::explain::{
-    NamedFile, explain_moment, explain_no_memory, explain_unwritten, finish, tell_fault,
-};
+use crate::explain::{finish, tell_end};
+use crate::file_fault::{FailedRun, FileFault, after_saving};
 use crate::host::Surroundings;
-use crate::read::{Begun, begin, read_given, read_stamped};
+use crate::read::{expect_volume, read_given, read_image, read_stamped};
 use crate::save::{save_new, save_traced};
 use crate::subject::Subject;
 use command_changes::put::{NewFile, put_files};
@@ -47,28 +47,22 @@ pub fn run_to_end<R: ImageFiles + Clock + Eprint + AllocGlobal, O: Write + Drop,
     let mut errors = IntoWrite::new(errors);
     let mut output = noted_writer(output);
     let subject = Subject::of_copying(volume, &copying);
-    let ending = run(host, &mut output, volume, copying);
-    tell_fault(
-        host,
-        &mut errors,
-        &ending.fault,
-        output.error(),
-        Some(subject),
-    );
-    ExitCode::from(finish(host, output.into_inner().into_inner(), ending.status))
+    let ended = run(host, &mut output, volume, copying);
+    let status = tell_end(host, &mut errors, &ended, output.error(), Some(subject));
+    ExitCode::from(finish(host, output.into_inner().into_inner(), status))
 }
 
 /// Copies several files, and returns the result of the run.
-fn run<R: ImageFiles + Clock + Eprint + AllocGlobal, O: Sink>(
+fn run<'a, R: ImageFiles + Clock + Eprint + AllocGlobal, O: Sink>(
     host: &Surroundings<'_, R>,
     output: &mut O,
-    volume: VolumeFile<'_>,
-    copying: Copying<'_>,
-) -> Ending
-    ensures runs { (errors : ErrorStream) → Hears errors result.fault
-        → RunsCopy (streams O.contents O.failed output.old output.new errors) (host_files volume.entry.at R.File.remaining R.File.contents R.had R.stood) R.stands volume.entry.edition copying.entry result.status }
-    ensures ends { (errors : ErrorStream) → Hears errors result.fault
-        → Ends (streams O.contents O.failed output.old output.new errors) result.status }
+    volume: VolumeFile<'a>,
+    copying: Copying<'a>,
+) -> Result<Ending, FailedRun<'a>>
+    ensures runs { (errors : ErrorStream) → Hears errors (run_fault result)
+        → RunsCopy (streams O.contents O.failed output.old output.new errors) (host_files volume.entry.at R.File.remaining R.File.contents R.had R.stood) R.stands volume.entry.edition copying.entry (run_status result) }
+    ensures ends { (errors : ErrorStream) → Hears errors (run_fault result)
+        → Ends (streams O.contents O.failed output.old output.new errors) (run_status result) }
 {
     match copying {
         Copying::Put {
@@ -89,48 +83,29 @@ fn run<R: ImageFiles + Clock + Eprint + AllocGlobal, O: Sink>(
 /// Puts the files at some paths into a directory of the volume in a file, saves the volume, prints the trace of the calls if `trace`, and returns the
 /// result of the run. If the word that was read as the time is also the path of an existing file, it may be meant as one of the files: then nothing is
 /// opened.
-fn run_put<R: ImageFiles + Clock + Eprint + AllocGlobal, O: Sink>(
+fn run_put<'a, R: ImageFiles + Clock + Eprint + AllocGlobal, O: Sink>(
     host: &Surroundings<'_, R>,
     output: &mut O,
-    volume: VolumeFile<'_>,
+    volume: VolumeFile<'a>,
     directory: &str,
-    paths: &[&str],
+    paths: &[&'a str],
     keep: Keep,
-    now: Moment<'_>,
+    now: Moment<'a>,
     trace: bool,
-) -> Ending
-    ensures runs { (errors : ErrorStream) → Hears errors result.fault
+) -> Result<Ending, FailedRun<'a>>
+    ensures runs { (errors : ErrorStream) → Hears errors (run_fault result)
         → RunsPut (streams O.contents O.failed output.old output.new errors) (host_files volume.entry.at R.File.remaining R.File.contents R.had R.stood) R.stands volume.entry.edition directory.now
-        (map (λ path. name_of path.now) paths.now) keep now.entry trace result.status }
-    ensures ends { (errors : ErrorStream) → Hears errors result.fault
-        → Ends (streams O.contents O.failed output.old output.new errors) result.status }
+        (map (λ path. name_of path.now) paths.now) keep now.entry trace (run_status result) }
+    ensures ends { (errors : ErrorStream) → Hears errors (run_fault result)
+        → Ends (streams O.contents O.failed output.old output.new errors) (run_status result) }
 {
     if let Some(word) = moment_file(host.rt, now) {
-        return Ending {
-            status: explain_moment(host, word),
-            fault: None,
-        };
+        return Err(FailedRun::from(FileFault::Moment(word)));
     }
-    let read = ||
-        ensures given { IfOk result (λ files. AreGiven (GavePut volume.edition R.File.remaining) keep (map (λ path. name_of path.now) paths.entry.now) files.items) }
-        ensures fault { IfErr result (IsUnread R.File.remaining) }
-    { read_named(host, volume.edition, paths, keep) };
-    let begun = match begin(host, volume, read) {
-        Ok(begun) => begun,
-        Err(status) => {
-            return Ending {
-                status,
-                fault: None,
-            };
-        }
-    };
+    expect_volume(host.rt, volume)?;
+    let files = read_named(host.rt, volume.edition, paths, keep)?;
     // The image's file stays open, and so locked, until the result is saved.
-    let Begun {
-        given: files,
-        image,
-        stamp,
-        locked: _locked,
-    } = begun;
+    let (image, stamp, _locked) = read_image(host, volume)?;
     let outcome = put_files(
         host.rt.alloc(),
         volume.edition,
@@ -140,7 +115,7 @@ fn run_put<R: ImageFiles + Clock + Eprint + AllocGlobal, O: Sink>(
         now.seconds,
         trace,
     );
-    save_traced(host, volume, stamp, outcome, output)
+    save_traced(host.rt, volume, stamp, outcome, output)
 }
 
 /// Returns the word that was read as the time, if it is also the path of an existing file.
@@ -153,23 +128,23 @@ fn moment_file<'a, R: ImageFiles>(rt: &R, now: Moment<'a>) -> Option<&'a str>
 }
 
 /// Reads the files at some paths to put into a volume of an edition, in order, with what is kept of them, and names each by the last name of its
-/// path. If one can't be read, prints the fault and returns the status.
-fn read_named<'a, R: ImageFiles + Eprint + AllocGlobal>(
-    host: &Surroundings<'_, R>,
+/// path.
+fn read_named<'a, R: ImageFiles + AllocGlobal>(
+    rt: &R,
     edition: Edition,
     paths: &[&'a str],
     keep: Keep,
-) -> Result<Vec<NewFile<'a>>, u8>
+) -> Result<Vec<NewFile<'a>>, FileFault<'a>>
     ensures given { IfOk result (λ files. All (λ file. IsGivenFile (GavePut edition R.File.remaining) keep file.content) files.items) }
     ensures named { IfOk result (λ files. map (λ file. file.name.now) files.items ≡ map (λ path. name_of path.now) paths.now) }
-    ensures fault { IfErr result (IsUnread R.File.remaining) }
+    ensures fault { IfErr result (λ fault. IsUnread R.File.remaining (file_status fault)) }
 {
-    let mut files = Vec::new(host.rt.alloc());
+    let mut files = Vec::new(rt.alloc());
     'files: for path in paths {
-        let content = read_given(host, edition, path, keep)?;
+        let content = read_given(rt, edition, path, keep)?;
         let name = name_of(path);
         let Ok(()) = files.push(NewFile { name, content }) else {
-            return Err(explain_no_memory(host));
+            return Err(FileFault::NoMemory);
         };
     }
     Ok(files)
@@ -184,73 +159,61 @@ fn name_of(path: &str) -> &str
 
 /// Reads the files at some paths of the volume in a file, then saves each in a folder under its last name, and returns the result of the run. The
 /// volume's own file is never replaced, whatever its path.
-fn run_get<R: ImageFiles + Clock + Eprint + AllocGlobal>(
+fn run_get<'a, R: ImageFiles + Clock + Eprint + AllocGlobal>(
     host: &Surroundings<'_, R>,
-    volume: VolumeFile<'_>,
-    folder: &str,
+    volume: VolumeFile<'a>,
+    folder: &'a str,
     paths: &[&str],
     keeps: bool,
-) -> Ending
-    ensures runs { (known : Option (List ℕ)) (failed : Bool) (errors : ErrorStream) → Hears errors result.fault
-        → RunsGet (still known failed errors) (host_files volume.entry.at R.File.remaining R.File.contents R.had R.stood) volume.entry.edition (map (λ path. path.now) paths.now) result.status }
-    ensures ends { (known : Option (List ℕ)) (failed : Bool) (errors : ErrorStream) → Hears errors result.fault
-        → Ends (still known failed errors) result.status }
+) -> Result<Ending, FailedRun<'a>>
+    ensures runs { (known : Option (List ℕ)) (failed : Bool) (errors : ErrorStream) → Hears errors (run_fault result)
+        → RunsGet (still known failed errors) (host_files volume.entry.at R.File.remaining R.File.contents R.had R.stood) volume.entry.edition (map (λ path. path.now) paths.now) (run_status result) }
+    ensures ends { (known : Option (List ℕ)) (failed : Bool) (errors : ErrorStream) → Hears errors (run_fault result)
+        → Ends (still known failed errors) (run_status result) }
 {
-    let (image, stamp) = match read_stamped(host, volume) {
-        Ok(read) => read,
-        Err(status) => {
-            return Ending {
-                status,
-                fault: None,
-            };
-        }
-    };
+    let (image, stamp) = read_stamped(host.rt, volume)?;
     match get_files(host.rt.alloc(), volume.edition, image, paths) {
-        Ok(files) => Ending {
-            status: save_files(host, folder, stamp, &files, keeps),
-            fault: None,
-        },
-        Err(fault) => Ending::from(fault),
+        Ok(files) => {
+            let saved = save_files(host, folder, stamp, &files, keeps);
+            after_saving(saved, DONE, None)
+        }
+        Err(fault) => Ok(Ending::from(fault)),
     }
 }
 
-/// Saves files of a volume in a folder, each under the last name of its path, with its marks if `keeps`. Returns the exit status: that of the first
-/// file that can't be saved, if there is one; the files after it aren't saved.
-fn save_files<R: ImageFiles + Clock + Eprint + AllocGlobal>(
+/// Saves files of a volume in a folder, each under the last name of its path, with its marks if `keeps`. After the first file that can't be saved none is.
+fn save_files<'a, R: ImageFiles + Clock + Eprint + AllocGlobal>(
     host: &Surroundings<'_, R>,
-    folder: &str,
+    folder: &'a str,
     image: Stamp,
     files: &[FileRead<'_>],
     keeps: bool,
-) -> u8
-    ensures { ((result ≡ 0) × AreSaved (IsTaken R.File.contents) files.now) ⊎ IsStatusOfFileOrMemory result }
+) -> Result<(), FileFault<'a>>
+    ensures saved { OnOk result (AreSaved (IsTaken R.File.contents) files.now) }
+    ensures fault { IfErr result (λ fault. IsStatusOfFileOrMemory (file_status fault)) }
 {
     'files: for file in files {
-        let saved = save_file_read(host, folder, image, file, keeps);
-        if saved != DONE {
-            return saved;
-        }
+        save_file_read(host, folder, image, file, keeps)?;
     }
-    DONE
+    Ok(())
 }
 
-/// Saves a file of a volume in a folder, under the last name of its path, with its marks if `keeps`, and returns the exit status. A pipe or a socket
-/// with this name isn't replaced.
-fn save_file_read<R: ImageFiles + Clock + Eprint + AllocGlobal>(
+/// Saves a file of a volume in a folder, under the last name of its path, with its marks if `keeps`. A pipe or a socket with this name isn't replaced.
+fn save_file_read<'a, R: ImageFiles + Clock + Eprint + AllocGlobal>(
     host: &Surroundings<'_, R>,
-    folder: &str,
+    folder: &'a str,
     image: Stamp,
     file: &FileRead<'_>,
     keeps: bool,
-) -> u8
-    ensures { ((result ≡ 0) × IsTaken R.File.contents file.now.bytes.items) ⊎ IsStatusOfFileOrMemory result }
+) -> Result<(), FileFault<'a>>
+    ensures saved { OnOk result (IsTaken R.File.contents file.now.bytes.items) }
+    ensures fault { IfErr result (λ fault. IsStatusOfFileOrMemory (file_status fault)) }
 {
     let Ok(place) = Path::new(folder).join(host.rt.alloc(), name_of(file.path)) else {
-        return explain_no_memory(host);
+        return Err(FileFault::NoMemory);
     };
-    let place = place.as_path().as_str();
-    if is_pipe(host.rt, place) {
-        return explain_unwritten(host, NamedFile::File(place), io::Error::other(PIPE));
+    if is_pipe(host.rt, place.as_str()) {
+        return Err(FileFault::Uncopied(place, io::Error::other(PIPE)));
     }
     let marks = if keeps {
         Some(Marks {
@@ -260,5 +223,9 @@ fn save_file_read<R: ImageFiles + Clock + Eprint + AllocGlobal>(
     } else {
         None
     };
-    save_new(host, place, image, &file.bytes, marks, DONE)
+    match save_new(host, place.as_str(), image, &file.bytes, marks) {
+        Ok(()) => Ok(()),
+        Err(why) if why.kind() == io::ErrorKind::OutOfMemory => Err(FileFault::NoMemory),
+        Err(why) => Err(FileFault::Uncopied(place, why)),
+    }
 }

@@ -1,14 +1,14 @@
 //! Finds the edition of a volume for the word `any`: the one of which it is sound.
-ghost use Rattle.std.specs.Prelude.{◌≡◌, ◌≤◌, IfErr, IfOk, Some, map, string_bytes};
+ghost use Rattle.std.specs.Prelude.{IfErr, IfOk, Some, map, string_bytes};
 ghost use Rattle.pack_files.specs.Verdicts.{AreVerdicts, only_sound};
 ghost use Rattle.pack_files.specs.declared.verdicts.Verdicts.{Verdicts};
+ghost use Rattle.unixvol.specs.FileFaults.{file_status};
 ghost use Rattle.unixvol.specs.Editions.{IsFault, IsFoundEdition, IsSettled, IsVolumeSettled, ReadsSettled};
 
-use crate::explain::{NamedFile, explain_no_memory, explain_short, explain_unread, reason_of};
-use crate::host::Surroundings;
+use crate::explain::reason_of;
+use crate::file_fault::{FileFault, NamedFile};
 use crate::meanings::shown;
 use clap::Error;
-use command_faults::status::REFUSED;
 use command_line::{Invocation, VolumeFile};
 use host_files::{FileKind, ImageFiles};
 use pack_files::{PackFault, Verdicts, judge_twice};
@@ -19,51 +19,50 @@ use vol_layout::Edition;
 /// The message for a pipe.
 const PIPE: &str = "it can be read only once: write 6 or 7 for any";
 
-/// Reads the words of the command line, and finds the edition of the volume if they leave it open. If it isn't found, prints why and returns the status.
-pub fn read_settled<'a, R: ImageFiles + Eprint + AllocGlobal>(
-    host: &Surroundings<'_, R>,
+/// Reads the words of the command line, and finds the edition of the volume if they leave it open.
+pub fn read_settled<'a, R: ImageFiles + AllocGlobal>(
+    rt: &R,
     clock: Option<u32>,
     words: &'a [String],
-) -> Result<Result<Invocation<'a>, Error>, u8>
+) -> Result<Result<Invocation<'a>, Error>, FileFault<'a>>
     ensures read { IfOk result (ReadsSettled R.File.remaining clock (map string_bytes words.entry.now)) }
-    ensures fault { IfErr result IsFault }
+    ensures fault { IfErr result (λ fault. IsFault (file_status fault)) }
 {
-    match command_line::read(host.rt.alloc(), clock, words) {
-        Ok(asked) => Ok(Ok(settle(host, asked)?)),
+    match command_line::read(rt.alloc(), clock, words) {
+        Ok(asked) => Ok(Ok(settle(rt, asked)?)),
         Err(error) => Ok(Err(error)),
     }
 }
 
-/// Returns a command with the edition of its volume found, if its words leave that open; else the command itself. If the edition isn't found, prints why
-/// and returns the status.
-fn settle<'a, R: ImageFiles + Eprint + AllocGlobal>(
-    host: &Surroundings<'_, R>,
+/// Returns a command with the edition of its volume found, if its words leave that open; else the command itself.
+fn settle<'a, R: ImageFiles + AllocGlobal>(
+    rt: &R,
     asked: Invocation<'a>,
-) -> Result<Invocation<'a>, u8>
+) -> Result<Invocation<'a>, FileFault<'a>>
     ensures settled { IfOk result (IsSettled R.File.remaining asked.entry) }
-    ensures fault { IfErr result IsFault }
+    ensures fault { IfErr result (λ fault. IsFault (file_status fault)) }
 {
     match asked.volume() {
         Some(volume) => {
-            let found = settled_volume(host, volume)?;
+            let found = settled_volume(rt, volume)?;
             Ok(asked.with_volume(found))
         }
         None => Ok(asked),
     }
 }
 
-/// Returns a volume with its edition found, if that is open. If it isn't found, prints why and returns the status.
-fn settled_volume<'a, R: ImageFiles + Eprint + AllocGlobal>(
-    host: &Surroundings<'_, R>,
+/// Returns a volume with its edition found, if that is open.
+fn settled_volume<'a, R: ImageFiles + AllocGlobal>(
+    rt: &R,
     volume: VolumeFile<'a>,
-) -> Result<VolumeFile<'a>, u8>
+) -> Result<VolumeFile<'a>, FileFault<'a>>
     ensures settled { IfOk result (IsVolumeSettled R.File.remaining volume.entry) }
-    ensures fault { IfErr result IsFault }
+    ensures fault { IfErr result (λ fault. IsFault (file_status fault)) }
 {
     if !volume.is_any {
         return Ok(volume);
     }
-    let edition = found_edition(host, volume)?;
+    let edition = found_edition(rt, volume)?;
     Ok(VolumeFile {
         edition,
         is_any: false,
@@ -71,28 +70,27 @@ fn settled_volume<'a, R: ImageFiles + Eprint + AllocGlobal>(
     })
 }
 
-/// Returns the edition of which the volume in a file is sound. If it is sound as one of neither or of both, or can't be read, prints that and returns the
-/// status.
-fn found_edition<R: ImageFiles + Eprint + AllocGlobal>(
-    host: &Surroundings<'_, R>,
-    volume: VolumeFile<'_>,
-) -> Result<Edition, u8>
+/// Returns the edition of which the volume in a file is sound, unless it is sound as one of neither or of both.
+fn found_edition<'a, R: ImageFiles + AllocGlobal>(
+    rt: &R,
+    volume: VolumeFile<'a>,
+) -> Result<Edition, FileFault<'a>>
     ensures found { IfOk result (IsFoundEdition R.File.remaining volume.entry.at) }
-    ensures fault { IfErr result IsFault }
+    ensures fault { IfErr result (λ fault. IsFault (file_status fault)) }
 {
     let named = NamedFile::File(volume.image);
-    if is_stream(host.rt, volume.image) {
-        return Err(explain_unread(host, named, io::Error::other(PIPE)));
+    if is_stream(rt, volume.image) {
+        return Err(FileFault::Unread(named, io::Error::other(PIPE)));
     }
-    let verdicts = match judge_twice(host.rt, volume.image, volume.at) {
+    let verdicts = match judge_twice(rt, volume.image, volume.at) {
         Ok(verdicts) => verdicts,
-        Err(PackFault::Short) => return Err(explain_short(host, named, volume.at)),
-        Err(PackFault::Unread(why)) => return Err(explain_unread(host, named, reason_of(why))),
-        Err(PackFault::NoMemory) => return Err(explain_no_memory(host)),
+        Err(PackFault::Short) => return Err(FileFault::Short(volume.image, volume.at)),
+        Err(PackFault::Unread(why)) => return Err(FileFault::Unread(named, reason_of(why))),
+        Err(PackFault::NoMemory) => return Err(FileFault::NoMemory),
     };
     match verdicts.only_sound() {
         Some(edition) => Ok(edition),
-        None => Err(explain_open(host, volume, verdicts)),
+        None => Err(FileFault::Ambiguous(volume, verdicts)),
     }
 }
 
@@ -104,30 +102,8 @@ fn is_stream<R: ImageFiles>(rt: &R, path: &str) -> bool {
     }
 }
 
-/// Prints that a volume is sound as one of neither edition, or of both, and returns the status.
-fn explain_open<R: Eprint + AllocGlobal>(
-    host: &Surroundings<'_, R>,
-    volume: VolumeFile<'_>,
-    verdicts: Verdicts,
-) -> u8
-    ensures { result ≡ 1 }
-{
-    let line = match verdicts.sixth {
-        Some(_) => "sound as neither edition",
-        None => "sound as both editions",
-    };
-    let _ = eprintln!(host.rt; "unixvol: {line}");
-    if !host.explains {
-        return REFUSED;
-    }
-    if let Ok(meaning) = open_meaning(host.rt.alloc(), volume, verdicts) {
-        let _ = eprintln!(host.rt; "unixvol: {meaning}");
-    }
-    REFUSED
-}
-
 /// Returns the second line for a volume that is sound as one of neither edition, or of both.
-fn open_meaning(
+pub fn ambiguous_words(
     alloc: Global,
     volume: VolumeFile<'_>,
     verdicts: Verdicts,

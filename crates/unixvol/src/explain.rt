@@ -1,5 +1,5 @@
 //! Messages for failures, and their exit statuses.
-ghost use Rattle.std.specs.Prelude.{◌≡◌, ◌≢◌, ◌⊎◌, ◌≤◌, true};
+ghost use Rattle.std.specs.Prelude.{◌≡◌, ◌≢◌, ◌⊎◌, ◌≤◌, None, true};
 ghost use Rattle.std.specs.Io.KnownBytes.{Keeps};
 ghost use Rattle.std.specs.IoError.{error_kind};
 ghost use Rattle.std.specs.declared.io.ErrorKind.TheVariants as io_kinds;
@@ -7,111 +7,104 @@ ghost use Rattle.clap.specs.Words.{kind_of};
 ghost use Rattle.clap.specs.declared.error.kind.ErrorKind.TheVariants as clap_kinds;
 ghost use Rattle.command_reads.specs.Cat.{cat_status};
 ghost use Rattle.command_faults.specs.Streams.{Hears, heard};
+ghost use Rattle.unixvol.specs.FileFaults.{file_status, run_fault, run_status};
 ghost use Rattle.unixvol.specs.Runs.{IsStatusOfFileOrMemory};
 
+use crate::editions::ambiguous_words;
+use crate::file_fault::{FailedRun, FileFault, NamedFile, STREAM};
 use crate::host::Surroundings;
 use crate::meanings::{self, meaning_of, shown};
+use crate::place::taken_words;
 use crate::sizes::{Sizes, sizes_in};
 use crate::subject::Subject;
 use clap::error::ErrorKind;
-use command_faults::Fault;
 use command_faults::answer::tell;
 use command_faults::status::{BAD_COMMAND_LINE, BAD_FILE, DONE, NO_MEMORY};
+use command_faults::{Ending, Fault};
 use command_line::reworded;
 use command_reads::CatFault;
 use command_terms::Look;
 use host_files::ImageFiles;
 use pdp_words::{Sink, write_all};
+use std::alloc::AllocError;
 use std::io::{self, Write};
 
-/// The name of standard input and standard output in a fault's line.
-const STREAM: &str = "-";
-
-/// A file, or one of the standard streams.
-#[derive(Clone, Copy)]
-pub enum NamedFile<'a> {
-    /// The file at a path.
-    File(&'a str),
-    /// Standard input.
-    Input,
-    /// Standard output.
-    Output,
-}
-
-impl<'a> NamedFile<'a> {
-    /// Returns the name in a fault's line.
-    fn name(self) -> &'a str {
-        match self {
-            NamedFile::File(path) => path,
-            NamedFile::Input | NamedFile::Output => STREAM,
+/// Prints the faults of a run, that of a file first, and returns the status. If the user asked for it, a second line explains each.
+pub fn tell_end<R: ImageFiles + Eprint + AllocGlobal, E: Sink>(
+    host: &Surroundings<'_, R>,
+    errors: &mut E,
+    ended: &Result<Ending, FailedRun<'_>>,
+    output: Option<io::Error>,
+    subject: Option<Subject<'_>>,
+) -> u8
+    ensures told { Hears (heard E.contents E.failed errors.old errors.new) (run_fault ended.now) }
+    ensures status { result ≡ run_status ended.now }
+{
+    match ended {
+        Ok(ending) => {
+            tell_fault(host, errors, &ending.fault, output, subject);
+            ending.status
         }
-    }
-
-    /// Returns the name in the second line, which explains the fault.
-    fn in_words(self) -> &'a str {
-        match self {
-            NamedFile::File(path) => path,
-            NamedFile::Input => "standard input",
-            NamedFile::Output => "standard output",
+        Err(failed) => {
+            let status = tell_file(host, &failed.file);
+            tell_fault(host, errors, &failed.fault, output, subject);
+            status
         }
     }
 }
 
-/// Prints that a file can't be read, and returns the status.
-pub fn explain_unread<R: Eprint + AllocGlobal>(
-    host: &Surroundings<'_, R>,
-    file: NamedFile<'_>,
-    why: io::Error,
-) -> u8
-    ensures { result ≡ 3 }
+/// Prints the line of a file's fault, and the second line, if the user asked for it. Returns the status.
+pub fn tell_file<R: Eprint + AllocGlobal>(host: &Surroundings<'_, R>, fault: &FileFault<'_>) -> u8
+    ensures { result ≡ file_status fault.now }
 {
-    let name = file.name();
-    let _ = eprintln!(host.rt; "unixvol: cannot read {name}");
-    tell_why(host, file, why);
-    BAD_FILE
-}
-
-/// Prints that a file can't be read because it ends before a block, and returns the status.
-pub fn explain_short<R: Eprint + AllocGlobal>(
-    host: &Surroundings<'_, R>,
-    file: NamedFile<'_>,
-    block: u32,
-) -> u8
-    ensures { result ≡ 3 }
-{
-    let name = file.name();
-    let _ = eprintln!(host.rt; "unixvol: cannot read {name}");
-    if !host.explains {
-        return BAD_FILE;
+    let _ = eprintln!(host.rt; "unixvol: {fault}");
+    if host.explains {
+        explain_file(host, fault);
     }
-    if let Ok(name) = shown(host.rt.alloc(), file.in_words()) {
-        let _ = eprintln!(host.rt; "unixvol: {name}: it ends before block {block}");
+    fault.status()
+}
+
+/// Prints the second line for a file's fault, if there is one. If memory runs out, the second line is left out.
+fn explain_file<R: Eprint + AllocGlobal>(host: &Surroundings<'_, R>, fault: &FileFault<'_>) {
+    let alloc = host.rt.alloc();
+    match fault {
+        FileFault::Unread(file, why) | FileFault::Unwritten(file, why) => {
+            tell_why(host, *file, *why);
+        }
+        FileFault::Uncopied(place, why) => tell_why(host, NamedFile::File(place.as_str()), *why),
+        FileFault::Short(path, block) => {
+            tell_words(
+                host,
+                path,
+                format!(in alloc; "it ends before block {block}"),
+            );
+        }
+        FileFault::Small(path, blocks) => {
+            tell_words(host, path, format!(in alloc; "it has only {blocks} blocks"));
+        }
+        FileFault::Taken(path, part) => tell_words(host, path, taken_words(alloc, *part)),
+        FileFault::Ambiguous(volume, verdicts) => {
+            if let Ok(meaning) = ambiguous_words(alloc, *volume, *verdicts) {
+                let _ = eprintln!(host.rt; "unixvol: {meaning}");
+            }
+        }
+        FileFault::NoMemory | FileFault::NoMemoryFor(_) => {
+            let words = meanings::NO_MEMORY;
+            let _ = eprintln!(host.rt; "unixvol: {words}");
+        }
+        FileFault::Moment(_) => {}
     }
-    BAD_FILE
 }
 
-/// Prints that a file can't be written, and returns the status.
-pub fn explain_unwritten<R: Eprint + AllocGlobal>(
+/// Prints the second line for the file at a path, with these words.
+fn tell_words<R: Eprint + AllocGlobal>(
     host: &Surroundings<'_, R>,
-    file: NamedFile<'_>,
-    why: io::Error,
-) -> u8
-    ensures { result ≡ 3 }
-{
-    let name = file.name();
-    let _ = eprintln!(host.rt; "unixvol: cannot write {name}");
-    tell_why(host, file, why);
-    BAD_FILE
-}
-
-/// Prints that the word which was read as the time is also the path of a file, and returns the status.
-pub fn explain_moment<R: Eprint>(host: &Surroundings<'_, R>, word: &str) -> u8
-    ensures { result ≡ 2 }
-{
-    let _ = eprintln!(host.rt;
-        "unixvol: {word}: a moment, and a file too: write ./{word}, or the moment in another form"
-    );
-    BAD_COMMAND_LINE
+    path: &str,
+    words: Result<String, AllocError>,
+) {
+    if let (Ok(name), Ok(words)) = (shown(host.rt.alloc(), path), words) {
+        let _ = eprintln!(host.rt; "unixvol: {name}: {words}");
+    }
 }
 
 /// Returns the reason why a device failed: its last error, if one is available.
@@ -201,19 +194,23 @@ pub fn explain_rules<R: Eprint>(host: &Surroundings<'_, R>, look: Look<'_>, stat
     }
 }
 
-/// Prints the line of a fault of `cat`, and returns its status. The second line for standard output is printed when the run has ended.
+/// Prints the line of a fault of `cat`, and returns the result of the run. The second line for standard output is printed when the run has ended.
 pub fn explain_cat<R: ImageFiles + Eprint + AllocGlobal>(
     host: &Surroundings<'_, R>,
     fault: CatFault,
     subject: Subject<'_>,
-) -> u8
-    ensures { result ≡ cat_status fault }
+) -> Ending
+    ensures status { result.status ≡ cat_status fault }
+    ensures quiet { result.fault ≡ None }
 {
     // If standard error can't be written either, only the status reports the fault.
     let line = fault.line();
     let _ = eprint!(host.rt; "{line}");
     explain(host, &fault.as_fault(), None, Some(subject));
-    fault.status()
+    Ending {
+        status: fault.status(),
+        fault: None,
+    }
 }
 
 /// Prints the text for a wrong command line, or the requested help, and returns the exit status.
@@ -233,14 +230,14 @@ pub fn explain_command_line<R: Eprint + AllocGlobal, O: Sink>(
     ensures whole { result ≡ 0 → O.failed output.new ≡ O.failed output.old }
 {
     if error.kind() == ErrorKind::OutOfMemory {
-        return explain_no_memory(host);
+        return tell_file(host, &FileFault::NoMemory);
     }
     if error.use_stderr() {
         tell_mistake(host, error);
         return BAD_COMMAND_LINE;
     }
     let Ok(text) = format!(in host.rt.alloc(); "{error}") else {
-        return explain_no_memory(host);
+        return tell_file(host, &FileFault::NoMemory);
     };
     match write_all(output, text.as_bytes()) {
         Ok(()) => DONE,
@@ -302,7 +299,7 @@ fn flush<R: Eprint + AllocGlobal, W: Write + Drop>(
 {
     match output.flush() {
         Ok(()) => status,
-        Err(why) => explain_unwritten(host, NamedFile::Output, why),
+        Err(why) => tell_file(host, &FileFault::Unwritten(NamedFile::Output, why)),
     }
 }
 
@@ -314,7 +311,7 @@ pub fn explain_words(rt: &impl Eprint, error: &io::Error, place: Option<usize>) 
     ensures status { (result ≡ 2) ⊎ (result ≡ 4) }
 {
     if error.kind() == io::ErrorKind::OutOfMemory {
-        let _ = eprintln!(rt; "{NO_MEMORY_LINE}");
+        let _ = eprintln!(rt; "unixvol: {}", FileFault::NoMemory);
         return NO_MEMORY;
     }
     let _ = match place {
@@ -322,33 +319,4 @@ pub fn explain_words(rt: &impl Eprint, error: &io::Error, place: Option<usize>) 
         None => eprintln!(rt; "error: a word of the command line is not UTF-8 text"),
     };
     BAD_COMMAND_LINE
-}
-
-/// The line for out of memory.
-const NO_MEMORY_LINE: &str = "unixvol: 12 NoMemory";
-
-/// Prints that memory ran out, and returns the status.
-pub fn explain_no_memory<R: Eprint>(host: &Surroundings<'_, R>) -> u8
-    ensures { result ≡ 4 }
-{
-    let _ = eprintln!(host.rt; "{NO_MEMORY_LINE}");
-    tell_no_memory(host);
-    NO_MEMORY
-}
-
-/// Prints that memory ran out for a file, and returns the status.
-pub fn explain_no_memory_for<R: Eprint>(host: &Surroundings<'_, R>, path: &str) -> u8
-    ensures { result ≡ 4 }
-{
-    let _ = eprintln!(host.rt; "{NO_MEMORY_LINE}: {path}");
-    tell_no_memory(host);
-    NO_MEMORY
-}
-
-/// Prints the second line for out of memory, if the user asked for it.
-fn tell_no_memory<R: Eprint>(host: &Surroundings<'_, R>) {
-    if host.explains {
-        let words = meanings::NO_MEMORY;
-        let _ = eprintln!(host.rt; "unixvol: {words}");
-    }
 }

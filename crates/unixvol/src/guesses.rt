@@ -1,10 +1,11 @@
 //! Reads as much of a file as a guess needs.
 ghost use Rattle.std.specs.Prelude.{◌≡◌, ◌*◌, ◌+◌, false, true, Err, IfErr, IfOk, IsErrOf};
+ghost use Rattle.unixvol.specs.FileFaults.{file_status};
 ghost use Rattle.unixvol.specs.Identify.{GaveFront, IsFrontRead, most_bytes};
 ghost use Rattle.unixvol.specs.Runs.{IsStatusOfFileOrMemory};
 
-use crate::explain::{NamedFile, explain_no_memory_for, explain_unread, reason_of};
-use crate::host::Surroundings;
+use crate::explain::reason_of;
+use crate::file_fault::{FileFault, NamedFile};
 use host_files::{FrontFault, noted_reader, read_on};
 use identify_lines::MOST;
 use pdp_words::{BLOCK, Image, Source};
@@ -15,24 +16,24 @@ use vol_identify::{Guess, blocks_wanted, guess_image};
 /// The number of bytes that say whether a volume may begin at the front.
 const HEAD: usize = 3 * BLOCK;
 
-/// Reads the front of a file for a guess. If it can't be read, prints the fault and returns the status.
-pub fn read_to_guess<R: Files + Eprint + AllocGlobal>(
-    host: &Surroundings<'_, R>,
-    path: &str,
-) -> Result<Image, u8>
+/// Reads the front of a file for a guess.
+pub fn read_to_guess<'a, R: Files + AllocGlobal>(
+    rt: &R,
+    path: &'a str,
+) -> Result<Image, FileFault<'a>>
     ensures given { IfOk result (GaveFront R.File.remaining) }
-    ensures fault { IfErr result IsStatusOfFileOrMemory }
+    ensures fault { IfErr result (λ fault. IsStatusOfFileOrMemory (file_status fault)) }
 {
     let named = NamedFile::File(path);
-    let file = match fs::open(host.rt, path) {
+    let file = match fs::open(rt, path) {
         Ok(file) => file,
-        Err(why) => return Err(explain_unread(host, named, why)),
+        Err(why) => return Err(FileFault::Unread(named, why)),
     };
     let mut source = noted_reader(file);
-    match read_front(host.rt.alloc(), &mut source) {
+    match read_front(rt.alloc(), &mut source) {
         Ok(front) => Ok(front),
-        Err(FrontFault::NoMemory) => Err(explain_no_memory_for(host, path)),
-        Err(_) => Err(explain_unread(host, named, reason_of(source.error()))),
+        Err(FrontFault::NoMemory) => Err(FileFault::NoMemoryFor(path)),
+        Err(_) => Err(FileFault::Unread(named, reason_of(source.error()))),
     }
 }
 

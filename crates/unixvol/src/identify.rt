@@ -13,12 +13,12 @@ ghost use Rattle.pdp_words.specs.Devices.{AppendsFront};
 ghost use Rattle.vol_catalogue.specs.Rows.{row_of};
 ghost use Rattle.vol_catalogue.specs.declared.rows.FileFacts.{FileFacts};
 ghost use Rattle.vol_catalogue.specs.declared.rows.ListedVolume.{ListedVolume};
+ghost use Rattle.unixvol.specs.FileFaults.{file_status};
 ghost use Rattle.unixvol.specs.Identify.{IdentifiesToEnd, IsCatalogued, IsImageSeen, IsLine, IsSeen, IsTold, IsUntold, RunsIdentify, front_of, size_of};
 ghost use Rattle.unixvol.specs.Runs.{IsStatusOfFileOrMemory};
 
-use crate::explain::{
-    NamedFile, explain_no_memory_for, explain_unread, finish_printed, reason_of, tell_fault,
-};
+use crate::explain::{finish_printed, reason_of, tell_fault, tell_file};
+use crate::file_fault::{FileFault, NamedFile};
 use crate::guesses::read_to_guess;
 use crate::host::Surroundings;
 use command_faults::status::DONE;
@@ -114,7 +114,7 @@ struct ToldFile {
     status: u8,
 }
 
-/// Returns the line of a file, or the lines of its pack. If it can't be read, prints the fault too.
+/// Returns the line of a file, or the lines of its pack. If it can't be read, prints the fault too, since the next file is read after it.
 fn told_of<R: ImageFiles + Eprint + AllocGlobal>(
     host: &Surroundings<'_, R>,
     form: GuessForm,
@@ -122,9 +122,9 @@ fn told_of<R: ImageFiles + Eprint + AllocGlobal>(
 ) -> ToldFile
     ensures { IsLine R.File.remaining R.had R.stood form path.now result.line.items result.status }
 {
-    match line_text(host, form, path) {
+    match line_text(host.rt, form, path) {
         Ok(line) => ToldFile { line, status: DONE },
-        Err(status) => untold(host, form, path, status),
+        Err(fault) => untold(host, form, path, tell_file(host, &fault)),
     }
 }
 
@@ -152,93 +152,90 @@ fn untold<R: Eprint + AllocGlobal>(
             },
             Err(_) => ToldFile {
                 line: Vec::new(alloc),
-                status: explain_no_memory_for(host, path),
+                status: tell_file(host, &FileFault::NoMemoryFor(path)),
             },
         },
     }
 }
 
-/// Returns the line or lines of a file. If it can't be read, prints the fault and returns the status.
-fn line_text<R: ImageFiles + Eprint + AllocGlobal>(
-    host: &Surroundings<'_, R>,
+/// Returns the line or lines of a file.
+fn line_text<'a, R: ImageFiles + AllocGlobal>(
+    rt: &R,
     form: GuessForm,
-    path: &str,
-) -> Result<Vec<u8>, u8>
+    path: &'a str,
+) -> Result<Vec<u8>, FileFault<'a>>
     ensures line { IfOk result (λ line. IsTold R.File.remaining R.had R.stood form path.now line.items) }
-    ensures fault { IfErr result IsStatusOfFileOrMemory }
+    ensures fault { IfErr result (λ fault. IsStatusOfFileOrMemory (file_status fault)) }
 {
     match form {
-        GuessForm::Lines => guess_lines(host, path),
-        GuessForm::Json => guess_json(host, path),
-        GuessForm::Catalogue => catalogue_rows(host, path),
+        GuessForm::Lines => guess_lines(rt, path),
+        GuessForm::Json => guess_json(rt, path),
+        GuessForm::Catalogue => catalogue_rows(rt, path),
     }
 }
 
-/// Returns the line of what a file seems to be, or the lines of its pack. If it can't be read, prints the fault and returns the status.
-fn guess_lines<R: ImageFiles + Eprint + AllocGlobal>(
-    host: &Surroundings<'_, R>,
-    path: &str,
-) -> Result<Vec<u8>, u8>
+/// Returns the line of what a file seems to be, or the lines of its pack.
+fn guess_lines<'a, R: ImageFiles + AllocGlobal>(
+    rt: &R,
+    path: &'a str,
+) -> Result<Vec<u8>, FileFault<'a>>
     ensures line { IfOk result (λ line. (seen : Seen) × IsSeen R.File.remaining R.had R.stood seen × (stamp : Stamp) × R.stood stamp
         × (line.items ≡ seen_lines path.now (size_of stamp) seen)) }
-    ensures fault { IfErr result IsStatusOfFileOrMemory }
+    ensures fault { IfErr result (λ fault. IsStatusOfFileOrMemory (file_status fault)) }
 {
-    let seen = see(host, path)?;
-    let stamp = stamp_at(host, path)?;
-    match seen_lines(host.rt.alloc(), path, size_of(stamp), &seen) {
+    let seen = see(rt, path)?;
+    let stamp = stamp_at(rt, path)?;
+    match seen_lines(rt.alloc(), path, size_of(stamp), &seen) {
         Ok(lines) => Ok(lines.into_bytes()),
-        Err(_) => Err(explain_no_memory_for(host, path)),
+        Err(_) => Err(FileFault::NoMemoryFor(path)),
     }
 }
 
-/// Returns the JSON of what a file seems to be, on a line. If it can't be read, prints the fault and returns the status.
-fn guess_json<R: ImageFiles + Eprint + AllocGlobal>(
-    host: &Surroundings<'_, R>,
-    path: &str,
-) -> Result<Vec<u8>, u8>
+/// Returns the JSON of what a file seems to be, on a line.
+fn guess_json<'a, R: ImageFiles + AllocGlobal>(
+    rt: &R,
+    path: &'a str,
+) -> Result<Vec<u8>, FileFault<'a>>
     ensures line { IfOk result (λ line. (seen : Seen) × IsSeen R.File.remaining R.had R.stood seen × (stamp : Stamp) × R.stood stamp
         × (line.items ≡ seen_json path.now (size_of stamp) seen)) }
-    ensures fault { IfErr result IsStatusOfFileOrMemory }
+    ensures fault { IfErr result (λ fault. IsStatusOfFileOrMemory (file_status fault)) }
 {
-    let seen = see(host, path)?;
-    let stamp = stamp_at(host, path)?;
-    match seen_json(host.rt.alloc(), path, size_of(stamp), &seen) {
+    let seen = see(rt, path)?;
+    let stamp = stamp_at(rt, path)?;
+    match seen_json(rt.alloc(), path, size_of(stamp), &seen) {
         Ok(line) => Ok(line.into_bytes()),
-        Err(_) => Err(explain_no_memory_for(host, path)),
+        Err(_) => Err(FileFault::NoMemoryFor(path)),
     }
 }
 
-/// Returns the rows of the volumes of a file. If it can't be read, prints the fault and returns the status.
-fn catalogue_rows<R: ImageFiles + Eprint + AllocGlobal>(
-    host: &Surroundings<'_, R>,
-    path: &str,
-) -> Result<Vec<u8>, u8>
+/// Returns the rows of the volumes of a file.
+fn catalogue_rows<'a, R: ImageFiles + AllocGlobal>(
+    rt: &R,
+    path: &'a str,
+) -> Result<Vec<u8>, FileFault<'a>>
     ensures rows { IfOk result (λ rows. (file : FileFacts) × (volumes : List ListedVolume) × IsCatalogued R.File.remaining R.had file volumes
         × (rows.items ≡ flat_map (row_of path.now file) volumes)) }
-    ensures fault { IfErr result IsStatusOfFileOrMemory }
+    ensures fault { IfErr result (λ fault. IsStatusOfFileOrMemory (file_status fault)) }
 {
-    let found = match catalogued_file(host.rt, path) {
+    let found = match catalogued_file(rt, path) {
         Ok(found) => found,
-        Err(fault) => return Err(explain_pack_fault(host, path, fault)),
+        Err(fault) => return Err(pack_fault(path, fault)),
     };
-    match volume_rows(host.rt.alloc(), path, found.file, &found.volumes) {
+    match volume_rows(rt.alloc(), path, found.file, &found.volumes) {
         Ok(rows) => Ok(rows),
-        Err(_) => Err(explain_no_memory_for(host, path)),
+        Err(_) => Err(FileFault::NoMemoryFor(path)),
     }
 }
 
-/// Prints that a file can't be searched for volumes, and returns the status.
-fn explain_pack_fault<R: Eprint + AllocGlobal>(
-    host: &Surroundings<'_, R>,
-    path: &str,
-    fault: PackFault,
-) -> u8
-    ensures { IsStatusOfFileOrMemory result }
+/// Returns the fault of a file that can't be searched for volumes.
+fn pack_fault<'a>(path: &'a str, fault: PackFault) -> FileFault<'a>
+    ensures { IsStatusOfFileOrMemory (file_status result) }
 {
+    let named = NamedFile::File(path);
     match fault {
-        PackFault::Unread(why) => explain_unread(host, NamedFile::File(path), reason_of(why)),
-        PackFault::Short => explain_unread(host, NamedFile::File(path), reason_of(None)),
-        PackFault::NoMemory => explain_no_memory_for(host, path),
+        PackFault::Unread(why) => FileFault::Unread(named, reason_of(why)),
+        PackFault::Short => FileFault::Unread(named, reason_of(None)),
+        PackFault::NoMemory => FileFault::NoMemoryFor(path),
     }
 }
 
@@ -253,32 +250,26 @@ fn size_of(stamp: Stamp) -> Option<u64>
     }
 }
 
-/// Returns the stamp of a file. If the system can't examine it, prints the fault and returns the status.
-fn stamp_at<R: ImageFiles + Eprint + AllocGlobal>(
-    host: &Surroundings<'_, R>,
-    path: &str,
-) -> Result<Stamp, u8>
+/// Returns the stamp of a file. One that the system can't examine can't be read.
+fn stamp_at<'a, R: ImageFiles>(rt: &R, path: &'a str) -> Result<Stamp, FileFault<'a>>
     ensures stamp { IfOk result R.stood }
-    ensures fault { IfErr result IsStatusOfFileOrMemory }
+    ensures fault { IfErr result (λ fault. IsStatusOfFileOrMemory (file_status fault)) }
 {
-    match host.rt.stamp_at(path) {
+    match rt.stamp_at(path) {
         Ok(stamp) => Ok(stamp),
-        Err(why) => Err(explain_unread(host, NamedFile::File(path), why)),
+        Err(why) => Err(FileFault::Unread(NamedFile::File(path), why)),
     }
 }
 
-/// Returns what a file seems to be. If it can't be read, prints the fault and returns the status.
-fn see<R: ImageFiles + Eprint + AllocGlobal>(
-    host: &Surroundings<'_, R>,
-    path: &str,
-) -> Result<Seen, u8>
+/// Returns what a file seems to be.
+fn see<'a, R: ImageFiles + AllocGlobal>(rt: &R, path: &'a str) -> Result<Seen, FileFault<'a>>
     ensures seen { IfOk result (IsSeen R.File.remaining R.had R.stood) }
-    ensures fault { IfErr result IsStatusOfFileOrMemory }
+    ensures fault { IfErr result (λ fault. IsStatusOfFileOrMemory (file_status fault)) }
 {
-    match pack_of(host, path)? {
+    match pack_of(rt, path)? {
         Some(parts) => Ok(Seen::Pack(parts)),
         None => {
-            let SeenImage { found, read } = see_image(host, path)?;
+            let SeenImage { found, read } = see_image(rt, path)?;
             Ok(Seen::Image { found, read })
         }
     }
@@ -291,34 +282,34 @@ struct SeenImage {
     read: usize,
 }
 
-/// Returns what the image in a file seems to be. If it can't be read, prints the fault and returns the status.
-fn see_image<R: ImageFiles + Eprint + AllocGlobal>(
-    host: &Surroundings<'_, R>,
-    path: &str,
-) -> Result<SeenImage, u8>
+/// Returns what the image in a file seems to be.
+fn see_image<'a, R: ImageFiles + AllocGlobal>(
+    rt: &R,
+    path: &'a str,
+) -> Result<SeenImage, FileFault<'a>>
     ensures seen { IfOk result (λ image. IsImageSeen R.File.remaining image.found image.read) }
-    ensures fault { IfErr result IsStatusOfFileOrMemory }
+    ensures fault { IfErr result (λ fault. IsStatusOfFileOrMemory (file_status fault)) }
 {
-    let front = read_to_guess(host, path)?;
-    match identify(host.rt.alloc(), &front) {
+    let front = read_to_guess(rt, path)?;
+    match identify(rt.alloc(), &front) {
         Ok(found) => Ok(SeenImage {
             found,
             read: front.len(),
         }),
-        Err(_) => Err(explain_no_memory_for(host, path)),
+        Err(_) => Err(FileFault::NoMemoryFor(path)),
     }
 }
 
-/// Returns the judged parts of the pack in a file, unless it isn't one. If it can't be read, prints the fault and returns the status.
-fn pack_of<R: ImageFiles + Eprint + AllocGlobal>(
-    host: &Surroundings<'_, R>,
-    path: &str,
-) -> Result<Option<Vec<JudgedPart>>, u8>
+/// Returns the judged parts of the pack in a file, unless it isn't one.
+fn pack_of<'a, R: ImageFiles + AllocGlobal>(
+    rt: &R,
+    path: &'a str,
+) -> Result<Option<Vec<JudgedPart>>, FileFault<'a>>
     ensures pack { IfOk result (GivesPack R.File.remaining R.had R.stood) }
-    ensures fault { IfErr result IsStatusOfFileOrMemory }
+    ensures fault { IfErr result (λ fault. IsStatusOfFileOrMemory (file_status fault)) }
 {
-    match judged_pack(host.rt, path) {
+    match judged_pack(rt, path) {
         Ok(pack) => Ok(pack),
-        Err(fault) => Err(explain_pack_fault(host, path, fault)),
+        Err(fault) => Err(pack_fault(path, fault)),
     }
 }

@@ -7,9 +7,8 @@ ghost use Rattle.host_files.specs.declared.folders.Found.{Found};
 ghost use Rattle.pdp_words.specs.Devices.{AppendsFront};
 ghost use Rattle.unixvol.specs.Below.{IdentifiesBelow, IsOpened, IsStart, IsStarted, IsVisit, RunsBelow, VisitsAll, listing_status};
 
-use crate::explain::{
-    NamedFile, explain_no_memory, explain_no_memory_for, explain_unread, finish_printed, tell_fault,
-};
+use crate::explain::{finish_printed, tell_fault, tell_file};
+use crate::file_fault::{FileFault, NamedFile};
 use crate::host::Surroundings;
 use crate::identify::{front_of, print_line};
 use command_faults::status::DONE;
@@ -63,7 +62,7 @@ fn print_all<R: ImageFiles + Eprint + AllocGlobal, O: Sink>(
     match start(host, images) {
         Ok(stack) => print_stack(host, output, form, stack),
         Err(_) => Ending {
-            status: explain_no_memory(host),
+            status: tell_file(host, &FileFault::NoMemory),
             fault: None,
         },
     }
@@ -145,7 +144,8 @@ fn give_up<R: Eprint + AllocGlobal>(host: &Surroundings<'_, R>, stack: &[Found])
         Some(found) => found.path.as_str(),
         None => "",
     };
-    explain_unread(host, NamedFile::File(path), io::Error::other(TOO_MANY))
+    let why = io::Error::other(TOO_MANY);
+    tell_file(host, &FileFault::Unread(NamedFile::File(path), why))
 }
 
 /// Prints the lines of a file, or puts what is in a folder on a stack, and returns the status. Fails only if standard output does.
@@ -178,13 +178,13 @@ fn open_folder<R: ImageFiles + Eprint + AllocGlobal>(
     let FolderListing { found, fault } = match host.rt.folder_at(path) {
         Ok(listing) => listing,
         Err(why) if why.kind() == io::ErrorKind::OutOfMemory => {
-            return explain_no_memory_for(host, path);
+            return tell_file(host, &FileFault::NoMemoryFor(path));
         }
-        Err(why) => return explain_unread(host, NamedFile::File(path), why),
+        Err(why) => return tell_file(host, &FileFault::Unread(NamedFile::File(path), why)),
     };
     match stack_found(stack, found) {
         Ok(()) => tell_left_out(host, path, fault),
-        Err(_) => explain_no_memory_for(host, path),
+        Err(_) => tell_file(host, &FileFault::NoMemoryFor(path)),
     }
 }
 
@@ -198,6 +198,6 @@ fn tell_left_out<R: Eprint + AllocGlobal>(
 {
     match fault {
         None => DONE,
-        Some(why) => explain_unread(host, NamedFile::File(path), why),
+        Some(why) => tell_file(host, &FileFault::Unread(NamedFile::File(path), why)),
     }
 }

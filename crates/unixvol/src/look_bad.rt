@@ -2,10 +2,12 @@
 ghost use Rattle.std.specs.Prelude.{IfErr, IfOk};
 ghost use Rattle.std.specs.Process.{exit_status};
 ghost use Rattle.command_faults.specs.Streams.{ErrorStream, Hears, streams};
+ghost use Rattle.unixvol.specs.FileFaults.{file_status, run_fault, run_status};
 ghost use Rattle.unixvol.specs.LookBad.{IsBadRead, IsKnownRead, LooksBadToEnd, RunsLookBad};
 ghost use Rattle.unixvol.specs.Runs.{IsUnread, host_files};
 
-use crate::explain::{finish_printed, tell_fault};
+use crate::explain::{finish_printed, tell_end};
+use crate::file_fault::{FailedRun, FileFault};
 use crate::host::Surroundings;
 use crate::read::{read_blocks, read_file, read_stamped};
 use crate::subject::Subject;
@@ -38,51 +40,29 @@ pub fn run_to_end<R: ImageFiles + Eprint + AllocGlobal, O: Write + Drop, E: Writ
 {
     let mut errors = IntoWrite::new(errors);
     let mut output = noted_writer(output);
-    let ending = run(host, screen, &mut output, volume, image, look);
+    let ended = run(host.rt, screen, &mut output, volume, image, look);
     let subject = Subject::of_look(volume, look.whole());
-    tell_fault(
-        host,
-        &mut errors,
-        &ending.fault,
-        output.error(),
-        Some(subject),
-    );
-    ExitCode::from(finish_printed(host, output.into_inner().into_inner(), ending.status))
+    let status = tell_end(host, &mut errors, &ended, output.error(), Some(subject));
+    ExitCode::from(finish_printed(host, output.into_inner().into_inner(), status))
 }
 
 /// Shows part of the image, and returns the result of the run, which holds if [`finish_printed`] succeeds.
-fn run<R: ImageFiles + Eprint + AllocGlobal, O: Sink>(
-    host: &Surroundings<'_, R>,
+fn run<'a, R: ImageFiles + AllocGlobal, O: Sink>(
+    rt: &R,
     screen: Screen,
     output: &mut O,
-    volume: VolumeFile<'_>,
-    image: BadImage<'_>,
+    volume: VolumeFile<'a>,
+    image: BadImage<'a>,
     look: BadLook<'_>,
-) -> Ending
-    ensures { (errors : ErrorStream) → Hears errors result.fault
+) -> Result<Ending, FailedRun<'a>>
+    ensures { (errors : ErrorStream) → Hears errors (run_fault result)
         → RunsLookBad (streams O.contents O.failed output.old output.new errors)
-        (host_files volume.entry.at R.File.remaining R.File.contents R.had R.stood) screen volume.entry image.entry look.entry result.status }
+        (host_files volume.entry.at R.File.remaining R.File.contents R.had R.stood) screen volume.entry image.entry look.entry (run_status result) }
 {
-    let bad = match read_bad(host, volume, image.bad) {
-        Ok(bad) => bad,
-        Err(status) => {
-            return Ending {
-                status,
-                fault: None,
-            };
-        }
-    };
-    let bytes = match read_known(host, volume, image.sizes) {
-        Ok(read) => read.0,
-        Err(status) => {
-            return Ending {
-                status,
-                fault: None,
-            };
-        }
-    };
-    look_bad(
-        host.rt.alloc(),
+    let bad = read_bad(rt, volume, image.bad)?;
+    let (bytes, _) = read_known(rt, volume, image.sizes)?;
+    Ok(look_bad(
+        rt.alloc(),
         volume.edition,
         bytes,
         bad,
@@ -90,40 +70,39 @@ fn run<R: ImageFiles + Eprint + AllocGlobal, O: Sink>(
         look,
         screen,
         output,
-    )
+    ))
 }
 
 /// Reads the image of the volume in a file: up to the end that its super-block states, or if sizes are given, that they state; and returns it with the file's
-/// stamp. If it can't be read, reports that on standard error and returns the exit status.
-pub(crate) fn read_known<R: ImageFiles + Eprint + AllocGlobal>(
-    host: &Surroundings<'_, R>,
-    volume: VolumeFile<'_>,
+/// stamp.
+pub(crate) fn read_known<'a, R: ImageFiles + AllocGlobal>(
+    rt: &R,
+    volume: VolumeFile<'a>,
     sizes: Option<VolumeSizes>,
-) -> Result<(Vec<u8>, Stamp), u8>
+) -> Result<(Vec<u8>, Stamp), FileFault<'a>>
     ensures given { IfOk result (λ read. IsKnownRead (host_files volume.entry.at R.File.remaining R.File.contents R.had R.stood) volume.entry read.0.items sizes) }
-    ensures fault { IfErr result (IsUnread R.File.remaining) }
+    ensures fault { IfErr result (λ fault. IsUnread R.File.remaining (file_status fault)) }
 {
     match sizes {
-        None => read_stamped(host, volume),
-        Some(sizes) => read_blocks(host, volume, sizes.blocks),
+        None => read_stamped(rt, volume),
+        Some(sizes) => read_blocks(rt, volume, sizes.blocks),
     }
 }
 
-/// Returns what says which blocks couldn't be read: the map, which is read from its file, or the ranges themselves. If the map's file can't be read,
-/// reports that on standard error and returns the exit status.
-pub(crate) fn read_bad<'a, R: ImageFiles + Eprint + AllocGlobal>(
-    host: &Surroundings<'_, R>,
+/// Returns what says which blocks couldn't be read: the map, which is read from its file, or the ranges themselves.
+pub(crate) fn read_bad<'a, R: ImageFiles + AllocGlobal>(
+    rt: &R,
     volume: VolumeFile<'_>,
     bad: GivenBad<'a>,
-) -> Result<BadBlocks<'a>, u8>
+) -> Result<BadBlocks<'a>, FileFault<'a>>
     ensures read { IfOk result (λ read. IsBadRead (host_files volume.entry.at R.File.remaining R.File.contents R.had R.stood) volume.entry bad.entry read) }
-    ensures fault { IfErr result (IsUnread R.File.remaining) }
+    ensures fault { IfErr result (λ fault. IsUnread R.File.remaining (file_status fault)) }
 {
     let map = match bad {
         GivenBad::Outside(ranges) => return Ok(BadBlocks::Outside(ranges)),
         GivenBad::Map(map) => map,
     };
-    let text = read_file(host, map)?;
+    let text = read_file(rt, map)?;
     Ok(BadBlocks::Map(BadMap {
         name: map,
         text,

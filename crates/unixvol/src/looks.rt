@@ -3,9 +3,11 @@
 ghost use Rattle.std.specs.Prelude.{◌≡◌, ◌≤◌, IfErr, IfOk};
 ghost use Rattle.std.specs.Process.{exit_status};
 ghost use Rattle.command_faults.specs.Streams.{ErrorStream, Hears, streams};
+ghost use Rattle.unixvol.specs.FileFaults.{file_status, run_fault, run_status};
 ghost use Rattle.unixvol.specs.Runs.{Ends, IsEndWithin, IsSeen, IsShownBy, IsUnread, LooksToEnd, RunsGetOne, RunsLook, highest_status, host_files};
 
-use crate::explain::{explain_rules, finish_printed, tell_fault};
+use crate::explain::{explain_rules, finish_printed, tell_end};
+use crate::file_fault::{FailedRun, FileFault};
 use crate::host::Surroundings;
 use crate::read::{read_checked, read_volume};
 use crate::subject::Subject;
@@ -86,55 +88,41 @@ pub fn run_to_end<R: ImageFiles + Eprint + AllocGlobal, O: Write + Drop, E: Writ
 {
     let mut errors = IntoWrite::new(errors);
     let mut output = noted_writer(output);
-    let ending = run(host, screen, &mut output, volume, look);
+    let ended = run(host.rt, screen, &mut output, volume, look);
     let subject = Subject::of_look(volume, look);
-    tell_fault(
-        host,
-        &mut errors,
-        &ending.fault,
-        output.error(),
-        Some(subject),
-    );
-    explain_rules(host, look, ending.status);
-    ExitCode::from(finish_printed(host, output.into_inner().into_inner(), ending.status))
+    let status = tell_end(host, &mut errors, &ended, output.error(), Some(subject));
+    explain_rules(host, look, status);
+    ExitCode::from(finish_printed(host, output.into_inner().into_inner(), status))
 }
 
 /// Shows part of the image in a file, and returns the result of the run, which holds if [`finish_printed`] succeeds.
-fn run<R: ImageFiles + Eprint + AllocGlobal, O: Sink>(
-    host: &Surroundings<'_, R>,
+fn run<'a, R: ImageFiles + AllocGlobal, O: Sink>(
+    rt: &R,
     screen: Screen,
     output: &mut O,
-    volume: VolumeFile<'_>,
+    volume: VolumeFile<'a>,
     look: Look<'_>,
-) -> Ending
-    ensures runs { (errors : ErrorStream) → Hears errors result.fault
-        → RunsLook (streams O.contents O.failed output.old output.new errors) (host_files volume.entry.at R.File.remaining R.File.contents R.had R.stood) screen volume.entry.edition look.entry result.status }
-    ensures ends { (errors : ErrorStream) → Hears errors result.fault
-        → IsEndWithin (highest_status look.entry) (streams O.contents O.failed output.old output.new errors) result.status }
+) -> Result<Ending, FailedRun<'a>>
+    ensures runs { (errors : ErrorStream) → Hears errors (run_fault result)
+        → RunsLook (streams O.contents O.failed output.old output.new errors) (host_files volume.entry.at R.File.remaining R.File.contents R.had R.stood) screen volume.entry.edition look.entry (run_status result) }
+    ensures ends { (errors : ErrorStream) → Hears errors (run_fault result)
+        → IsEndWithin (highest_status look.entry) (streams O.contents O.failed output.old output.new errors) (run_status result) }
 {
-    let image = match read_seen(host, volume, look) {
-        Ok(image) => image,
-        Err(status) => {
-            return Ending {
-                status,
-                fault: None,
-            };
-        }
-    };
-    perform(host.rt.alloc(), volume.edition, image, look, screen, output)
+    let image = read_seen(rt, volume, look)?;
+    Ok(perform(rt.alloc(), volume.edition, image, look, screen, output))
 }
 
-/// Reads the image to show. If it can't be read, prints the fault and returns the status.
-fn read_seen<R: ImageFiles + Eprint + AllocGlobal>(
-    host: &Surroundings<'_, R>,
-    volume: VolumeFile<'_>,
+/// Reads the image to show.
+fn read_seen<'a, R: ImageFiles + AllocGlobal>(
+    rt: &R,
+    volume: VolumeFile<'a>,
     look: Look<'_>,
-) -> Result<Vec<u8>, u8>
+) -> Result<Vec<u8>, FileFault<'a>>
     ensures given { IfOk result (λ image. IsSeen (host_files volume.entry.at R.File.remaining R.File.contents R.had R.stood) volume.entry.edition look.entry image.items) }
-    ensures fault { IfErr result (IsUnread R.File.remaining) }
+    ensures fault { IfErr result (λ fault. IsUnread R.File.remaining (file_status fault)) }
 {
     match look {
-        Look::Check { .. } => read_checked(host, volume),
+        Look::Check { .. } => read_checked(rt, volume),
         Look::List { .. }
         | Look::Export { .. }
         | Look::Sums { .. }
@@ -147,30 +135,24 @@ fn read_seen<R: ImageFiles + Eprint + AllocGlobal>(
         | Look::Find { .. }
         | Look::Map { .. }
         | Look::Uses
-        | Look::Slots { .. } => read_volume(host, volume),
+        | Look::Slots { .. }
+        | Look::ListUnsound { .. }
+        | Look::ReadUnsound { .. } => read_volume(rt, volume),
     }
 }
 
 /// Prints the file at a path of the volume in a file, and returns the result of the run.
-pub fn run_get<R: ImageFiles + Eprint + AllocGlobal, O: Sink>(
-    host: &Surroundings<'_, R>,
+pub fn run_get<'a, R: ImageFiles + AllocGlobal, O: Sink>(
+    rt: &R,
     output: &mut O,
-    volume: VolumeFile<'_>,
+    volume: VolumeFile<'a>,
     path: &str,
-) -> Ending
-    ensures runs { (errors : ErrorStream) → Hears errors result.fault
-        → RunsGetOne (streams O.contents O.failed output.old output.new errors) (host_files volume.entry.at R.File.remaining R.File.contents R.had R.stood) volume.entry.edition path.now result.status }
-    ensures ends { (errors : ErrorStream) → Hears errors result.fault
-        → Ends (streams O.contents O.failed output.old output.new errors) result.status }
+) -> Result<Ending, FailedRun<'a>>
+    ensures runs { (errors : ErrorStream) → Hears errors (run_fault result)
+        → RunsGetOne (streams O.contents O.failed output.old output.new errors) (host_files volume.entry.at R.File.remaining R.File.contents R.had R.stood) volume.entry.edition path.now (run_status result) }
+    ensures ends { (errors : ErrorStream) → Hears errors (run_fault result)
+        → Ends (streams O.contents O.failed output.old output.new errors) (run_status result) }
 {
-    let image = match read_volume(host, volume) {
-        Ok(image) => image,
-        Err(status) => {
-            return Ending {
-                status,
-                fault: None,
-            };
-        }
-    };
-    show_file(host.rt.alloc(), volume.edition, image, path, output)
+    let image = read_volume(rt, volume)?;
+    Ok(show_file(rt.alloc(), volume.edition, image, path, output))
 }

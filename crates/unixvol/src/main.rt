@@ -7,6 +7,7 @@ mod compare;
 mod copy;
 mod editions;
 mod explain;
+mod file_fault;
 mod guesses;
 mod hints;
 mod host;
@@ -53,9 +54,9 @@ fn main(rt: HostRuntime) -> ExitCode {
     let host = Surroundings::new(&rt, words.as_slice(), errors.is_terminal());
     let output = rt.stdout();
     let screen = looks::screen(&rt, output.is_terminal());
-    let read = match editions::read_settled(&host, moment(&rt), words.as_slice()) {
+    let read = match editions::read_settled(&rt, moment(&rt), words.as_slice()) {
         Ok(read) => read,
-        Err(status) => return ExitCode::from(status),
+        Err(fault) => return ExitCode::from(explain::tell_file(&host, &fault)),
     };
     match read {
         Ok(Invocation::Work { volume, work }) => {

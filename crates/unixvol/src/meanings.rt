@@ -36,6 +36,9 @@ const UNREPAIRED: &str =
 /// The text for an export that wrote nothing.
 const NOTHING_EXPORTED: &str = "; nothing is exported";
 
+/// The text for a listing or a file that wasn't shown of a volume that isn't sound.
+const SHOWN_UNSOUND: &str = "; --unsound shows what is there";
+
 /// The text for an export that wrote nothing of a volume that was cut off.
 const NOT_CUT: &str = "; nothing is exported: add --cut to read what is there";
 
@@ -48,9 +51,9 @@ pub fn meaning_of(
     sizes: Option<Sizes>,
 ) -> Result<Option<String>, AllocError> {
     match fault {
-        Fault::Unsound(rule) => rule_meaning(alloc, Some(*rule), subject, sizes),
+        Fault::Unsound(rule) => rule_meaning(alloc, Some(*rule), true, subject, sizes),
         Fault::Worded { rule: None, lines } => unread_meaning(alloc, lines, subject),
-        Fault::Worded { rule, .. } => rule_meaning(alloc, *rule, subject, sizes),
+        Fault::Worded { rule, .. } => rule_meaning(alloc, *rule, false, subject, sizes),
         Fault::BadLine {
             script,
             number,
@@ -147,10 +150,11 @@ fn is_about_sparse(lines: &[u8]) -> bool {
     }
 }
 
-/// Returns the meaning of a broken rule.
+/// Returns the meaning of a broken rule. `is_refused` is true if nothing was shown because of it.
 fn rule_meaning(
     alloc: Global,
     rule: Option<u8>,
+    is_refused: bool,
     subject: Subject<'_>,
     sizes: Option<Sizes>,
 ) -> Result<Option<String>, AllocError> {
@@ -167,6 +171,8 @@ fn rule_meaning(
     let end = match (rule, subject.verb) {
         (Rule::Whole, Verb::Export) if is_cut_off(subject.edition, sizes) => NOT_CUT,
         (Rule::Whole | Rule::Bounded, Verb::Export) => NOTHING_EXPORTED,
+        (Rule::Whole | Rule::Bounded, _) => "",
+        (_, Verb::Ls | Verb::Get) if is_refused => SHOWN_UNSOUND,
         _ => "",
     };
     let text = format!(in alloc; "{image}: it breaks rule {number}, that {sentence}{more}{end}")?;

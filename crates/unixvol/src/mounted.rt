@@ -1,15 +1,18 @@
 //! `serve` without `--read-only`: mounts a volume, serves it with changes, and saves it in its file.
-ghost use Rattle.std.specs.Prelude.{ℕ, IfErr, Some, map};
+ghost use Rattle.std.specs.Prelude.{◌≡◌, ℕ, IfErr, IfOk, Some, map};
 ghost use Rattle.command_faults.specs.Streams.{heard, says};
+ghost use Rattle.host_files.specs.OpenedFiles.{IsOpened};
+ghost use Rattle.unixvol.specs.FileFaults.{file_status};
 ghost use Rattle.unixvol.specs.Runs.{IsStored, IsUnread, host_files};
 ghost use Rattle.unixvol.specs.Serve.{EndsMounted, MountsImage, RunsMounted, messages};
 
-use crate::explain::{NamedFile, explain_unread, tell_fault};
+use crate::explain::{tell_fault, tell_file};
+use crate::file_fault::{FileFault, NamedFile};
 use crate::host::Surroundings;
 use crate::moment;
-use crate::read::{Begun, begin};
+use crate::read::{expect_volume, read_image};
 use crate::rescue::{expect_free, rescue};
-use crate::save::{explain_unsaved, part_of};
+use crate::save::part_of;
 use crate::subject::Subject;
 use command_faults::mount::mount;
 use command_faults::status::{BAD_FILE, NO_MEMORY};
@@ -67,30 +70,18 @@ pub fn run<R: ImageFiles + Env + Clock + Eprint + AllocGlobal, Q: Requests, P: R
     ensures { RunsMounted (host_files volume.entry.at R.File.remaining R.File.contents R.had R.stood) volume.entry.edition
         (says (heard E.contents E.failed errors.old errors.new)) (messages Q.taken P.sent requests.old requests.new replies.old replies.new) result }
 {
-    let owner_told = ||
-        ensures { IfErr result (IsUnread R.File.remaining) }
-    { prepare(host, is_mine, rescued) };
-    let begun = match begin(host, volume, owner_told) {
-        Ok(begun) => begun,
-        Err(status) => return Err(status),
+    let (owner, image, held) = match prepare(host, volume, is_mine, rescued) {
+        Ok(prepared) => prepared,
+        Err(fault) => return Err(tell_file(host, &fault)),
     };
-    let Begun {
-        given,
-        image,
-        stamp,
-        locked,
-    } = begun;
     let mounted = mount_or_tell(host, errors, volume, image)?;
-    let Ok(mut server) = MountedServer::new(host.rt.alloc(), mounted, given) else {
+    let Ok(mut server) = MountedServer::new(host.rt.alloc(), mounted, owner) else {
         return Ok(Err(ServeFault::NoMemory));
     };
     let mut saver = ImageSaver {
         host,
         volume,
-        held: HeldFile {
-            file: locked,
-            stamp,
-        },
+        held,
         ran_out: false,
         saved: Vec::new(host.rt.alloc()),
     };
@@ -101,35 +92,37 @@ pub fn run<R: ImageFiles + Env + Clock + Eprint + AllocGlobal, Q: Requests, P: R
     result_of(served, saver.ran_out)
 }
 
-/// Checks that there is no file yet for a rescue, and returns the user and the group to show, as [`owner`] does.
-fn prepare<R: ImageFiles + Eprint + AllocGlobal>(
+/// Checks that the image can be opened and that there is no file yet for a rescue; then locks the image and reads it. Returns the user and the group to
+/// show, as [`owner`] does, the image, and its file.
+fn prepare<'a, R: ImageFiles + Clock + Eprint + AllocGlobal>(
     host: &Surroundings<'_, R>,
+    volume: VolumeFile<'a>,
     is_mine: bool,
-    rescued: Option<&str>,
-) -> Result<Option<Owner>, u8>
-    ensures { IfErr result (IsUnread R.File.remaining) }
+    rescued: Option<&'a str>,
+) -> Result<(Option<Owner>, Vec<u8>, HeldFile<R::File>), FileFault<'a>>
+    ensures image { IfOk result (λ prepared. IsOpened volume.entry.at volume.entry.edition R.File.remaining R.had prepared.1.items prepared.2.stamp) }
+    ensures fault { IfErr result (λ fault. IsUnread R.File.remaining (file_status fault)) }
 {
-    expect_free(host, rescued)?;
-    owner(host, is_mine)
+    expect_volume(host.rt, volume)?;
+    expect_free(host.rt, rescued)?;
+    let owner = owner(host.rt, is_mine)?;
+    let (image, stamp, file) = read_image(host, volume)?;
+    Ok((owner, image, HeldFile { file, stamp }))
 }
 
-/// Returns the user and the group of the program, if all nodes are shown as belonging to them. If the system doesn't report them, prints the fault
-/// and returns the status.
-fn owner<R: ImageFiles + Eprint + AllocGlobal>(
-    host: &Surroundings<'_, R>,
-    is_mine: bool,
-) -> Result<Option<Owner>, u8>
-    ensures { IfErr result (IsUnread R.File.remaining) }
+/// Returns the user and the group of the program, if all nodes are shown as belonging to them.
+fn owner<'a, R: ImageFiles>(rt: &R, is_mine: bool) -> Result<Option<Owner>, FileFault<'a>>
+    ensures { IfErr result (λ fault. file_status fault ≡ 3) }
 {
     if !is_mine {
         return Ok(None);
     }
-    match fs::metadata(host.rt, OWN_FOLDER) {
+    match fs::metadata(rt, OWN_FOLDER) {
         Ok(metadata) => Ok(Some(Owner {
             uid: metadata.uid(),
             gid: metadata.gid(),
         })),
-        Err(why) => Err(explain_unread(host, NamedFile::File(OWN_FOLDER), why)),
+        Err(why) => Err(FileFault::Unread(NamedFile::File(OWN_FOLDER), why)),
     }
 }
 
@@ -177,7 +170,8 @@ impl<R: ImageFiles + Clock + Eprint + AllocGlobal> vol_mounted::Host for ImageSa
         let path = self.volume.image;
         let part = part_of(self.volume, image.as_bytes());
         if let Err(why) = save_held(self.host.rt, path, &mut self.held, part) {
-            self.ran_out = explain_unsaved(self.host, path, why) == NO_MEMORY;
+            let status = tell_file(self.host, &FileFault::unsaved(path, why));
+            self.ran_out = status == NO_MEMORY;
             return false;
         }
         let saved = SavedImage {

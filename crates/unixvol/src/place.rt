@@ -1,12 +1,11 @@
 //! The place of a resized volume in its file.
 ghost use Rattle.std.specs.Prelude.{◌≡◌, IfErr, OnOk};
+ghost use Rattle.unixvol.specs.FileFaults.{file_status};
 ghost use Rattle.unixvol.specs.Resize.{IsAlone, has_only};
 ghost use Rattle.unixvol.specs.Runs.{IsStatusOfFileOrMemory};
 
-use crate::explain::{NamedFile, explain_no_memory, explain_unread, explain_unwritten, reason_of};
-use crate::host::Surroundings;
-use crate::meanings::shown;
-use command_faults::status::BAD_FILE;
+use crate::explain::reason_of;
+use crate::file_fault::{FileFault, NamedFile};
 use host_files::{FileKind, ImageFiles, Stamp, open_sized};
 use pack_files::{Growth, PackFault, other_volume};
 use pdp_words::BLOCK;
@@ -15,49 +14,49 @@ use std::io;
 use vol_identify::Part;
 
 /// Checks that a volume can become larger in the file at `path`, which has this stamp: no other volume has blocks that it would get, and a pack or a
-/// device has them. If it can't, prints why and returns the status. A volume can always become smaller.
-pub fn expect_place<R: ImageFiles + Eprint + AllocGlobal>(
-    host: &Surroundings<'_, R>,
-    path: &str,
+/// device has them. A volume can always become smaller.
+pub fn expect_place<'a, R: ImageFiles + AllocGlobal>(
+    rt: &R,
+    path: &'a str,
     stamp: Stamp,
     growth: Growth,
-) -> Result<(), u8>
+) -> Result<(), FileFault<'a>>
     ensures place { OnOk result (IsAlone R.File.remaining R.had growth) }
-    ensures fault { IfErr result IsStatusOfFileOrMemory }
+    ensures fault { IfErr result (λ fault. IsStatusOfFileOrMemory (file_status fault)) }
 {
     if growth.gets <= growth.had {
         return Ok(());
     }
     if growth.at > 0 || stamp.kind != FileKind::Regular {
-        expect_end(host, path, stamp, growth)?;
+        expect_end(rt, path, stamp, growth)?;
     }
     let named = NamedFile::File(path);
-    match other_volume(host.rt, path, growth) {
+    match other_volume(rt, path, growth) {
         Ok(None) => Ok(()),
-        Ok(Some(part)) => Err(explain_other(host, path, part)),
-        Err(PackFault::Unread(why)) => Err(explain_unread(host, named, reason_of(why))),
-        Err(PackFault::Short) => Err(explain_unread(host, named, reason_of(None))),
-        Err(PackFault::NoMemory) => Err(explain_no_memory(host)),
+        Ok(Some(part)) => Err(FileFault::Taken(path, part)),
+        Err(PackFault::Unread(why)) => Err(FileFault::Unread(named, reason_of(why))),
+        Err(PackFault::Short) => Err(FileFault::Unread(named, reason_of(None))),
+        Err(PackFault::NoMemory) => Err(FileFault::NoMemory),
     }
 }
 
-/// Checks that the file at `path`, which has this stamp, has all blocks of a volume. If it hasn't, prints why and returns the status.
-fn expect_end<R: ImageFiles + Eprint + AllocGlobal>(
-    host: &Surroundings<'_, R>,
-    path: &str,
+/// Checks that the file at `path`, which has this stamp, has all blocks of a volume.
+fn expect_end<'a, R: ImageFiles>(
+    rt: &R,
+    path: &'a str,
     stamp: Stamp,
     growth: Growth,
-) -> Result<(), u8>
-    ensures { IfErr result IsStatusOfFileOrMemory }
+) -> Result<(), FileFault<'a>>
+    ensures { IfErr result (λ fault. IsStatusOfFileOrMemory (file_status fault)) }
 {
-    let size = match size_at(host.rt, path, stamp) {
+    let size = match size_at(rt, path, stamp) {
         Ok(size) => size,
-        Err(why) => return Err(explain_unwritten(host, NamedFile::File(path), why)),
+        Err(why) => return Err(FileFault::Unwritten(NamedFile::File(path), why)),
     };
     let end = u64::from(growth.at) + u64::from(growth.gets);
     let blocks = size / BLOCK as u64;
     if blocks < end {
-        return Err(explain_end(host, path, blocks));
+        return Err(FileFault::Small(path, blocks));
     }
     Ok(())
 }
@@ -71,19 +70,18 @@ fn size_at<R: ImageFiles>(rt: &R, path: &str, stamp: Stamp) -> io::Result<u64> {
     Ok(sized.size)
 }
 
-/// Checks that a new volume can be made in the file at `path`, which has this stamp: the file has all its blocks, and none of them is another volume's. If it
-/// can't, prints why and returns the status.
-pub fn expect_room<R: ImageFiles + Eprint + AllocGlobal>(
-    host: &Surroundings<'_, R>,
-    path: &str,
+/// Checks that a new volume can be made in the file at `path`, which has this stamp: the file has all its blocks, and none of them is another volume's.
+pub fn expect_room<'a, R: ImageFiles + AllocGlobal>(
+    rt: &R,
+    path: &'a str,
     stamp: Stamp,
     place: Growth,
-) -> Result<(), u8>
+) -> Result<(), FileFault<'a>>
     ensures room { OnOk result (IsAlone R.File.remaining R.had place) }
-    ensures fault { IfErr result IsStatusOfFileOrMemory }
+    ensures fault { IfErr result (λ fault. IsStatusOfFileOrMemory (file_status fault)) }
 {
-    expect_end(host, path, stamp, place)?;
-    expect_place(host, path, stamp, place)
+    expect_end(rt, path, stamp, place)?;
+    expect_place(rt, path, stamp, place)
 }
 
 /// True if a regular file with this stamp has nothing but the volume, before or after it is resized.
@@ -94,26 +92,8 @@ pub fn has_only(stamp: Stamp, growth: Growth) -> bool
     growth.at == 0 && matches!(stamp.kind, FileKind::Regular) && stamp.size <= BLOCK as u64 * blocks
 }
 
-/// Prints that a pack ends before a volume would, and returns the status.
-fn explain_end<R: Eprint + AllocGlobal>(host: &Surroundings<'_, R>, path: &str, blocks: u64) -> u8
-    ensures { result ≡ 3 }
-{
-    explain_refused(
-        host,
-        path,
-        format!(in host.rt.alloc(); "it has only {blocks} blocks"),
-    )
-}
-
-/// Prints that a volume would get blocks of another, and returns the status.
-fn explain_other<R: Eprint + AllocGlobal>(host: &Surroundings<'_, R>, path: &str, other: Part) -> u8
-    ensures { result ≡ 3 }
-{
-    explain_refused(host, path, other_words(host.rt.alloc(), other))
-}
-
 /// Describes the volume whose blocks would be overwritten.
-fn other_words(alloc: Global, other: Part) -> Result<String, AllocError> {
+pub fn taken_words(alloc: Global, other: Part) -> Result<String, AllocError> {
     match other {
         Part::Volume { block, volume } => {
             let blocks = volume.blocks;
@@ -125,22 +105,4 @@ fn other_words(alloc: Global, other: Part) -> Result<String, AllocError> {
             format!(in alloc; "it would overwrite the blocks from block {block} on")
         }
     }
-}
-
-/// Prints that a file isn't written for this reason, and returns the status.
-fn explain_refused<R: Eprint + AllocGlobal>(
-    host: &Surroundings<'_, R>,
-    path: &str,
-    why: Result<String, AllocError>,
-) -> u8
-    ensures { result ≡ 3 }
-{
-    let _ = eprintln!(host.rt; "unixvol: cannot write {path}");
-    if !host.explains {
-        return BAD_FILE;
-    }
-    if let (Ok(name), Ok(why)) = (shown(host.rt.alloc(), path), why) {
-        let _ = eprintln!(host.rt; "unixvol: {name}: {why}");
-    }
-    BAD_FILE
 }

@@ -1,14 +1,14 @@
 //! Reads files to their ends, or to the end of the volume or archive in them.
-ghost use Rattle.std.specs.Prelude.{◌≡◌, ◌⊎◌, ◌*◌, [], false, true, All, Err, IfErr, IfOk, IsErrOf, Ok, OnErr, length};
+ghost use Rattle.std.specs.Prelude.{◌≡◌, ◌⊎◌, ◌*◌, [], false, true, All, IfErr, IfOk, OnErr, length};
 ghost use Rattle.pdp_words.specs.Devices.{LosesFront};
 ghost use Rattle.host_files.specs.OpenedFiles.{IsOpened};
 ghost use Rattle.host_files.specs.Packs.{IsMovedTo, IsReadFrom};
 ghost use Rattle.host_files.specs.ReadParts.{IsPast, IsReadOn, IsReadUpTo};
+ghost use Rattle.unixvol.specs.FileFaults.{file_status};
 ghost use Rattle.unixvol.specs.Runs.{GaveAt, GaveBytes, GaveFront, GaveImage, GavePut, GaveScript, IsKept, IsStatusOfFileOrMemory, IsUnread, is_other_longer};
 
-use crate::explain::{
-    NamedFile, explain_no_memory, explain_short, explain_unread, explain_unwritten, reason_of,
-};
+use crate::explain::reason_of;
+use crate::file_fault::{FileFault, NamedFile};
 use crate::host::Surroundings;
 use crate::sizes::HEAD;
 use command_changes::{GivenFile, Kept};
@@ -20,6 +20,7 @@ use host_files::{
     read_up_to,
 };
 use pdp_words::{BLOCK, Image, Source};
+use std::alloc::Global;
 use std::fs::{self, Files, OpenFile};
 use std::io::{self, Read};
 use std::rt::Clock;
@@ -45,59 +46,58 @@ pub struct ReadFile<F> {
     pub file: F,
 }
 
-/// Reads a file to its end. If it can't be read, prints the fault and returns the status.
-pub fn read_file<R: Files + Eprint + AllocGlobal>(
-    host: &Surroundings<'_, R>,
-    path: &str,
-) -> Result<Vec<u8>, u8>
+/// Reads a file to its end.
+pub fn read_file<'a, R: Files + AllocGlobal>(
+    rt: &R,
+    path: &'a str,
+) -> Result<Vec<u8>, FileFault<'a>>
     ensures given { IfOk result (λ bytes. GaveBytes R.File.remaining bytes.items) }
-    ensures fault { IfErr result (IsUnread R.File.remaining) }
+    ensures fault { IfErr result (λ fault. IsUnread R.File.remaining (file_status fault)) }
 {
     let named = NamedFile::File(path);
-    match fs::open(host.rt, path) {
-        Ok(file) => Ok(read_open(host, named, UpTo::End, file)?.bytes),
-        Err(why) => Err(explain_unread(host, named, why)),
+    match fs::open(rt, path) {
+        Ok(file) => Ok(read_open(rt.alloc(), named, UpTo::End, file)?.bytes),
+        Err(why) => Err(FileFault::Unread(named, why)),
     }
 }
 
 /// Reads a file to put into a volume of an edition, with what is kept of it besides its bytes. A file that is larger than any file of the edition is
-/// read up to one byte more than the greatest size, with which its put is refused. If it can't be read, or its time can't be kept, prints the fault and
-/// returns the status.
-pub fn read_given<R: ImageFiles + Eprint + AllocGlobal>(
-    host: &Surroundings<'_, R>,
+/// read up to one byte more than the greatest size, with which its put is refused. A file whose time can't be kept can't be read.
+pub fn read_given<'a, R: ImageFiles + AllocGlobal>(
+    rt: &R,
     edition: Edition,
-    path: &str,
+    path: &'a str,
     keep: Keep,
-) -> Result<GivenFile, u8>
+) -> Result<GivenFile, FileFault<'a>>
     ensures given { IfOk result (λ given. GavePut edition R.File.remaining given.bytes.items) }
     ensures kept { IfOk result (λ given. IsKept keep given.kept) }
-    ensures fault { IfErr result (IsUnread R.File.remaining) }
+    ensures fault { IfErr result (λ fault. IsUnread R.File.remaining (file_status fault)) }
 {
     let named = NamedFile::File(path);
-    let (file, stamp) = match open_stamped(host.rt, path) {
+    let (file, stamp) = match open_stamped(rt, path) {
         Ok(opened) => opened,
-        Err(why) => return Err(explain_unread(host, named, why)),
+        Err(why) => return Err(FileFault::Unread(named, why)),
     };
     let kept = match kept_of(keep, &file, stamp) {
         Ok(kept) => kept,
-        Err(why) => return Err(explain_unread(host, named, why)),
+        Err(why) => return Err(FileFault::Unread(named, why)),
     };
-    let bytes = read_to_put(host, named, edition, file)?;
+    let bytes = read_to_put(rt.alloc(), named, edition, file)?;
     Ok(GivenFile { bytes, kept })
 }
 
-/// Reads an open file to put into a volume of an edition. If it can't be read, prints the fault and returns the status.
-fn read_to_put<R: Eprint + AllocGlobal, F: Read + Drop>(
-    host: &Surroundings<'_, R>,
-    named: NamedFile<'_>,
+/// Reads an open file to put into a volume of an edition.
+fn read_to_put<'a, F: Read + Drop>(
+    alloc: Global,
+    named: NamedFile<'a>,
     edition: Edition,
     file: F,
-) -> Result<Vec<u8>, u8>
+) -> Result<Vec<u8>, FileFault<'a>>
     ensures given { IfOk result (λ bytes. GavePut edition F.remaining bytes.items) }
-    ensures fault { IfErr result (IsUnread F.remaining) }
+    ensures fault { IfErr result (λ fault. IsUnread F.remaining (file_status fault)) }
 {
     let most = edition.constants().greatest as usize + 1;
-    Ok(read_more(host, named, most, unread(host, file))?.bytes)
+    Ok(read_more(named, most, unread(alloc, file))?.bytes)
 }
 
 /// Returns what is kept of an open file, which has this stamp, besides its bytes.
@@ -116,35 +116,35 @@ fn kept_of<F: OpenFile>(keep: Keep, file: &F, stamp: Stamp) -> io::Result<Kept>
     }
 }
 
-/// Reads the image of the volume in a file. If it can't be read, prints the fault and returns the status.
-pub fn read_volume<R: ImageFiles + Eprint + AllocGlobal>(
-    host: &Surroundings<'_, R>,
-    volume: VolumeFile<'_>,
-) -> Result<Vec<u8>, u8>
+/// Reads the image of the volume in a file.
+pub fn read_volume<'a, R: ImageFiles + AllocGlobal>(
+    rt: &R,
+    volume: VolumeFile<'a>,
+) -> Result<Vec<u8>, FileFault<'a>>
     ensures given { IfOk result (λ image. GaveAt volume.entry.at (UpTo.Volume volume.entry.edition) R.File.remaining image.items) }
-    ensures fault { IfErr result (IsUnread R.File.remaining) }
+    ensures fault { IfErr result (λ fault. IsUnread R.File.remaining (file_status fault)) }
 {
-    let read = read_stamped(host, volume)?;
+    let read = read_stamped(rt, volume)?;
     Ok(read.0)
 }
 
 /// Reads the image for `check`: that of the volume; or, if rules 1 and 2 don't hold for it and the super-block of a regular file records more blocks for
-/// the other edition than were read, that of a volume of the other edition. If it can't be read, prints the fault and returns the status.
-pub fn read_checked<R: ImageFiles + Eprint + AllocGlobal>(
-    host: &Surroundings<'_, R>,
-    volume: VolumeFile<'_>,
-) -> Result<Vec<u8>, u8>
+/// the other edition than were read, that of a volume of the other edition.
+pub fn read_checked<'a, R: ImageFiles + AllocGlobal>(
+    rt: &R,
+    volume: VolumeFile<'a>,
+) -> Result<Vec<u8>, FileFault<'a>>
     ensures given { IfOk result (λ image. GaveImage volume.entry.at volume.entry.edition R.File.remaining image.items) }
-    ensures fault { IfErr result (IsUnread R.File.remaining) }
+    ensures fault { IfErr result (λ fault. IsUnread R.File.remaining (file_status fault)) }
 {
-    let (bytes, stamp) = read_stamped(host, volume)?;
+    let (bytes, stamp) = read_stamped(rt, volume)?;
     let image = Image::from_bytes(bytes);
     if stamp.kind != FileKind::Regular || !is_other_longer(volume.edition, &image) {
         return Ok(image.into_bytes());
     }
     drop(image);
     let edition = other_edition(volume.edition);
-    read_volume(host, VolumeFile { edition, ..volume })
+    read_volume(rt, VolumeFile { edition, ..volume })
 }
 
 /// True if rule 1 or 2 doesn't hold for an image of an edition, and its super-block records more bytes for the other edition than it has.
@@ -159,292 +159,251 @@ fn is_other_longer(edition: Edition, image: &Image) -> bool
     blocks <= edition.constants().block_limit && image.len() < BLOCK * blocks as usize
 }
 
-/// Reads the scripts in several files, in the order of their paths. If one can't be read, prints the fault and returns the status.
-pub fn read_scripts<R: Files + Eprint + AllocGlobal>(
-    host: &Surroundings<'_, R>,
-    paths: &[&str],
-) -> Result<Vec<Vec<u8>>, u8>
+/// Reads the scripts in several files, in the order of their paths.
+pub fn read_scripts<'a, R: Files + AllocGlobal>(
+    rt: &R,
+    paths: &[&'a str],
+) -> Result<Vec<Vec<u8>>, FileFault<'a>>
     ensures given { IfOk result (λ scripts. All (λ script. GaveScript R.File.remaining script.items) scripts.items) }
     ensures count { IfOk result (λ scripts. length scripts.items ≡ length paths.now) }
-    ensures fault { IfErr result (IsUnread R.File.remaining) }
+    ensures fault { IfErr result (λ fault. IsUnread R.File.remaining (file_status fault)) }
 {
-    let mut scripts = Vec::new(host.rt.alloc());
+    let mut scripts = Vec::new(rt.alloc());
     'scripts: for path in paths {
-        let script = match fs::open(host.rt, path) {
-            Ok(file) => read_script(host, NamedFile::File(path), file)?,
-            Err(why) => return Err(explain_unread(host, NamedFile::File(path), why)),
+        let script = match fs::open(rt, path) {
+            Ok(file) => read_script(rt.alloc(), NamedFile::File(path), file)?,
+            Err(why) => return Err(FileFault::Unread(NamedFile::File(path), why)),
         };
         let Ok(()) = scripts.push(script) else {
-            return Err(explain_no_memory(host));
+            return Err(FileFault::NoMemory);
         };
     }
     Ok(scripts)
 }
 
 /// Reads the script in an open file. If the first bytes have a flaw that stays whatever follows, only these are read, and a newline is added, so that
-/// this flaw is reported and no missing newline. If it can't be read, prints the fault and returns the status.
-fn read_script<R: Eprint + AllocGlobal, F: Read + Drop>(
-    host: &Surroundings<'_, R>,
-    named: NamedFile<'_>,
+/// this flaw is reported and no missing newline.
+fn read_script<'a, F: Read + Drop>(
+    alloc: Global,
+    named: NamedFile<'a>,
     file: F,
-) -> Result<Vec<u8>, u8>
+) -> Result<Vec<u8>, FileFault<'a>>
     ensures given { IfOk result (λ script. GaveScript F.remaining script.items) }
-    ensures fault { IfErr result (IsUnread F.remaining) }
+    ensures fault { IfErr result (λ fault. IsUnread F.remaining (file_status fault)) }
 {
-    let front = read_more(host, named, SCRIPT_FRONT, unread(host, file))?;
+    let front = read_more(named, SCRIPT_FRONT, unread(alloc, file))?;
     if front.bytes.len() < SCRIPT_FRONT {
         return Ok(front.bytes);
     }
-    let Ok(is_bad) = has_bad_start(host.rt.alloc(), &front.bytes) else {
-        return Err(explain_no_memory(host));
+    let Ok(is_bad) = has_bad_start(alloc, &front.bytes) else {
+        return Err(FileFault::NoMemory);
     };
     if !is_bad {
-        return Ok(read_more(host, named, usize::MAX, front)?.bytes);
+        return Ok(read_more(named, usize::MAX, front)?.bytes);
     }
     let mut script = front.bytes;
     let Ok(()) = script.push(b'\n') else {
-        return Err(explain_no_memory(host));
+        return Err(FileFault::NoMemory);
     };
     Ok(script)
 }
 
-/// Reads the image of the volume in a file, and returns it with the file's stamp. If it can't be read, prints the fault and returns
-/// the status.
-pub fn read_stamped<R: ImageFiles + Eprint + AllocGlobal>(
-    host: &Surroundings<'_, R>,
-    volume: VolumeFile<'_>,
-) -> Result<(Vec<u8>, Stamp), u8>
+/// Reads the image of the volume in a file, and returns it with the file's stamp.
+pub fn read_stamped<'a, R: ImageFiles + AllocGlobal>(
+    rt: &R,
+    volume: VolumeFile<'a>,
+) -> Result<(Vec<u8>, Stamp), FileFault<'a>>
     ensures given { IfOk result (λ read. GaveAt volume.entry.at (UpTo.Volume volume.entry.edition) R.File.remaining read.0.items) }
-    ensures fault { IfErr result (IsUnread R.File.remaining) }
+    ensures fault { IfErr result (λ fault. IsUnread R.File.remaining (file_status fault)) }
 {
-    match open_stamped(host.rt, volume.image) {
-        Ok((file, stamp)) => Ok((read_part(host, volume, file, stamp)?.bytes, stamp)),
-        Err(why) => Err(explain_unread(host, NamedFile::File(volume.image), why)),
+    match open_stamped(rt, volume.image) {
+        Ok((file, stamp)) => Ok((read_part(rt, volume, file, stamp)?.bytes, stamp)),
+        Err(why) => Err(FileFault::Unread(NamedFile::File(volume.image), why)),
     }
 }
 
 /// Reads this number of blocks of the volume in a file, whatever its super-block says; or as many as the file has; and returns them with the file's stamp.
-/// If it can't be read, prints the fault and returns the status.
-pub fn read_blocks<R: ImageFiles + Eprint + AllocGlobal>(
-    host: &Surroundings<'_, R>,
-    volume: VolumeFile<'_>,
+pub fn read_blocks<'a, R: ImageFiles + AllocGlobal>(
+    rt: &R,
+    volume: VolumeFile<'a>,
     blocks: u32,
-) -> Result<(Vec<u8>, Stamp), u8>
+) -> Result<(Vec<u8>, Stamp), FileFault<'a>>
     ensures given { IfOk result (λ read. GaveFront volume.entry.at (512 * blocks) R.File.remaining read.0.items) }
-    ensures fault { IfErr result (IsUnread R.File.remaining) }
+    ensures fault { IfErr result (λ fault. IsUnread R.File.remaining (file_status fault)) }
 {
     let named = NamedFile::File(volume.image);
-    let (file, stamp) = match open_stamped(host.rt, volume.image) {
+    let alloc = rt.alloc();
+    let (file, stamp) = match open_stamped(rt, volume.image) {
         Ok(opened) => opened,
-        Err(why) => return Err(explain_unread(host, named, why)),
+        Err(why) => return Err(FileFault::Unread(named, why)),
     };
-    let moved = moved_over(host, volume, file, stamp)?;
-    let read = read_more(host, named, BLOCK * blocks as usize, unread(host, moved))?;
+    let moved = moved_over(rt, volume, file, stamp)?;
+    let read = read_more(named, BLOCK * blocks as usize, unread(alloc, moved))?;
     Ok((read.bytes, stamp))
 }
 
-/// Reads the image of the volume in its open file, which has this stamp. If it can't be read, prints the fault and returns the status.
-fn read_part<R: ImageFiles + Eprint + AllocGlobal>(
-    host: &Surroundings<'_, R>,
-    volume: VolumeFile<'_>,
+/// Reads the image of the volume in its open file, which has this stamp.
+fn read_part<'a, R: ImageFiles + AllocGlobal>(
+    rt: &R,
+    volume: VolumeFile<'a>,
     file: R::File,
     stamp: Stamp,
-) -> Result<ReadFile<R::File>, u8>
+) -> Result<ReadFile<R::File>, FileFault<'a>>
     requires { R.had file stamp }
     ensures given { IfOk result (λ read. IsReadFrom (512 * volume.entry.at) (UpTo.Volume volume.entry.edition) (R.File.remaining file) (R.File.remaining read.file) read.bytes.items) }
-    ensures fault { IfErr result (IsUnread R.File.remaining) }
+    ensures fault { IfErr result (λ fault. IsUnread R.File.remaining (file_status fault)) }
 {
     let named = NamedFile::File(volume.image);
-    let moved = moved_over(host, volume, file, stamp)?;
-    read_open(host, named, UpTo::Volume(volume.edition), moved)
+    let moved = moved_over(rt, volume, file, stamp)?;
+    read_open(rt.alloc(), named, UpTo::Volume(volume.edition), moved)
 }
 
-/// Moves the open file of a volume, which has this stamp, to the volume's first block. If it can't be moved, prints the fault and returns the status.
-fn moved_over<R: ImageFiles + Eprint + AllocGlobal>(
-    host: &Surroundings<'_, R>,
-    volume: VolumeFile<'_>,
+/// Moves the open file of a volume, which has this stamp, to the volume's first block.
+fn moved_over<'a, R: ImageFiles>(
+    rt: &R,
+    volume: VolumeFile<'a>,
     file: R::File,
     stamp: Stamp,
-) -> Result<R::File, u8>
+) -> Result<R::File, FileFault<'a>>
     requires { R.had file stamp }
     ensures moved { IfOk result (λ moved. IsMovedTo (512 * volume.entry.at) (R.File.remaining file) (R.File.remaining moved)) }
-    ensures fault { IfErr result (IsUnread R.File.remaining) }
+    ensures fault { IfErr result (λ fault. IsUnread R.File.remaining (file_status fault)) }
 {
-    let named = NamedFile::File(volume.image);
-    match moved_to(host.rt, file, stamp, volume.at) {
+    match moved_to(rt, file, stamp, volume.at) {
         Ok(moved) => Ok(moved),
-        Err(MoveFault::Short) => Err(explain_short(host, named, volume.at)),
-        Err(MoveFault::Unread(why)) => Err(explain_unread(host, named, why)),
+        Err(MoveFault::Short) => Err(FileFault::Short(volume.image, volume.at)),
+        Err(MoveFault::Unread(why)) => Err(FileFault::Unread(NamedFile::File(volume.image), why)),
     }
 }
 
-/// The state of a command that has begun to change an image.
-#[derive(Drop)]
-pub struct Begun<F, G> {
-    /// The bytes that the command needs besides the image.
-    pub given: G,
-    /// The image.
-    pub image: Vec<u8>,
-    /// The stamp of the image's file before it was read.
-    pub stamp: Stamp,
-    /// The image's file, which is locked until it is closed.
-    pub locked: F,
-}
-
-/// Begins a command that changes the volume in a file. First checks that the image can be opened; then reads the other bytes that the command needs,
-/// with `read_given`, which may wait; and only then locks the image and reads it. If something can't be read, or the image may not be changed, prints
-/// the fault and returns the status.
-pub fn begin<
-    R: ImageFiles + Clock + Eprint + AllocGlobal,
-    G: Drop,
-    F: FnOnce() -> Result<G, u8> + Drop,
->(
-    host: &Surroundings<'_, R>,
-    volume: VolumeFile<'_>,
-    read_given: F,
-) -> Result<Begun<R::File, G>, u8>
-    requires { F.pre read_given }
-    ensures image { IfOk result (λ begun. IsOpened volume.entry.at volume.entry.edition R.File.remaining R.had begun.image.items begun.stamp) }
-    ensures given { IfOk result (λ begun. F.post read_given (Ok begun.given)) }
-    ensures fault { IfErr result (λ status. IsUnread R.File.remaining status ⊎ F.post read_given (Err status)) }
+/// Checks that the file of a volume can be opened for a change, before anything else that the change needs is read, which may wait. Doesn't wait for a lock.
+pub fn expect_volume<'a, R: ImageFiles>(rt: &R, volume: VolumeFile<'a>) -> Result<(), FileFault<'a>>
+    ensures { IfErr result (λ fault. file_status fault ≡ 3) }
 {
-    if let Err(fault) = expect_image(host.rt, volume.image) {
-        return Err(explain_unopened(host, NamedFile::File(volume.image), fault));
+    match expect_image(rt, volume.image) {
+        Ok(()) => Ok(()),
+        Err(fault) => Err(unopened(volume.image, fault)),
     }
-    let given = read_given()?;
-    let (read, stamp) = read_image(host, volume)?;
-    let ReadFile { bytes, file } = read;
-    Ok(Begun {
-        given,
-        image: bytes,
-        stamp,
-        locked: file,
-    })
 }
 
-/// Reads the image to change, and returns it with its stamp. If it can't be read, or may not be changed, prints the fault and returns the status.
-pub fn read_image<R: ImageFiles + Clock + Eprint + AllocGlobal>(
+/// Locks the image to change and reads it. Returns it with its stamp and its file, which is locked until it is closed.
+pub fn read_image<'a, R: ImageFiles + Clock + Eprint + AllocGlobal>(
     host: &Surroundings<'_, R>,
-    volume: VolumeFile<'_>,
-) -> Result<(ReadFile<R::File>, Stamp), u8>
-    ensures given { IfOk result (λ image. IsOpened volume.entry.at volume.entry.edition R.File.remaining R.had image.0.bytes.items image.1) }
-    ensures fault { IfErr result (IsUnread R.File.remaining) }
+    volume: VolumeFile<'a>,
+) -> Result<(Vec<u8>, Stamp, R::File), FileFault<'a>>
+    ensures given { IfOk result (λ read. IsOpened volume.entry.at volume.entry.edition R.File.remaining R.had read.0.items read.1) }
+    ensures fault { IfErr result (λ fault. IsUnread R.File.remaining (file_status fault)) }
 {
     match open_image(host.rt, volume.image, host.is_watched) {
-        Ok((file, stamp)) => Ok((read_part(host, volume, file, stamp)?, stamp)),
-        Err(fault) => Err(explain_unopened(host, NamedFile::File(volume.image), fault)),
+        Ok((file, stamp)) => {
+            let read = read_part(host.rt, volume, file, stamp)?;
+            Ok((read.bytes, stamp, read.file))
+        }
+        Err(fault) => Err(unopened(volume.image, fault)),
     }
 }
 
-/// Prints that the file of an image can't be read, or may not be changed, and returns the status.
-fn explain_unopened<R: Eprint + AllocGlobal>(
-    host: &Surroundings<'_, R>,
-    named: NamedFile<'_>,
-    fault: OpenFault,
-) -> u8
-    ensures { result ≡ 3 }
+/// Returns the fault of an image at a path whose file can't be opened, or may not be changed.
+fn unopened<'a>(path: &'a str, fault: OpenFault) -> FileFault<'a>
+    ensures { file_status result ≡ 3 }
 {
+    let named = NamedFile::File(path);
     match fault {
-        OpenFault::Unread(why) => explain_unread(host, named, why),
-        OpenFault::Stream(why) | OpenFault::Locked(why) => explain_unwritten(host, named, why),
+        OpenFault::Unread(why) => FileFault::Unread(named, why),
+        OpenFault::Stream(why) | OpenFault::Locked(why) => FileFault::Unwritten(named, why),
     }
 }
 
-/// Reads an open file up to the end named by `up_to`. If it can't be read, prints the fault and returns the status.
-pub fn read_open<R: Eprint + AllocGlobal, F: Read + Drop>(
-    host: &Surroundings<'_, R>,
-    named: NamedFile<'_>,
+/// Reads an open file up to the end named by `up_to`.
+pub fn read_open<'a, F: Read + Drop>(
+    alloc: Global,
+    named: NamedFile<'a>,
     up_to: UpTo,
     file: F,
-) -> Result<ReadFile<F>, u8>
+) -> Result<ReadFile<F>, FileFault<'a>>
     ensures given { IfOk result (λ read. IsReadUpTo up_to (F.remaining file) (F.remaining read.file) read.bytes.items) }
-    ensures fault { IfErr result (IsUnread F.remaining) }
+    ensures fault { IfErr result (λ fault. IsUnread F.remaining (file_status fault)) }
 {
     let mut source = noted_reader(file);
-    let bytes = read_source(host, named, up_to, &mut source)?;
+    let bytes = read_source(alloc, named, up_to, &mut source)?;
     Ok(ReadFile {
         bytes,
         file: source.into_inner().into_inner(),
     })
 }
 
-/// Reads a source up to the end named by `up_to`. If it can't be read, prints the fault and returns the status: the status of a file only if the
-/// source failed or is too long, and the status of memory only if the source didn't fail.
-fn read_source<R: Eprint + AllocGlobal, S: Source>(
-    host: &Surroundings<'_, R>,
-    named: NamedFile<'_>,
+/// Reads a source up to the end named by `up_to`. The fault has the status of a file only if the source failed or is too long, and the status of memory
+/// only if the source didn't fail.
+fn read_source<'a, S: Source>(
+    alloc: Global,
+    named: NamedFile<'a>,
     up_to: UpTo,
     source: &mut Noted<S>,
-) -> Result<Vec<u8>, u8>
+) -> Result<Vec<u8>, FileFault<'a>>
     requires { ⟦<Noted<S> as Source>⟧.failed source.old ≡ false }
     ensures given { IfOk result (λ bytes. IsReadUpTo up_to (⟦<Noted<S> as Source>⟧.remaining source.old) (⟦<Noted<S> as Source>⟧.remaining source.new) bytes.items) }
     ensures front { OnErr result (LosesFront (⟦<Noted<S> as Source>⟧.remaining source.old) (⟦<Noted<S> as Source>⟧.remaining source.new)) }
-    ensures device { IsErrOf result 3 → (⟦<Noted<S> as Source>⟧.failed source.new ≡ true)
-        ⊎ IsPast up_to (⟦<Noted<S> as Source>⟧.remaining source.old) (⟦<Noted<S> as Source>⟧.remaining source.new) }
-    ensures memory { IsErrOf result 4 → ⟦<Noted<S> as Source>⟧.failed source.new ≡ false }
-    ensures fault { IfErr result IsStatusOfFileOrMemory }
+    ensures device { IfErr result (λ fault. file_status fault ≡ 3 → (⟦<Noted<S> as Source>⟧.failed source.new ≡ true)
+        ⊎ IsPast up_to (⟦<Noted<S> as Source>⟧.remaining source.old) (⟦<Noted<S> as Source>⟧.remaining source.new)) }
+    ensures memory { IfErr result (λ fault. file_status fault ≡ 4 → ⟦<Noted<S> as Source>⟧.failed source.new ≡ false) }
+    ensures fault { IfErr result (λ fault. IsStatusOfFileOrMemory (file_status fault)) }
 {
-    match read_up_to(host.rt.alloc(), up_to, source) {
+    match read_up_to(alloc, up_to, source) {
         Ok(image) => Ok(image.into_bytes()),
-        Err(FrontFault::Device) => Err(explain_unread(host, named, reason_of(source.error()))),
-        Err(FrontFault::Endless) => {
-            Err(explain_unread(host, named, io::Error::other(past(up_to))))
-        }
-        Err(FrontFault::NoMemory) => Err(explain_no_memory(host)),
+        Err(FrontFault::Device) => Err(FileFault::Unread(named, reason_of(source.error()))),
+        Err(FrontFault::Endless) => Err(FileFault::Unread(named, io::Error::other(past(up_to)))),
+        Err(FrontFault::NoMemory) => Err(FileFault::NoMemory),
     }
 }
 
 /// Returns an open file of which nothing was read.
-fn unread<R: AllocGlobal, F>(host: &Surroundings<'_, R>, file: F) -> ReadFile<F>
+fn unread<F>(alloc: Global, file: F) -> ReadFile<F>
     ensures bytes { result.bytes.items ≡ [] }
     ensures file { result.file ≡ file }
 {
     ReadFile {
-        bytes: Vec::new(host.rt.alloc()),
+        bytes: Vec::new(alloc),
         file,
     }
 }
 
-/// Reads on in an open file of which some bytes were read, until there are `most` bytes or the file ends. If it can't be read, prints the fault and
-/// returns the status.
-fn read_more<R: Eprint + AllocGlobal, F: Read + Drop>(
-    host: &Surroundings<'_, R>,
-    named: NamedFile<'_>,
+/// Reads on in an open file of which some bytes were read, until there are `most` bytes or the file ends.
+fn read_more<'a, F: Read + Drop>(
+    named: NamedFile<'a>,
     most: usize,
     read: ReadFile<F>,
-) -> Result<ReadFile<F>, u8>
+) -> Result<ReadFile<F>, FileFault<'a>>
     ensures given { IfOk result (λ all. IsReadOn (F.remaining read.file) (F.remaining all.file) read.bytes.items all.bytes.items most) }
-    ensures fault { IfErr result (IsUnread F.remaining) }
+    ensures fault { IfErr result (λ fault. IsUnread F.remaining (file_status fault)) }
 {
     let mut source = noted_reader(read.file);
-    let bytes = read_more_of(host, named, read.bytes, most, &mut source)?;
+    let bytes = read_more_of(named, read.bytes, most, &mut source)?;
     Ok(ReadFile {
         bytes,
         file: source.into_inner().into_inner(),
     })
 }
 
-/// Reads on in a source until there are `most` bytes or the source ends. If it can't be read, prints the fault and returns the status: the status of a
-/// file only if the source failed, and the status of memory only if it didn't.
-fn read_more_of<R: Eprint + AllocGlobal, S: Source>(
-    host: &Surroundings<'_, R>,
-    named: NamedFile<'_>,
+/// Reads on in a source until there are `most` bytes or the source ends. The fault has the status of a file only if the source failed, and the status of
+/// memory only if it didn't.
+fn read_more_of<'a, S: Source>(
+    named: NamedFile<'a>,
     bytes: Vec<u8>,
     most: usize,
     source: &mut Noted<S>,
-) -> Result<Vec<u8>, u8>
+) -> Result<Vec<u8>, FileFault<'a>>
     requires { ⟦<Noted<S> as Source>⟧.failed source.old ≡ false }
     ensures given { IfOk result (λ all. IsReadOn (⟦<Noted<S> as Source>⟧.remaining source.old) (⟦<Noted<S> as Source>⟧.remaining source.new) bytes.items all.items most) }
     ensures front { OnErr result (LosesFront (⟦<Noted<S> as Source>⟧.remaining source.old) (⟦<Noted<S> as Source>⟧.remaining source.new)) }
-    ensures device { IsErrOf result 3 → ⟦<Noted<S> as Source>⟧.failed source.new ≡ true }
-    ensures memory { IsErrOf result 4 → ⟦<Noted<S> as Source>⟧.failed source.new ≡ false }
-    ensures fault { IfErr result IsStatusOfFileOrMemory }
+    ensures device { IfErr result (λ fault. file_status fault ≡ 3 → ⟦<Noted<S> as Source>⟧.failed source.new ≡ true) }
+    ensures memory { IfErr result (λ fault. file_status fault ≡ 4 → ⟦<Noted<S> as Source>⟧.failed source.new ≡ false) }
+    ensures fault { IfErr result (λ fault. IsStatusOfFileOrMemory (file_status fault)) }
 {
     match read_on(bytes, most, source) {
         Ok(all) => Ok(all),
-        Err(FrontFault::NoMemory) => Err(explain_no_memory(host)),
+        Err(FrontFault::NoMemory) => Err(FileFault::NoMemory),
         Err(FrontFault::Device | FrontFault::Endless) => {
-            Err(explain_unread(host, named, reason_of(source.error())))
+            Err(FileFault::Unread(named, reason_of(source.error())))
         }
     }
 }

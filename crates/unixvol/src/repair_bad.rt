@@ -2,19 +2,20 @@
 ghost use Rattle.std.specs.Process.{exit_status};
 ghost use Rattle.command_faults.specs.Streams.{ErrorStream, Hears, streams};
 ghost use Rattle.host_files.specs.Save.{IsTaken};
+ghost use Rattle.unixvol.specs.FileFaults.{run_fault, run_status};
 ghost use Rattle.unixvol.specs.RepairBad.{RepairsBadToEnd, RepairsRescued, RunsRepairBad, SavesRescued};
 ghost use Rattle.unixvol.specs.Runs.{host_files};
 
 use crate::commands::is_output;
-use crate::explain::{finish_printed, tell_fault};
+use crate::explain::{finish_printed, tell_end};
+use crate::file_fault::FailedRun;
 use crate::host::Surroundings;
 use crate::look_bad::{read_bad, read_known};
-use crate::save::{explain_there, is_kept, save_over};
+use crate::save::{expect_new, save_over};
 use crate::subject::Subject;
 use command_changes::repair_losses::{ending_with, ending_with_report};
 use command_changes::salvage::ReportedVolume;
 use command_changes::{RescuedVolume, repair_rescued};
-use command_faults::status::DONE;
 use command_faults::{Ending, Fault};
 use command_line::{MadeFile, VolumeFile};
 use command_reads::print::print_text;
@@ -46,118 +47,85 @@ pub fn run_to_end<R: ImageFiles + Clock + Eprint + AllocGlobal, O: Write + Drop,
 {
     let mut errors = IntoWrite::new(errors);
     let mut output = noted_writer(output);
-    let ending = run(host, &mut output, volume, image, copy, repairing);
+    let ended = run(host, &mut output, volume, image, copy, repairing);
     let subject = Subject::of_repair(volume);
-    tell_fault(
-        host,
-        &mut errors,
-        &ending.fault,
-        output.error(),
-        Some(subject),
-    );
-    ExitCode::from(finish_printed(host, output.into_inner().into_inner(), ending.status))
+    let status = tell_end(host, &mut errors, &ended, output.error(), Some(subject));
+    ExitCode::from(finish_printed(host, output.into_inner().into_inner(), status))
 }
 
 /// Repairs the image, and returns the result of the run, which holds if [`finish_printed`] succeeds.
-fn run<R: ImageFiles + Clock + Eprint + AllocGlobal, O: Sink>(
+fn run<'a, R: ImageFiles + Clock + Eprint + AllocGlobal, O: Sink>(
     host: &Surroundings<'_, R>,
     output: &mut O,
-    volume: VolumeFile<'_>,
-    image: BadImage<'_>,
-    copy: Option<MadeFile<'_>>,
+    volume: VolumeFile<'a>,
+    image: BadImage<'a>,
+    copy: Option<MadeFile<'a>>,
     repairing: Repairing,
-) -> Ending
-    ensures { (errors : ErrorStream) → Hears errors result.fault
+) -> Result<Ending, FailedRun<'a>>
+    ensures { (errors : ErrorStream) → Hears errors (run_fault result)
         → RunsRepairBad (streams O.contents O.failed output.old output.new errors)
-        (host_files volume.entry.at R.File.remaining R.File.contents R.had R.stood) volume.entry image.entry copy.entry repairing result.status }
+        (host_files volume.entry.at R.File.remaining R.File.contents R.had R.stood) volume.entry image.entry copy.entry repairing (run_status result) }
 {
-    let bad = match read_bad(host, volume, image.bad) {
-        Ok(bad) => bad,
-        Err(status) => {
-            return Ending {
-                status,
-                fault: None,
-            };
-        }
-    };
-    let (bytes, stamp) = match read_known(host, volume, image.sizes) {
-        Ok(read) => read,
-        Err(status) => {
-            return Ending {
-                status,
-                fault: None,
-            };
-        }
-    };
+    let bad = read_bad(host.rt, volume, image.bad)?;
+    let (bytes, stamp) = read_known(host.rt, volume, image.sizes)?;
     match rescue_image(host.rt.alloc(), volume.edition, bytes, bad, image.sizes) {
         Ok(read) => repair_read(host, output, volume, read, stamp, copy, repairing),
-        Err(ending) => ending,
+        Err(ending) => Ok(ending),
     }
 }
 
 /// Repairs an image with lost blocks, and saves and reports the copy. The file with the stamp `old`, from which the image was read, isn't replaced.
-fn repair_read<R: ImageFiles + Clock + Eprint + AllocGlobal, O: Sink>(
+fn repair_read<'a, R: ImageFiles + Clock + Eprint + AllocGlobal, O: Sink>(
     host: &Surroundings<'_, R>,
     output: &mut O,
     volume: VolumeFile<'_>,
     read: CutImage,
     old: Stamp,
-    copy: Option<MadeFile<'_>>,
+    copy: Option<MadeFile<'a>>,
     repairing: Repairing,
-) -> Ending
-    ensures { (errors : ErrorStream) → Hears errors result.fault
+) -> Result<Ending, FailedRun<'a>>
+    ensures { (errors : ErrorStream) → Hears errors (run_fault result)
         → RepairsRescued (streams O.contents O.failed output.old output.new errors)
-        (host_files volume.entry.at R.File.remaining R.File.contents R.had R.stood) volume.entry read.image read.lost.items copy.entry repairing result.status }
+        (host_files volume.entry.at R.File.remaining R.File.contents R.had R.stood) volume.entry read.image read.lost.items copy.entry repairing (run_status result) }
 {
     let repaired = match repair_rescued(host.rt.alloc(), volume.edition, read, repairing) {
         Ok(repaired) => repaired,
-        Err(fault) => return Ending::from(fault),
+        Err(fault) => return Ok(Ending::from(fault)),
     };
     match copy {
         Some(copy) => save_rescued(host, output, copy, old, repaired),
         None => {
             let RescuedVolume { made, losses } = repaired;
             let ending = ending_with(losses);
-            print_text(&made.report, ending, output)
+            Ok(print_text(&made.report, ending, output))
         }
     }
 }
 
 /// Saves a repaired copy in the file `copy`, unless that must be new and something exists at its path; then prints the report, and returns how the run ends. If
 /// the file is standard output, the report goes to standard error.
-fn save_rescued<R: ImageFiles + Clock + Eprint + AllocGlobal, O: Sink>(
+fn save_rescued<'a, R: ImageFiles + Clock + Eprint + AllocGlobal, O: Sink>(
     host: &Surroundings<'_, R>,
     output: &mut O,
-    copy: MadeFile<'_>,
+    copy: MadeFile<'a>,
     old: Stamp,
     repaired: RescuedVolume,
-) -> Ending
-    ensures { (errors : ErrorStream) → Hears errors result.fault
+) -> Result<Ending, FailedRun<'a>>
+    ensures { (errors : ErrorStream) → Hears errors (run_fault result)
         → SavesRescued (streams O.contents O.failed output.old output.new errors) (IsTaken R.File.contents) R.stood repaired.made.bytes.items
-        repaired.made.report.items repaired.losses.items result.status }
+        repaired.made.report.items repaired.losses.items (run_status result) }
 {
-    if is_kept(host, copy) {
-        return Ending {
-            status: explain_there(host, copy.path),
-            fault: None,
-        };
-    }
+    expect_new(host.rt, copy)?;
     let RescuedVolume { made, losses } = repaired;
     let ReportedVolume { bytes, report } = made;
     let is_output = is_output(host.rt, copy.path);
-    let status = save_over(host, copy.path, old, &bytes, DONE);
-    if status != DONE {
-        return Ending {
-            status,
-            fault: None,
-        };
-    }
+    save_over(host, copy.path, old, &bytes)?;
     if !is_output {
         let ending = ending_with(losses);
-        return print_text(&report, ending, output);
+        return Ok(print_text(&report, ending, output));
     }
     match ending_with_report(report, &losses) {
-        Ok(ending) => print_text(b"", ending, output),
-        Err(_) => Ending::from(Fault::Refused(Refusal::NoMemory)),
+        Ok(ending) => Ok(print_text(b"", ending, output)),
+        Err(_) => Ok(Ending::from(Fault::Refused(Refusal::NoMemory))),
     }
 }

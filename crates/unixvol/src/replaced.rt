@@ -1,7 +1,6 @@
 //! The contents of a file before it is replaced.
 use crate::host::Surroundings;
 use crate::meanings::shown;
-use command_faults::status::DONE;
 use host_files::{FileKind, ImageFiles, UpTo, noted_reader, read_up_to};
 use pdp_words::Image;
 use std::alloc::AllocError;
@@ -88,14 +87,13 @@ fn volume_in<R: AllocGlobal>(
     }))
 }
 
-/// Prints the old contents of a file, if the status says that the file was replaced, and if the contents are available.
+/// Prints the old contents of a file that was replaced, if they are available.
 pub fn tell_replaced<R: Eprint + AllocGlobal>(
     host: &Surroundings<'_, R>,
     path: &str,
-    status: u8,
     held: Option<Held>,
 ) {
-    if let (DONE, Some(held)) = (status, held) {
+    if let Some(held) = held {
         tell_held(host, path, held);
     }
 }

@@ -1,8 +1,10 @@
 //! Rescues the image of a served volume that can't be saved in its file at the end: it is written to another file.
 ghost use Rattle.std.specs.Prelude.{◌≡◌, IfErr, IfOk, OnOk, false, true};
 ghost use Rattle.host_files.specs.Save.{IsTaken};
+ghost use Rattle.unixvol.specs.FileFaults.{file_status};
 
-use crate::explain::{NamedFile, explain_unwritten, tell_why};
+use crate::explain::tell_why;
+use crate::file_fault::{FileFault, NamedFile};
 use crate::host::Surroundings;
 use host_files::{Content, ImageFiles, save_apart};
 use pdp_words::Image;
@@ -22,19 +24,15 @@ const THERE: &str = "it is there already, and --rescue replaces no file";
 /// The message if all names of files in a folder are in use.
 const NO_NAME: &str = "IMAGE.unixvol-rescue-0 to IMAGE.unixvol-rescue-999 are all there";
 
-/// Checks that nothing exists at the path for a rescue, if one is named. Otherwise prints the fault and returns the status.
-pub fn expect_free<R: ImageFiles + Eprint + AllocGlobal>(
-    host: &Surroundings<'_, R>,
-    rescue: Option<&str>,
-) -> Result<(), u8>
-    ensures { IfErr result (λ status. status ≡ 3) }
+/// Checks that nothing exists at the path for a rescue, if one is named.
+pub fn expect_free<'a, R: ImageFiles>(rt: &R, rescue: Option<&'a str>) -> Result<(), FileFault<'a>>
+    ensures { IfErr result (λ fault. file_status fault ≡ 3) }
 {
     match rescue {
-        Some(path) if host.rt.is_there(path) => Err(explain_unwritten(
-            host,
-            NamedFile::File(path),
-            io::Error::other(THERE),
-        )),
+        Some(path) if rt.is_there(path) => {
+            let why = io::Error::other(THERE);
+            Err(FileFault::Unwritten(NamedFile::File(path), why))
+        }
         _ => Ok(()),
     }
 }

@@ -7,9 +7,8 @@ ghost use Rattle.vol_layout.specs.Geometry.{Fits};
 ghost use Rattle.unixvol.specs.Runs.{host_files};
 ghost use Rattle.unixvol.specs.Serve.{EndsServe, Measures, RunsReadOnly, RunsServe, ServesToEnd, messages};
 
-use crate::explain::{
-    NamedFile, explain_no_memory, explain_unread, explain_unwritten, reason_of, tell_fault,
-};
+use crate::explain::{reason_of, tell_fault, tell_file};
+use crate::file_fault::{FileFault, NamedFile};
 use crate::host::Surroundings;
 use crate::mounted;
 use crate::read::read_volume;
@@ -96,7 +95,10 @@ fn run_read_only<R: ImageFiles + Eprint + AllocGlobal, Q: Requests, P: Replies, 
     ensures { RunsReadOnly (host_files volume.entry.at R.File.remaining R.File.contents R.had R.stood) volume.entry.edition
         (says (heard E.contents E.failed errors.old errors.new)) (messages Q.taken P.sent requests.old requests.new replies.old replies.new) result }
 {
-    let image = Image::from_bytes(read_volume(host, volume)?);
+    let image = match read_volume(host.rt, volume) {
+        Ok(image) => Image::from_bytes(image),
+        Err(fault) => return Err(tell_file(host, &fault)),
+    };
     let geometry = measure(host, errors, &image, volume)?;
     Ok(serve(host.rt.alloc(), &image, &geometry, requests, replies))
 }
@@ -147,9 +149,14 @@ fn status_of<R: Eprint + AllocGlobal>(
 {
     match outcome {
         Ok(Ok(())) => status_at_end(host, input),
-        Ok(Err(ServeFault::Send)) => explain_unwritten(host, NamedFile::Output, reason_of(output)),
-        Ok(Err(ServeFault::NoMemory)) => explain_no_memory(host),
-        Ok(Err(ServeFault::Requests)) => explain_unread(host, NamedFile::Input, reason_of(input)),
+        Ok(Err(ServeFault::Send)) => {
+            let why = reason_of(output);
+            tell_file(host, &FileFault::Unwritten(NamedFile::Output, why))
+        }
+        Ok(Err(ServeFault::NoMemory)) => tell_file(host, &FileFault::NoMemory),
+        Ok(Err(ServeFault::Requests)) => {
+            tell_file(host, &FileFault::Unread(NamedFile::Input, reason_of(input)))
+        }
         Err(status) => status,
     }
 }
@@ -163,7 +170,7 @@ fn status_at_end<R: Eprint + AllocGlobal>(
 {
     match input {
         Some(why) if why.raw_os_error() != Some(UNMOUNTED) => {
-            explain_unread(host, NamedFile::Input, why)
+            tell_file(host, &FileFault::Unread(NamedFile::Input, why))
         }
         _ => DONE,
     }

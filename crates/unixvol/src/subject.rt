@@ -130,7 +130,11 @@ impl<'a> Subject<'a> {
             } => (Verb::Map, About::Path(path)),
             Look::Map { .. } | Look::Uses => (Verb::Map, About::Image),
             Look::Check { .. } => (Verb::Check, About::Image),
-            Look::List { path, .. } | Look::Slots { path, .. } => (Verb::Ls, About::Path(path)),
+            Look::List { path, .. } | Look::Slots { path, .. } | Look::ListUnsound { path, .. } => (
+                Verb::Ls,
+                About::Path(path),
+            ),
+            Look::ReadUnsound { path } => (Verb::Get, About::Path(path)),
         };
         Subject::new(volume, verb, about)
     }

@@ -1,22 +1,23 @@
 //! The commands that run in several threads. Their contracts say nothing about runs that don't return.
-ghost use Rattle.std.specs.Prelude.{◌≡◌, ◌⊎◌, ◌≤◌, All, IfErr, IfOk, length};
+ghost use Rattle.std.specs.Prelude.{◌≤◌, length};
 ghost use Rattle.std.specs.Process.{exit_status};
 ghost use Rattle.command_words.specs.Invocations.{IsWorkable};
 ghost use Rattle.command_faults.specs.Streams.{ErrorStream, Hears, streams};
-ghost use Rattle.unixvol.specs.Runs.{GaveScript, IsEnd, IsUnread, RunsCheck, RunsPlay, RunsWork, WorksToEnd, host_files};
+ghost use Rattle.unixvol.specs.FileFaults.{run_fault, run_status};
+ghost use Rattle.unixvol.specs.Runs.{IsEnd, RunsCheck, RunsPlay, RunsWork, WorksToEnd, host_files};
 
-use crate::explain::{finish_printed, tell_fault};
+use crate::explain::{finish_printed, tell_end};
+use crate::file_fault::{FailedRun, after_saving};
 use crate::host::Surroundings;
-use crate::read::{Begun, begin, read_scripts, read_volume};
+use crate::read::{expect_volume, read_image, read_scripts, read_volume};
 use crate::save::save_played;
 use crate::subject::Subject;
 use command_faults::Ending;
 use command_line::{VolumeFile, Work};
 use command_reads::checkers;
-use command_terms::OutputForm;
+use command_terms::{OutputForm, PlayForm};
 use host_files::{ImageFiles, noted_writer};
 use pdp_words::{IntoWrite, Sink};
-use std::fs::Files;
 use std::io::Write;
 use std::process::ExitCode;
 use std::rt::Clock;
@@ -45,73 +46,59 @@ pub fn run_to_end<
 {
     let mut errors = IntoWrite::new(errors);
     let mut output = noted_writer(output);
-    let ending = run(host, screen, &mut output, volume, &work);
+    let ended = run(host, screen, &mut output, volume, &work);
     let subject = Subject::of_work(volume, &work);
-    tell_fault(
-        host,
-        &mut errors,
-        &ending.fault,
-        output.error(),
-        Some(subject),
-    );
-    ExitCode::from(finish_printed(host, output.into_inner().into_inner(), ending.status))
+    let status = tell_end(host, &mut errors, &ended, output.error(), Some(subject));
+    ExitCode::from(finish_printed(host, output.into_inner().into_inner(), status))
 }
 
 /// Runs a command with several threads on the volume in a file, and returns the result of the run, which holds if [`finish_printed`] succeeds.
-fn run<R: ImageFiles + Clock + Eprint + AllocGlobal + Threads + Wait + Sync, O: Sink>(
+fn run<'a, R: ImageFiles + Clock + Eprint + AllocGlobal + Threads + Wait + Sync, O: Sink>(
     host: &Surroundings<'_, R>,
     screen: Screen,
     output: &mut O,
-    volume: VolumeFile<'_>,
-    work: &Work<'_>,
-) -> Ending
+    volume: VolumeFile<'a>,
+    work: &Work<'a>,
+) -> Result<Ending, FailedRun<'a>>
     requires { IsWorkable work.now }
-    ensures runs { (errors : ErrorStream) → Hears errors result.fault
-        → RunsWork (streams O.contents O.failed output.old output.new errors) (host_files volume.entry.at R.File.remaining R.File.contents R.had R.stood) screen volume.entry.edition work.now result.status }
-    ensures ends { (errors : ErrorStream) → Hears errors result.fault
-        → IsEnd (streams O.contents O.failed output.old output.new errors) result.status }
+    ensures runs { (errors : ErrorStream) → Hears errors (run_fault result)
+        → RunsWork (streams O.contents O.failed output.old output.new errors) (host_files volume.entry.at R.File.remaining R.File.contents R.had R.stood) screen volume.entry.edition work.now (run_status result) }
+    ensures ends { (errors : ErrorStream) → Hears errors (run_fault result)
+        → IsEnd (streams O.contents O.failed output.old output.new errors) (run_status result) }
 {
     match work {
         Work::Check {
             checker,
             workers,
             form,
-        } => run_check(host, screen, output, volume, *checker, *workers, *form),
+        } => run_check(host.rt, screen, output, volume, *checker, *workers, *form),
         Work::Play {
             scripts,
             journal,
-            trace,
-        } => run_play(host, output, volume, scripts, *journal, *trace),
+            form,
+        } => run_play(host, output, volume, scripts, *journal, *form),
     }
 }
 
 /// Prints a checker's findings on the volume in a file, found by `workers` threads, and returns the result of the run.
-fn run_check<R: ImageFiles + Eprint + AllocGlobal + Threads + Wait + Sync, O: Sink>(
-    host: &Surroundings<'_, R>,
+fn run_check<'a, R: ImageFiles + AllocGlobal + Threads + Wait + Sync, O: Sink>(
+    rt: &R,
     screen: Screen,
     output: &mut O,
-    volume: VolumeFile<'_>,
+    volume: VolumeFile<'a>,
     checker: Checker,
     workers: usize,
     form: OutputForm,
-) -> Ending
+) -> Result<Ending, FailedRun<'a>>
     requires first { 1 ≤ workers }
     requires last { workers ≤ MOST_WORKERS }
-    ensures { (errors : ErrorStream) → Hears errors result.fault
-        → RunsCheck (streams O.contents O.failed output.old output.new errors) (host_files volume.entry.at R.File.remaining R.File.contents R.had R.stood) screen volume.entry.edition checker form result.status }
+    ensures { (errors : ErrorStream) → Hears errors (run_fault result)
+        → RunsCheck (streams O.contents O.failed output.old output.new errors) (host_files volume.entry.at R.File.remaining R.File.contents R.had R.stood) screen volume.entry.edition checker form (run_status result) }
 {
-    let image = match read_volume(host, volume) {
-        Ok(image) => image,
-        Err(status) => {
-            return Ending {
-                status,
-                fault: None,
-            };
-        }
-    };
-    checkers::perform(
-        host.rt,
-        host.rt.alloc(),
+    let image = read_volume(rt, volume)?;
+    Ok(checkers::perform(
+        rt,
+        rt.alloc(),
         volume.edition,
         image,
         checker,
@@ -119,44 +106,28 @@ fn run_check<R: ImageFiles + Eprint + AllocGlobal + Threads + Wait + Sync, O: Si
         form,
         screen,
         output,
-    )
+    ))
 }
 
-/// Plays the scripts in some files on the volume in a file, each in its own thread, saves the volume, and returns the result of the run.
-fn run_play<R: ImageFiles + Clock + Eprint + AllocGlobal + Threads + Wait + Sync, O: Sink>(
+/// Plays the scripts in some files on the volume in a file, each in its own thread, prints the results in this form, saves the volume, and returns the
+/// result of the run.
+fn run_play<'a, R: ImageFiles + Clock + Eprint + AllocGlobal + Threads + Wait + Sync, O: Sink>(
     host: &Surroundings<'_, R>,
     output: &mut O,
-    volume: VolumeFile<'_>,
-    scripts: &[&str],
+    volume: VolumeFile<'a>,
+    scripts: &[&'a str],
     journal: bool,
-    trace: bool,
-) -> Ending
+    form: PlayForm,
+) -> Result<Ending, FailedRun<'a>>
     requires first { 1 ≤ length scripts.now }
     requires last { length scripts.now ≤ 64 }
-    ensures { (errors : ErrorStream) → Hears errors result.fault
-        → RunsPlay (streams O.contents O.failed output.old output.new errors) (host_files volume.entry.at R.File.remaining R.File.contents R.had R.stood) volume.entry.edition (length scripts.now) journal trace result.status }
+    ensures { (errors : ErrorStream) → Hears errors (run_fault result)
+        → RunsPlay (streams O.contents O.failed output.old output.new errors) (host_files volume.entry.at R.File.remaining R.File.contents R.had R.stood) volume.entry.edition (length scripts.now) journal form (run_status result) }
 {
-    let read = ||
-        ensures given { IfOk result (λ files. All (λ script. GaveScript R.File.remaining script.items) files.items) }
-        ensures count { IfOk result (λ files. length files.items ≡ length scripts.entry.now) }
-        ensures fault { IfErr result (IsUnread R.File.remaining) }
-    { read_scripts(host, scripts) };
-    let begun = match begin(host, volume, read) {
-        Ok(begun) => begun,
-        Err(status) => {
-            return Ending {
-                status,
-                fault: None,
-            };
-        }
-    };
+    expect_volume(host.rt, volume)?;
+    let files = read_scripts(host.rt, scripts)?;
     // The image's file stays open, and so locked, until the result is saved.
-    let Begun {
-        given: files,
-        image,
-        stamp,
-        locked: _locked,
-    } = begun;
+    let (image, stamp, _locked) = read_image(host, volume)?;
     let answer = vol_play::perform(
         host.rt,
         host.rt.alloc(),
@@ -164,13 +135,10 @@ fn run_play<R: ImageFiles + Clock + Eprint + AllocGlobal + Threads + Wait + Sync
         image,
         files,
         journal,
-        trace,
+        form,
         &Open,
         output,
     );
-    let status = save_played(host, volume, stamp, &answer);
-    Ending {
-        status,
-        fault: answer.fault,
-    }
+    let saved = save_played(host.rt, volume, stamp, &answer);
+    after_saving(saved, answer.status, answer.fault)
 }

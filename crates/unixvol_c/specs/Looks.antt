@@ -13,6 +13,7 @@ use Rattle.command_reads.specs.declared.bad_looks.BadBlocks.TheVariants as bads
 use Rattle.command_terms.specs.declared.bad_looks.BadLook.{BadLook}
 use Rattle.command_terms.specs.declared.bad_looks.BadLook.TheVariants as bad_looks
 use Rattle.command_reads.specs.declared.bad_looks.BadMap.{BadMap}
+use Rattle.command_terms.specs.declared.looks.DumpForm.TheVariants as dumps
 use Rattle.command_terms.specs.declared.looks.DumpTarget.{DumpTarget}
 use Rattle.command_terms.specs.declared.looks.DumpTarget.TheVariants as targets
 use Rattle.command_terms.specs.declared.looks.ExportOptions.{ExportOptions}
@@ -66,6 +67,8 @@ IsPictured picture path look = ⊥
 -- a view, with a path and a pattern, asks for this look (this project)
 abbrev pub IsAsked : View → List ℕ → List ℕ → Look → Type 0
 IsAsked view path pattern (looks.Export word options) = ⊥
+IsAsked view path pattern (looks.ListUnsound word listing) = ⊥
+IsAsked view path pattern (looks.ReadUnsound word) = ⊥
 IsAsked view path pattern (looks.Inode node form) = (view.kind ≡ numbers.LOOK_INODE) × IsNodeAt view.inode path node × (form ≡ form_of view.json)
 IsAsked view path pattern (looks.Super form) = (view.kind ≡ numbers.LOOK_SUPER) × (form ≡ form_of view.json)
 IsAsked view path pattern (looks.Df form) = (view.kind ≡ numbers.LOOK_DF) × (form ≡ form_of view.json)
@@ -82,7 +85,7 @@ IsAsked view path pattern looks.Uses = (view.kind ≡ numbers.LOOK_MAP) × (view
 IsAsked view path pattern (looks.Map pictures.Svg file) = (view.kind ≡ numbers.LOOK_SVG) × IsGiven path (option_map (λ word. word.now) file)
 IsAsked view path pattern (looks.Slots word form) = (view.kind ≡ numbers.LOOK_SLOTS) × (word.now ≡ path) × (form ≡ form_of view.json)
 IsAsked view path pattern (looks.List word listing) = (view.kind ≡ numbers.LOOK_LIST) × (word.now ≡ path) × (listing ≡ listing_of view.json)
-IsAsked view path pattern (looks.Dump target radix) = IsDumpAt view path target × (radix ≡ Hex)
+IsAsked view path pattern (looks.Dump target form) = IsDumpAt view path target × (form ≡ dumps.Text Hex)
 
 -- no look is asked for: the number is none of a look, or a map of one file is asked for as JSON, or the path or the pattern isn't UTF-8 (this project)
 abbrev pub IsNoLook : View → List ℕ → List ℕ → Type 0
@@ -93,10 +96,10 @@ IsNoLook view path pattern = (view.kind ≡ 0) ⊎ (numbers.LOOK_DUMP_NODE < vie
 abbrev pub LooksAt : Edition → List ℕ → View → List ℕ → List ℕ → Streams → ℕ → Type 0
 LooksAt edition image view path pattern streams status = (look : Look) × IsAsked view path pattern look × Looks edition image Stream streams status look
 
--- the comparison with a number (this project)
+-- the comparison with a number, in lines (this project)
 abbrev pub IsComparison : ℕ → Comparison → Type 0
-IsComparison by (comparisons.Tree times) = by ≡ (if times then numbers.BY_ALL_TIMES else numbers.BY_TREE)
-IsComparison by (comparisons.Fields all) = by ≡ (if all then numbers.BY_ALL_FIELDS else numbers.BY_FIELDS)
+IsComparison by (comparisons.Tree times form) = (by ≡ (if times then numbers.BY_ALL_TIMES else numbers.BY_TREE)) × (form ≡ forms.Text)
+IsComparison by (comparisons.Fields all form) = (by ≡ (if all then numbers.BY_ALL_FIELDS else numbers.BY_FIELDS)) × (form ≡ forms.Text)
 
 -- no comparison has this number (this project)
 abbrev pub IsNoComparison : ℕ → Type 0
@@ -131,6 +134,7 @@ abbrev pub IsExportOf : List ℕ → ExportOptions → BadLook → Type 0
 IsExportOf path options (bad_looks.Export word chosen) = (word.now ≡ path) × (chosen ≡ options)
 IsExportOf path options (bad_looks.Find word name lost form) = ⊥
 IsExportOf path options (bad_looks.Sums word form lost) = ⊥
+IsExportOf path options (bad_looks.Read word damaged) = ⊥
 
 -- an image with lost blocks is exported: those that it is too short for, or those that a map says weren't read (this project)
 abbrev pub RescuesAs : Edition → List ℕ → RescueView → List ℕ → List ℕ → Streams → ℕ → Type 0

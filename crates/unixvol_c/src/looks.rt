@@ -4,7 +4,10 @@ ghost use Rattle.std.specs.Str.{IsUtf8};
 ghost use Rattle.vol_fields.specs.declared.lines.Radix.TheVariants.{Hex};
 ghost use Rattle.vol_listing.specs.declared.options.Screen.TheVariants.{Stream};
 ghost use Rattle.command_reads.specs.Look.{Looks};
+ghost use Rattle.command_terms.specs.declared.comparison.Comparison.TheVariants as comparisons;
+ghost use Rattle.command_terms.specs.declared.looks.DumpForm.TheVariants as dumps;
 ghost use Rattle.command_terms.specs.declared.looks.Look.TheVariants as looks;
+ghost use Rattle.command_terms.specs.declared.looks.OutputForm.TheVariants as forms;
 ghost use Rattle.unixvol_c.specs.Calls.{edition_of, IsNoEdition};
 ghost use Rattle.unixvol_c.specs.Kept.{HandsOut, IsKept};
 ghost use Rattle.unixvol_c.specs.Looks.{Compares, ComparesAs, IsAsked, IsComparison, IsDumpAt, IsGiven, IsNodeAt, LooksAt, RescuesAs};
@@ -23,8 +26,8 @@ use command_reads::bad_looks::look_bad;
 use command_reads::diff::NamedImage;
 use command_reads::{BadBlocks, BadMap, look, show_comparison};
 use command_terms::{
-    BadLook, Comparison, DumpTarget, ExportOptions, Look, LossOptions, NodeName, OutputForm,
-    Picture,
+    BadLook, Comparison, DumpForm, DumpTarget, ExportOptions, Look, LossOptions, NodeName,
+    OutputForm, Picture,
 };
 use pdp_words::IntoWrite;
 use std::alloc::{AllocError, Global};
@@ -306,11 +309,11 @@ fn node_target<'a>(view: &View, path: &'a str) -> DumpTarget<'a>
 
 /// Returns the dump of a block or an i-node.
 fn dump_of(target: DumpTarget<'_>) -> Look<'_>
-    ensures { result ≡ looks.Dump target.entry Hex }
+    ensures { result ≡ looks.Dump target.entry (dumps.Text Hex) }
 {
     Look::Dump {
         target,
-        radix: Radix::Hex,
+        form: DumpForm::Text(Radix::Hex),
     }
 }
 
@@ -347,10 +350,30 @@ fn comparison_of(number: u8) -> Option<Comparison>
     ensures none { IsNone result → IsNoComparison number }
 {
     match number {
-        BY_TREE => Some(Comparison::Tree { times: false }),
-        BY_ALL_TIMES => Some(Comparison::Tree { times: true }),
-        BY_FIELDS => Some(Comparison::Fields { all: false }),
-        BY_ALL_FIELDS => Some(Comparison::Fields { all: true }),
+        BY_TREE => Some(by_tree(false)),
+        BY_ALL_TIMES => Some(by_tree(true)),
+        BY_FIELDS => Some(by_fields(false)),
+        BY_ALL_FIELDS => Some(by_fields(true)),
         _ => None,
+    }
+}
+
+/// Returns the comparison by trees, in lines.
+fn by_tree(times: bool) -> Comparison
+    ensures { result ≡ comparisons.Tree times forms.Text }
+{
+    Comparison::Tree {
+        times,
+        form: OutputForm::Text,
+    }
+}
+
+/// Returns the comparison by fields, in lines.
+fn by_fields(all: bool) -> Comparison
+    ensures { result ≡ comparisons.Fields all forms.Text }
+{
+    Comparison::Fields {
+        all,
+        form: OutputForm::Text,
     }
 }

@@ -1,3 +1,7 @@
+use Rattle.std.proofs.Common.{Option, subst}
+use Rattle.command_faults.specs.Streams.{Hears}
+use Rattle.command_faults.specs.declared.fault.Fault.{Fault}
+use Rattle.unixvol.specs.FileFaults.{run_status}
 use Rattle.command_changes.specs.Repair.{IsRepairReported, IsUnrepaired}
 use Rattle.command_changes.specs.Salvage.{IsReported, IsUnsalvaged}
 use Rattle.unixvol.proofs.CopiesMade.{ends_copying}
@@ -20,11 +24,16 @@ returns-in-Migrate-clause-runs g c errors hears =
     rw c.in-Migrate.is (c.run_migrate.ensures.runs (g.O.Sink.contents c.args.output.now) (g.O.Sink.failed c.args.output.now) errors hears)
 
 pub returns-in-Cat-clause-runs : goal.returns-in-Cat-clause-runs
-returns-in-Cat-clause-runs g c errors hears = rw c.in-Cat.is (c.run_cat.ensures.shown, c.run_cat.ensures.whole, hears)
+returns-in-Cat-clause-runs g c errors hears =
+    rw c.in-Cat.is (c.run_cat.ensures.shown, c.run_cat.ensures.whole, subst (λ (fault : Option Fault). Hears errors fault) c.run_cat.ensures.quiet hears)
 
 pub returns-in-Cat-clause-ends : goal.returns-in-Cat-clause-ends
 returns-in-Cat-clause-ends g c errors hears =
-    rw c.in-Cat.is (record { within = c.run_cat.ensures.within; silent = c.run_cat.ensures.silent; whole = λ e. (c.run_cat.ensures.whole e, hears) })
+    rw c.in-Cat.is (record {
+      within = c.run_cat.ensures.within;
+      silent = c.run_cat.ensures.silent;
+      whole = λ e. (c.run_cat.ensures.whole e, subst (λ (fault : Option Fault). Hears errors fault) c.run_cat.ensures.quiet hears);
+    })
 
 pub returns-in-Get-clause-ends : goal.returns-in-Get-clause-ends
 returns-in-Get-clause-ends g c errors hears =
@@ -48,7 +57,7 @@ returns-in-Salvage-clause-runs g c errors hears = rw c.in-Salvage.is (c.run_salv
 pub returns-in-Salvage-clause-ends : goal.returns-in-Salvage-clause-ends
 returns-in-Salvage-clause-ends g c errors hears =
     rw c.in-Salvage.is (ends_copying c.in-Salvage.volume.at g.R.File.Read.remaining g.R.File.Write.contents g.R.ImageFiles.had g.R.ImageFiles.stood _ c.in-Salvage.volume.edition
-    (IsUnsalvaged c.in-Salvage.volume.edition) (IsReported c.in-Salvage.volume.edition) c.in-Salvage.copy c.run_salvage.result.status (c.run_salvage.ensures errors hears))
+    (IsUnsalvaged c.in-Salvage.volume.edition) (IsReported c.in-Salvage.volume.edition) c.in-Salvage.copy (run_status c.run_salvage.result) (c.run_salvage.ensures errors hears))
 
 pub returns-in-Repair-clause-runs : goal.returns-in-Repair-clause-runs
 returns-in-Repair-clause-runs g c errors hears = rw c.in-Repair.is (c.run_repair.ensures errors hears)
@@ -56,4 +65,4 @@ returns-in-Repair-clause-runs g c errors hears = rw c.in-Repair.is (c.run_repair
 pub returns-in-Repair-clause-ends : goal.returns-in-Repair-clause-ends
 returns-in-Repair-clause-ends g c errors hears =
     rw c.in-Repair.is (ends_copying c.in-Repair.volume.at g.R.File.Read.remaining g.R.File.Write.contents g.R.ImageFiles.had g.R.ImageFiles.stood _ c.in-Repair.volume.edition
-    (IsUnrepaired c.in-Repair.volume.edition c.in-Repair.repairing.blocks) (IsRepairReported c.in-Repair.volume.edition c.in-Repair.repairing.blocks) c.in-Repair.copy c.run_repair.result.status (c.run_repair.ensures errors hears))
+    (IsUnrepaired c.in-Repair.volume.edition c.in-Repair.repairing.blocks) (IsRepairReported c.in-Repair.volume.edition c.in-Repair.repairing.blocks) c.in-Repair.copy (run_status c.run_repair.result) (c.run_repair.ensures errors hears))

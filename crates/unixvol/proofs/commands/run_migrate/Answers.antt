@@ -1,33 +1,38 @@
-use Rattle.std.proofs.Common.{inl, inr, refl}
+use Rattle.std.proofs.Common.{Option, inl, inr, refl, subst}
 use Rattle.std.proofs.KnownBytes.{Keeps-refl}
-use Rattle.command_faults.specs.Streams.{still}
+use Rattle.command_faults.specs.Streams.{Hears, still}
+use Rattle.command_faults.specs.declared.fault.Fault.{Fault}
 use Rattle.command_changes.specs.Migrate.{of_migration}
 use Rattle.command_faults.proofs.Concluded.{among, concluded}
 use Rattle.host_files.specs.Save.{IsTaken}
+use Rattle.unixvol.specs.Runs.{IsUnread}
 use Rattle.unixvol.proofs.Concluded.{ends_concluded, ends_unread}
+use Rattle.unixvol.proofs.FileFaults.{after_saving, stopped}
 use Rattle.unixvol.proofs.commands.run_migrate.Goals as goal
 
-pub returns-in-Err-clause-runs : goal.returns-in-Err-clause-runs
-returns-in-Err-clause-runs g c known failed errors hears = inl (c.in-Err.ensures.fault, Keeps-refl known, refl, hears)
+pub returns-in_err-image-clause-runs : goal.returns-in_err-image-clause-runs
+returns-in_err-image-clause-runs g c known failed errors hears =
+    inl (stopped (IsUnread g.R.File.Read.remaining) known failed errors _ _ c.from_residual.ensures.1 c.in_err-image.ensures.fault hears)
 
 pub returns-clause-runs : goal.returns-clause-runs
 returns-clause-runs g c known failed errors hears =
     inr (
-      c.in-Ok.read.0.items,
+      c.in_ok-image.image.items,
       c.conclude-answer.result,
-      c.in-Ok.ensures.given,
+      c.in_ok-image.ensures.given,
       concluded _ _ _ _ (among _ _ _ _ _ refl c.migrate_image.ensures.migrated c.migrate_image.ensures.fault c.unremarked.ensures)
-          c.conclude-answer.ensures.made c.conclude-answer.ensures.fault hears (Keeps-refl known) refl,
-      c.save_migrated-status.ensures,
+          c.conclude-answer.ensures.made c.conclude-answer.ensures.fault (subst (λ (fault : Option Fault). Hears errors fault) c.after_saving.ensures.fault hears) (Keeps-refl known) refl,
+      after_saving _ _ _ _ _ c.after_saving.ensures.status c.save_migrated-saved.ensures.saved c.save_migrated-saved.ensures.fault,
     )
 
 pub returns-clause-ends : goal.returns-clause-ends
 returns-clause-ends g c known failed errors hears =
-    ends_concluded (of_migration c.in-Ok.read.0.items c.args.migration) (still known failed errors) (IsTaken g.R.File.Write.contents) c.conclude-answer.result
-    c.save_migrated-status.result
+    ends_concluded (of_migration c.in_ok-image.image.items c.args.migration) (still known failed errors) (IsTaken g.R.File.Write.contents) c.conclude-answer.result _
     (concluded _ _ _ _ (among _ _ _ _ _ refl c.migrate_image.ensures.migrated c.migrate_image.ensures.fault c.unremarked.ensures)
-    c.conclude-answer.ensures.made c.conclude-answer.ensures.fault hears (Keeps-refl known) refl) c.save_migrated-status.ensures
+    c.conclude-answer.ensures.made c.conclude-answer.ensures.fault (subst (λ (fault : Option Fault). Hears errors fault) c.after_saving.ensures.fault hears) (Keeps-refl known) refl)
+    (after_saving _ _ _ _ _ c.after_saving.ensures.status c.save_migrated-saved.ensures.saved c.save_migrated-saved.ensures.fault)
 
-pub returns-in-Err-clause-ends : goal.returns-in-Err-clause-ends
-returns-in-Err-clause-ends g c known failed errors hears =
-    ends_unread g.R.File.Read.remaining (still known failed errors) c.in-Err.status c.in-Err.ensures.fault (Keeps-refl known)
+pub returns-in_err-image-clause-ends : goal.returns-in_err-image-clause-ends
+returns-in_err-image-clause-ends g c known failed errors hears =
+    let done = stopped (IsUnread g.R.File.Read.remaining) known failed errors _ _ c.from_residual.ensures.1 c.in_err-image.ensures.fault hears in
+    ends_unread g.R.File.Read.remaining (still known failed errors) _ done.0 done.1

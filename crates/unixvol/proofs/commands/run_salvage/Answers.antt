@@ -1,22 +1,28 @@
-use Rattle.std.proofs.Common.{inr}
+use Rattle.std.proofs.Common.{inl, inr}
+use Rattle.unixvol.specs.Runs.{IsUnread}
+use Rattle.unixvol.proofs.FileFaults.{stopped}
 use Rattle.unixvol.proofs.commands.run_salvage.Goals as goal
 
 -- the salvaged volume is saved, and its report is printed
 pub returns-in-Some : goal.returns-in-Some
 returns-in-Some g c errors hears =
-    let made = c.in-Ok-salvage_with_report in
+    let made = c.in-Ok in
     inr (
-      c.in-Ok.read.0.items,
-      c.in-Ok.ensures.given,
+      c.in_ok-image.image.items,
+      c.in_ok-image.ensures.given,
       inr (made.salvaged.bytes.items, made.salvaged.report.items, made.ensures.salvaged, rw c.in-Some.is (c.save_copy.ensures errors hears)),
     )
 
 -- only its report is printed
-pub returns-in-None : goal.returns-in-None
-returns-in-None g c errors hears =
-    let made = c.in-Ok-salvage_with_report in
+pub returns : goal.returns
+returns g c errors hears =
+    let made = c.in-Ok in
     inr (
-      c.in-Ok.read.0.items,
-      c.in-Ok.ensures.given,
+      c.in_ok-image.image.items,
+      c.in_ok-image.ensures.given,
       inr (made.salvaged.bytes.items, made.salvaged.report.items, made.ensures.salvaged, rw c.in-None.is (rw c.deref.ensures.value at (c.print_with.ensures errors hears))),
     )
+
+-- the image isn't read
+pub returns-in_err-image : goal.returns-in_err-image
+returns-in_err-image g c errors hears = inl (stopped (IsUnread g.R.File.Read.remaining) (g.O.Sink.contents c.args.output.now) (g.O.Sink.failed c.args.output.now) errors _ _ c.from_residual.ensures.1 c.in_err-image.ensures.fault hears)

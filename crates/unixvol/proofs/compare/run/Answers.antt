@@ -1,21 +1,24 @@
-use Rattle.std.proofs.Common.{inl, inr, refl}
-use Rattle.std.proofs.KnownBytes.{Keeps-refl}
+use Rattle.std.proofs.Common.{inl, inr}
+use Rattle.unixvol.specs.Runs.{IsUnread}
+use Rattle.unixvol.proofs.FileFaults.{stopped}
 use Rattle.unixvol.proofs.compare.run.Goals as goal
 
-pub returns-in-Err : goal.returns-in-Err
-returns-in-Err g c errors hears = inl (c.in-Err.ensures.fault, Keeps-refl (g.O.Sink.contents c.args.output.now), refl, hears)
+pub returns-in_err-old : goal.returns-in_err-old
+returns-in_err-old g c errors hears =
+    inl (stopped (IsUnread g.R.File.Read.remaining) (g.O.Sink.contents c.args.output.now) (g.O.Sink.failed c.args.output.now) errors _ _ c.from_residual.ensures.1 c.in_err-old.ensures.fault hears)
 
-pub returns-in-Err-read_named : goal.returns-in-Err-read_named
-returns-in-Err-read_named g c errors hears = inl (c.in-Err-read_named.ensures.fault, Keeps-refl (g.O.Sink.contents c.args.output.now), refl, hears)
+pub returns-in_err-new : goal.returns-in_err-new
+returns-in_err-new g c errors hears =
+    inl (stopped (IsUnread g.R.File.Read.remaining) (g.O.Sink.contents c.args.output.now) (g.O.Sink.failed c.args.output.now) errors _ _ c.from_residual-in_err-new.ensures.1 c.in_err-new.ensures.fault hears)
 
 pub returns : goal.returns
 returns g c errors hears =
     inr (
-      c.in-Ok.image,
-      c.in-Ok-read_named.image,
-      c.in-Ok.ensures.given,
-      c.in-Ok-read_named.ensures.given,
-      c.in-Ok.ensures.name,
-      c.in-Ok-read_named.ensures.name,
+      c.in_ok-old.old,
+      c.in_ok-new.new,
+      c.in_ok-old.ensures.given,
+      c.in_ok-new.ensures.given,
+      c.in_ok-old.ensures.name,
+      c.in_ok-new.ensures.name,
       c.show_comparison.ensures errors hears,
     )

@@ -1,4 +1,4 @@
-use Rattle.std.proofs.Common.{arith}
+use Rattle.std.proofs.Common.{arith, refl}
 use Rattle.std.proofs.lemmas.List.Elements.{All-push, All-same}
 use Rattle.command_changes.specs.declared.put.NewFile.{NewFile}
 use Rattle.unixvol.specs.Runs.{GavePut, IsGivenFile}
@@ -16,4 +16,4 @@ files-preserved g c = (
 
 pub returns-in_default-clause-fault : goal.returns-in_default-clause-fault
 returns-in_default-clause-fault g c =
-    put_unread g.R.File.Read.remaining c.args.edition _ c.explain_no_memory.result c.explain_no_memory.ensures c.in_ok-content.ensures.given
+    put_unread g.R.File.Read.remaining c.args.edition _ 4 refl c.in_ok-content.ensures.given

@@ -1,4 +1,4 @@
-use Rattle.std.proofs.Common.{ℕ, List, map}
+use Rattle.std.proofs.Common.{ℕ, List, map, refl}
 use Rattle.std.specs.Borrow.{Bor}
 use Rattle.std.specs.Process.{exit_status}
 use Rattle.pdp_words.specs.Adapters.{writer_in, has_write_failed}
@@ -20,4 +20,4 @@ returns g c =
     (λ streams status. IsEnd streams status) Exits (g.O.Write.contents c.args.output) (g.E.Write.contents c.args.errors) _ _ _ _ _ _ _ status (exit_status c.from.result)
     c.noted_writer-output.ensures.bytes c.new-errors.ensures.bytes c.noted_writer-output.ensures.fresh runs
     (ends_identified g.R.File.Read.remaining g.R.ImageFiles.had g.R.ImageFiles.stood c.args.form _ paths status runs)
-    (ended_printed status c.finish_printed.result (exit_status c.from.result) c.from.ensures c.finish_printed.ensures)
+    (ended_printed status status c.finish_printed.result (exit_status c.from.result) refl c.from.ensures c.finish_printed.ensures)

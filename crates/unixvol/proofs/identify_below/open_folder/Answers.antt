@@ -7,4 +7,4 @@ returns-in-Ok-stack_found g c =
     (more.0, inl (c.in-Ok.listing, c.in-Ok.ensures, more.1, c.tell_left_out.ensures), more.2)
 
 pub returns-in-Err : goal.returns-in-Err
-returns-in-Err g c = ([], inr (inr c.explain_no_memory_for.ensures, refl), search rules)
+returns-in-Err g c = ([], inr (inr c.tell_file.ensures, refl), search rules)

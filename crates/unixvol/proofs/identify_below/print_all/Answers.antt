@@ -7,4 +7,4 @@ returns-in-Ok g c errors hears = inl (c.in-Ok.stack.items, c.in-Ok.ensures, c.pr
 
 pub returns-in-Err : goal.returns-in-Err
 returns-in-Err g c errors hears =
-    inr (record { status = c.explain_no_memory.ensures; whole = Appends-nil (g.O.Sink.contents c.args.output.now); working = refl; said = hears })
+    inr (record { status = c.tell_file.ensures; whole = Appends-nil (g.O.Sink.contents c.args.output.now); working = refl; said = hears })

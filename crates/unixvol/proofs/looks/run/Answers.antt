@@ -1,20 +1,24 @@
-use Rattle.std.proofs.Common.{inl, inr, refl}
-use Rattle.std.proofs.KnownBytes.{Keeps-refl}
+use Rattle.std.proofs.Common.{inl, inr}
+use Rattle.unixvol.specs.FileFaults.{run_status}
+use Rattle.unixvol.specs.Runs.{IsUnread}
+use Rattle.unixvol.proofs.FileFaults.{stopped}
 use Rattle.unixvol.proofs.Looked.{ends_looked}
 use Rattle.unixvol.proofs.looks.run.Goals as goal
 
-pub returns-in-Err-clause-runs : goal.returns-in-Err-clause-runs
-returns-in-Err-clause-runs g c errors hears = inl (c.in-Err.ensures.fault, Keeps-refl (g.O.Sink.contents c.args.output.now), refl, hears)
+pub returns-in_err-image-clause-runs : goal.returns-in_err-image-clause-runs
+returns-in_err-image-clause-runs g c errors hears =
+    inl (stopped (IsUnread g.R.File.Read.remaining) (g.O.Sink.contents c.args.output.now) (g.O.Sink.failed c.args.output.now) errors _ _ c.from_residual.ensures.1 c.in_err-image.ensures.fault hears)
 
 pub returns-clause-runs : goal.returns-clause-runs
-returns-clause-runs g c errors hears = inr (c.in-Ok.image.items, c.in-Ok.ensures.given, c.perform.ensures errors hears)
+returns-clause-runs g c errors hears = inr (c.in_ok-image.image.items, c.in_ok-image.ensures.given, c.perform.ensures errors hears)
 
 pub returns-clause-ends : goal.returns-clause-ends
 returns-clause-ends g c errors hears =
     ends_looked c.args.volume.at g.R.File.Read.remaining g.R.File.Write.contents g.R.ImageFiles.had g.R.ImageFiles.stood _ c.args.screen c.args.volume.edition c.args.look c.perform.result.status
-    (inr (c.in-Ok.image.items, c.in-Ok.ensures.given, c.perform.ensures errors hears))
+    (inr (c.in_ok-image.image.items, c.in_ok-image.ensures.given, c.perform.ensures errors hears))
 
-pub returns-in-Err-clause-ends : goal.returns-in-Err-clause-ends
-returns-in-Err-clause-ends g c errors hears =
-    ends_looked c.args.volume.at g.R.File.Read.remaining g.R.File.Write.contents g.R.ImageFiles.had g.R.ImageFiles.stood _ c.args.screen c.args.volume.edition c.args.look c.in-Err.status
-    (inl (c.in-Err.ensures.fault, Keeps-refl (g.O.Sink.contents c.args.output.now), refl, hears))
+pub returns-in_err-image-clause-ends : goal.returns-in_err-image-clause-ends
+returns-in_err-image-clause-ends g c errors hears =
+    ends_looked c.args.volume.at g.R.File.Read.remaining g.R.File.Write.contents g.R.ImageFiles.had g.R.ImageFiles.stood _ c.args.screen c.args.volume.edition c.args.look
+    (run_status c.from_residual.result)
+    (inl (stopped (IsUnread g.R.File.Read.remaining) (g.O.Sink.contents c.args.output.now) (g.O.Sink.failed c.args.output.now) errors _ _ c.from_residual.ensures.1 c.in_err-image.ensures.fault hears))

@@ -1,4 +1,4 @@
-use Rattle.std.proofs.Common.{◌≡◌, ◌∙◌, ◌+◌, ◌++◌, ◌∷◌, [], ap, length, length-append}
+use Rattle.std.proofs.Common.{◌≡◌, ◌∙◌, ◌+◌, ◌++◌, ◌∷◌, [], ap, length, length-append, refl}
 use Rattle.std.specs.Global.{Vec}
 use Rattle.std.proofs.lemmas.List.Elements.{All-push, All-same}
 use Rattle.unixvol.specs.Runs.{GaveScript}
@@ -17,4 +17,4 @@ scripts-preserved g c =
 
 pub returns-in_default-clause-fault : goal.returns-in_default-clause-fault
 returns-in_default-clause-fault g c =
-    script_unread g.R.File.Read.remaining _ c.explain_no_memory.result c.explain_no_memory.ensures c.in_ok-script-in-Ok.ensures.given
+    script_unread g.R.File.Read.remaining _ 4 refl c.in_ok-script-in-Ok.ensures.given

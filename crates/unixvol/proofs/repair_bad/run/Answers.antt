@@ -1,29 +1,32 @@
-use Rattle.std.proofs.Common.{inl, inr, refl}
-use Rattle.std.proofs.KnownBytes.{Keeps-refl}
+use Rattle.std.proofs.Common.{inl, inr}
+use Rattle.unixvol.specs.Runs.{IsUnread}
+use Rattle.unixvol.proofs.FileFaults.{stopped}
 use Rattle.unixvol.proofs.repair_bad.run.Goals as goal
 
-pub returns-in-Err : goal.returns-in-Err
-returns-in-Err g c errors hears = inl (c.in-Err.ensures.fault, Keeps-refl (g.O.Sink.contents c.args.output.now), refl, hears)
+pub returns-in_err-bad : goal.returns-in_err-bad
+returns-in_err-bad g c errors hears =
+    inl (stopped (IsUnread g.R.File.Read.remaining) (g.O.Sink.contents c.args.output.now) (g.O.Sink.failed c.args.output.now) errors _ _ c.from_residual.ensures.1 c.in_err-bad.ensures.fault hears)
 
-pub returns-in-Err-read_known : goal.returns-in-Err-read_known
-returns-in-Err-read_known g c errors hears = inl (c.in-Err-read_known.ensures.fault, Keeps-refl (g.O.Sink.contents c.args.output.now), refl, hears)
+pub returns-in_err-bytes : goal.returns-in_err-bytes
+returns-in_err-bytes g c errors hears =
+    inl (stopped (IsUnread g.R.File.Read.remaining) (g.O.Sink.contents c.args.output.now) (g.O.Sink.failed c.args.output.now) errors _ _ c.from_residual-in_err-bytes.ensures.1 c.in_err-bytes.ensures.fault hears)
 
-pub returns-in-Ok-rescue_image : goal.returns-in-Ok-rescue_image
-returns-in-Ok-rescue_image g c errors hears =
+pub returns-in-Ok : goal.returns-in-Ok
+returns-in-Ok g c errors hears =
     inr (
-      c.in-Ok-read_known.read.0.items,
-      c.in-Ok.bad,
-      c.in-Ok-read_known.ensures.given,
-      c.in-Ok.ensures.read,
-      inr (c.in-Ok-rescue_image.read.image, c.in-Ok-rescue_image.read.lost.items, c.in-Ok-rescue_image.ensures.read, c.repair_read.ensures errors hears),
+      c.in_ok-bytes.bytes.items,
+      c.in_ok-bad.bad,
+      c.in_ok-bytes.ensures.given,
+      c.in_ok-bad.ensures.read,
+      inr (c.in-Ok.read.image, c.in-Ok.read.lost.items, c.in-Ok.ensures.read, c.repair_read.ensures errors hears),
     )
 
-pub returns-in-Err-rescue_image : goal.returns-in-Err-rescue_image
-returns-in-Err-rescue_image g c errors hears =
+pub returns-in-Err : goal.returns-in-Err
+returns-in-Err g c errors hears =
     inr (
-      c.in-Ok-read_known.read.0.items,
-      c.in-Ok.bad,
-      c.in-Ok-read_known.ensures.given,
-      c.in-Ok.ensures.read,
-      inl (c.in-Err-rescue_image.ensures.fault (g.O.Sink.contents c.args.output.now) (g.O.Sink.failed c.args.output.now) errors hears),
+      c.in_ok-bytes.bytes.items,
+      c.in_ok-bad.bad,
+      c.in_ok-bytes.ensures.given,
+      c.in_ok-bad.ensures.read,
+      inl (c.in-Err.ensures.fault (g.O.Sink.contents c.args.output.now) (g.O.Sink.failed c.args.output.now) errors hears),
     )

@@ -1,3 +1,4 @@
+use Rattle.unixvol.specs.FileFaults.{run_status}
 use Rattle.unixvol.proofs.Checked.{ends_checked}
 use Rattle.unixvol.proofs.Played.{ends_played}
 use Rattle.unixvol.proofs.threads.run.Goals as goal
@@ -5,11 +6,11 @@ use Rattle.unixvol.proofs.threads.run.Goals as goal
 pub returns-in-Check-clause-ends : goal.returns-in-Check-clause-ends
 returns-in-Check-clause-ends g c errors hears =
     ends_checked c.args.volume.at g.R.File.Read.remaining g.R.File.Write.contents g.R.ImageFiles.had g.R.ImageFiles.stood _ c.args.screen c.args.volume.edition _ _
-    c.run_check.result.status (c.run_check.ensures errors hears)
+    (run_status c.run_check.result) (c.run_check.ensures errors hears)
 
 pub returns-in-Play-clause-ends : goal.returns-in-Play-clause-ends
 returns-in-Play-clause-ends g c errors hears =
-    ends_played c.args.volume.at g.R.File.Read.remaining g.R.File.Write.contents g.R.ImageFiles.had g.R.ImageFiles.stood _ c.args.volume.edition _ _ _ c.run_play.result.status
+    ends_played c.args.volume.at g.R.File.Read.remaining g.R.File.Write.contents g.R.ImageFiles.had g.R.ImageFiles.stood _ c.args.volume.edition _ _ _ (run_status c.run_play.result)
     (c.run_play.ensures errors hears)
 
 pub returns-in-Play-clause-runs : goal.returns-in-Play-clause-runs

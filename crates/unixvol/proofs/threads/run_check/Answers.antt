@@ -1,9 +1,11 @@
-use Rattle.std.proofs.Common.{inl, inr, refl}
-use Rattle.std.proofs.KnownBytes.{Keeps-refl}
+use Rattle.std.proofs.Common.{inl, inr}
+use Rattle.unixvol.specs.Runs.{IsUnread}
+use Rattle.unixvol.proofs.FileFaults.{stopped}
 use Rattle.unixvol.proofs.threads.run_check.Goals as goal
 
-pub returns-in-Err : goal.returns-in-Err
-returns-in-Err g c errors hears = inl (c.in-Err.ensures.fault, Keeps-refl (g.O.Sink.contents c.args.output.now), refl, hears)
+pub returns-in_err-image : goal.returns-in_err-image
+returns-in_err-image g c errors hears =
+    inl (stopped (IsUnread g.R.File.Read.remaining) (g.O.Sink.contents c.args.output.now) (g.O.Sink.failed c.args.output.now) errors _ _ c.from_residual.ensures.1 c.in_err-image.ensures.fault hears)
 
 pub returns : goal.returns
-returns g c errors hears = inr (c.in-Ok.image.items, c.in-Ok.ensures.given, c.perform.ensures errors hears)
+returns g c errors hears = inr (c.in_ok-image.image.items, c.in_ok-image.ensures.given, c.perform.ensures errors hears)

@@ -2,10 +2,41 @@
 # Runs `diff` without `--fields`: the lines of files, directories and links that differ, of both editions; volumes of other sizes, and images that aren't
 # sound; refusals and wrong words. The lines of fields are in fields.sh.
 # Usage: tests/diffs.sh PROGRAM. It prints each row that fails, and ends with 'N passed, N failed'.
+rows=$(realpath "$(dirname "$0")")
 . "$(dirname "$0")/rows.sh"
 
-# tells STATUS FILE WORD..: prints the lines of FILE, with this status
-tells() { runs "${@:3}"; wants "${*:3}" "$1" "$2" none; }
+# tells STATUS FILE WORD..: prints the lines of FILE, with this status; with --json an object with an item for each
+tells() {
+    runs "${@:3}"
+    wants "${*:3}" "$1" "$2" none
+    listed "$@"
+}
+# listed STATUS FILE WORD..: with --json a comparison has this status, and an object for each line of FILE: of the same path, and with other values where
+# the line has both
+: > printed
+listed() {
+    runs "${@:3}" --json
+    cat output >> printed
+    python3 -c '
+import json, sys
+letters = {"added": "A", "gone": "D", "changed": "M", "turned": "T", "unseen": "U"}
+words = {"permissions": "mode ", "links": "links ", "uid": "uid ", "gid": "gid ", "size": "size ", "mtime": "mtime ", "atime": "atime ", "ctime": "ctime "}
+lines = open(sys.argv[1]).read().splitlines()
+report = json.load(sys.stdin)
+if sorted(report) != ["format", "lines"] or len(report["lines"]) != len(lines):
+    sys.exit("%d lines, and %s" % (len(lines), report))
+for line, it in zip(lines, report["lines"]):
+    front = letters[it["line"]] + " " + it["path"]
+    if not line.startswith(front):
+        sys.exit("%s: %s" % (line, it))
+    if it["line"] == "changed":
+        told = line[len(front):]
+        if any((it["old"][key] != it["new"][key]) != (" " + word in told) for key, word in words.items()):
+            sys.exit("%s: %s" % (line, it))
+        if (it["first_byte"] is None) == ("bytes from " in told) or (it["old"]["link"] != it["new"]["link"]) != ("link to " in told):
+            sys.exit("%s: %s" % (line, it))' "$2" < output > made 2>&1
+    has "the items of ${*:3} --json" "0 $1 " "$? $(cat status) $(cat made)"
+}
 # differs LINE WORD..: one line, with status 1
 differs() { printf '%s\n' "$1" > wanted; tells 1 wanted diff "${@:2}"; }
 
@@ -29,6 +60,34 @@ LINES
 tells 1 wanted diff 7 e.img d.img
 tells 0 none diff 7 d.img d.img
 tells 0 none diff 7 d.img d.img --times
+
+# The same as JSON: all that is compared of both, and the times of the last read and of the last change with --times.
+cat > wanted << 'JSON'
+{"format":1,"lines":[{"first_byte":null,"line":"changed","new":{"atime":null,"ctime":null,"gid":0,"kind":"directory","link":null,"links":2,"major":null,"minor":null,
+"mtime":3000,"permissions":"0777","size":null,"uid":0},"old":{"atime":null,"ctime":null,"gid":0,"kind":"directory","link":null,"links":2,"major":null,"minor":null,
+"mtime":2000,"permissions":"0777","size":null,"uid":0},"path":"/"},
+{"line":"gone","old":{"atime":null,"ctime":null,"gid":0,"kind":"file","link":null,"links":1,"major":null,"minor":null,"mtime":2000,"permissions":"0644","size":5,"uid":0},
+"path":"/a"}]}
+JSON
+(tr -d '\n' < wanted; echo) > joined
+runs diff 7 d.img e.img --json
+wants 'differences as JSON' 1 joined none
+cat > wanted << 'JSON'
+{"format":1,"lines":[{"line":"added","new":{"atime":2000,"ctime":2000,"gid":0,"kind":"file","link":null,"links":1,"major":null,"minor":null,"mtime":2000,
+"permissions":"0644","size":5,"uid":0},"path":"/a"}]}
+JSON
+(tr -d '\n' < wanted; echo) > joined
+runs diff 7 e.img d.img --json --times
+python3 -c 'import json; it = json.load(open("output")); it["lines"] = it["lines"][1:]; print(json.dumps(it, separators=(",", ":")))' > shown
+cp shown output
+wants 'a file that was added, with all times' 1 joined none
+echo '{"format":1,"lines":[]}' > wanted
+prints wanted diff 7 d.img d.img --json
+"$program" mkfs 6 six.img 40 3 0 0 1000
+cp six.img other_six.img
+"$program" put 6 other_six.img /a hello 2000
+runs diff 6 six.img other_six.img --json --times
+has 'the times of the sixth edition' '2000 None' "$(python3 -c 'import json; it = json.load(open("output"))["lines"][1]["new"]; print(it["atime"], it["ctime"])')"
 
 # What a call changes of a file, in both editions.
 for edition in 6 7; do
@@ -134,6 +193,10 @@ runs diff 7 d.img dev.img
 has 'a special file' 1 "$(grep -c '^T /a file -> character special file$' output)"
 runs diff 7 dev.img dev2.img
 has 'another device' 1 "$(grep -c '^M /a device 0,6 -> ' output)"
+runs diff 7 dev.img dev2.img --json
+cat output >> printed
+has 'another device as JSON' 'character 0 6 1 5 None' \
+    "$(python3 -c 'import json; it = json.load(open("output"))["lines"][-1]; print(it["old"]["kind"], it["old"]["major"], it["old"]["minor"], it["new"]["major"], it["new"]["minor"], it["new"]["size"])')"
 
 # Names with bytes that no terminal shows.
 cp d.img e.img
@@ -143,6 +206,9 @@ differs 'A /\001' 7 d.img e.img
 
 # A name that is empty looks like the root.
 changed d.img empty.img 2594 00
+runs diff 7 d.img empty.img --json
+has 'an empty name as JSON' 'added / name that is empty or has a slash' \
+    "$(python3 -c 'import json; print(*(" ".join((it["line"], it["path"], it["new"]["reason"])) for it in json.load(open("output"))["lines"] if it["line"] == "added"))')"
 runs diff 7 d.img empty.img
 has 'an empty name that only one volume has' 'A / (name that is empty or has a slash) D /a' "$(grep '^[AD]' output | paste -s -d ' ')"
 
@@ -156,6 +222,9 @@ has 'what differs in it' 1 "$(grep -c '^M / links [0-9]* -> 5$' output)"
 runs diff 7 rule12.img rule12.img
 cat line line > lines
 wants 'an image that is not sound, with itself' 0 none lines
+runs diff 7 rule12.img rule12.img --json
+echo '{"format":1,"lines":[]}' > wanted
+wants 'an image that is not sound, with itself, as JSON' 0 wanted lines
 runs diff 7 rule12.img d.img --fields
 has 'the same by fields' '' "$(cat error)"
 changed d.img entry.img 2592 ffff
@@ -196,6 +265,10 @@ echo 'unixvol: cannot write -' > line
 wants 'differences on a full device' 3 none line
 misread 'error: the following required arguments were not provided' diff 7 d.img
 misread "error: unexpected argument '--time'" diff 7 d.img d.img --time
+
+# The keys of the objects are those of docs/JSON.md.
+"$program" diff 7 d.img empty.img --json >> printed
+has 'the keys of diff --json' '' "$(python3 "$rows/looks/keys.py" "$samples/../docs/JSON.md" diff < printed)"
 
 echo "$passed passed, $failed failed"
 [ "$failed" = 0 ]

@@ -74,7 +74,7 @@ explains 1 'unixvol: 2 NoEntry' 'unixvol: /\033[31m\012: no file or directory ha
 explains 1 'unixvol: 2 NoEntry' 'unixvol: /grüße\: no file or directory has this name' get 6 "$image" '/grüße\'
 
 # Rules that images break, described as by `check`.
-explains 1 'unixvol: unsound, rule 12' 'unixvol: broken.v6: it breaks rule 12, that each link count is the number of entries; `unixvol check` says what breaks it' ls 6 broken.v6
+explains 1 'unixvol: unsound, rule 12' 'unixvol: broken.v6: it breaks rule 12, that each link count is the number of entries; `unixvol check` says what breaks it; --unsound shows what is there' ls 6 broken.v6
 explains 1 'unixvol: unsound, rule 12' 'unixvol: broken.v7: it breaks rule 12, that each link count is the number of entries; `unixvol check` says what breaks it' rm 7 broken.v7 /d/f
 explains 1 'unixvol: unsound, rule 1' 'unixvol: hello: it breaks rule 1, that the image has all blocks of the volume' super 6 hello
 explains 1 'unixvol: unsound, rule 1' 'unixvol: hello: it breaks rule 1, that the image has all blocks of the volume' cat 6 hello 1

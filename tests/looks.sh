@@ -71,6 +71,33 @@ for edition in 6 7; do
     cmp -s broken.tar all.tar
     has 'the archive of a volume with a wrong link count' 0 $?
     refuses 1 'unixvol: unsound, rule 12' ls "$edition" broken.img /
+    refuses 1 'unixvol: unsound, rule 12' get "$edition" broken.img /again
+
+    # With --unsound, `ls` and `get` show what they show of the sound volume, and the rule; of a sound one just what they show without.
+    echo 'unixvol: unsound, rule 12' > rule
+    while read -ra words; do
+        "$program" "${words[0]}" "$edition" disk.img "${words[@]:1}" > wanted
+        runs "${words[0]}" --unsound "$edition" broken.img "${words[@]:1}"
+        wants "${words[*]} --unsound of an unsound volume" 1 wanted rule
+        runs "${words[0]}" --unsound "$edition" disk.img "${words[@]:1}"
+        wants "${words[*]} --unsound of a sound volume" 0 wanted none
+    done << 'END'
+ls
+ls /d
+ls --json -d /again
+ls -l /again
+ls -d -R /d
+get /d/fourteen-bytes
+get /none
+get /hole
+END
+    for image in disk.img broken.img; do
+        refuses 1 'unixvol: 2 NoEntry' ls --unsound "$edition" "$image" /x
+        refuses 1 'unixvol: 20 NotDirectory' ls --unsound "$edition" "$image" /none
+        refuses 1 'unixvol: 20 NotDirectory' ls --unsound -l "$edition" "$image" /none/x
+        refuses 1 'unixvol: 2 NoEntry' get --unsound "$edition" "$image" /d/x
+        refuses 1 'unixvol: 21 IsDirectory' get --unsound "$edition" "$image" /d
+    done
     refuses 1 'unixvol: 2 NoEntry' export "$edition" disk.img /x
     refuses 1 'unixvol: 20 NotDirectory' export "$edition" disk.img /none
     refuses 1 'unixvol: 20 NotDirectory' export "$edition" disk.img /none/x
@@ -181,6 +208,8 @@ wants 'the slots of a root that names one block everywhere' 0 line none
 refuses 1 'unixvol: 20 NotDirectory' ls --slots 7 "$linux" /etc/motd
 refuses 1 'unixvol: 2 NoEntry' ls --slots 7 "$linux" /x
 refuses 1 'unixvol: unsound, rule 1' ls --slots 7 short /
+refuses 1 'unixvol: unsound, rule 1' ls --unsound 7 short /
+refuses 1 'unixvol: unsound, rule 1' get --unsound 7 short /etc/motd
 refuses 3 'unixvol: cannot read missing' ls --slots 7 missing
 
 # An i-node, as od reads it.
@@ -366,7 +395,7 @@ has 'a map as SVG' 'http://www.w3.org/2000/svg 248' "$(python3 -c '
 import sys, xml.etree.ElementTree as tree
 root = tree.parse(sys.stdin).getroot()
 print(root.tag[1:].split("}")[0], sum(it.tag.endswith("path") for it in root))' < output)"
-misread "error: unexpected argument '--json'" dump --json 7 "$linux" 1
+misread "error: unexpected argument '--json'" cat --json 7 "$linux" 1
 # The runs of blocks with one use, as JSON, are the cells of the picture.
 runs map --json 7 "$linux"
 has 'a map as JSON' "$(cat cells)" "$(python3 -c '

@@ -10,16 +10,26 @@ data=$(realpath "$(dirname "$0")/plays")
 "$program" mkfs 6 wide.6 100 2 0 0 1
 "$program" mkfs 7 wide.7 100 2 0 0 1
 
-# plays STATUS LINES EDITION SCRIPT..: plays scripts on a new volume, prints these lines (`|` between them), and saves the volume again
+# plays STATUS LINES EDITION SCRIPT..: plays scripts on a new volume, prints these lines (`|` between them), and saves the volume again. With --json it prints
+# the same as JSON, and saves the same volume
 plays() {
     local status=$1 edition=$3
     tr '|' '\n' <<< "$2" > lines
     shift 3
     cp "made.$edition" played
     stood=$(stat -c %i played)
+    runs play --json "$edition" played "$@"
+    python3 "$data/as_json.py" "$@" < lines > document
+    wants "play --json $edition $*" "$status" document none
+    has "play --json $edition $*: the volume is saved" saved "$([ "$(stat -c %i played)" != "$stood" ] && echo saved)"
+    cp played as_json
+    cp output json
+    cp "made.$edition" played
+    stood=$(stat -c %i played)
     runs play "$edition" played "$@"
     wants "play $edition $*" "$status" lines none
     has "play $edition $*: the volume is saved" saved "$([ "$(stat -c %i played)" != "$stood" ] && echo saved)"
+    saves "play $edition $*: the volume that is saved with --json" as_json played
 }
 
 # unread LABEL SCRIPT LINE FILE..: line LINE of script SCRIPT can't be read, so nothing is played on `kept`
@@ -152,6 +162,58 @@ printf '%s\n' '5 0 0 create /a 644' '6 0 0 cut' '7 0 0 create /b 644' > cutting
 printf '%s\n' '1.1 ok 16' '1.2 cut 1' '1.3 ok 15' 'records 1' 'confirmed 1' 'gone 1' '7 0 0 create /b 0644' > lines
 cp made.7 played
 prints lines play 7 played cutting --journal
+# As JSON, a document for some scripts as it stands, and each kind of line.
+# documents STATUS DOCUMENT EDITION WORD..: plays scripts on a new volume, with --json and these words, and prints this document
+documents() {
+    local status=$1 edition=$3
+    echo "$2" > document
+    shift 3
+    cp "made.$edition" played
+    runs play "$edition" played --json "$@"
+    cp output json
+    cat json >> documents
+    wants "play $edition --json $*" "$status" document none
+    has "play $edition --json $*: one value on one line" '1 0' "$(wc -l < json) $(python3 -m json.tool json > /dev/null 2>&1; echo $?)"
+}
+echo '5 0 0 create /a 644' > one
+documents 0 '{"confirmed":1,"format":1,"gone":null,"journal":null,"lines":[{"ino":16,"line":"ok","line_number":1,"script":1}],"records":1}' 7 one
+documents 0 '{"confirmed":1,"format":1,"gone":null,"journal":["5 0 0 create /a 0644"],"lines":[{"ino":16,"line":"ok","line_number":1,"script":1}],"records":1}' 7 one --journal
+documents 0 '{"confirmed":0,"format":1,"gone":null,"journal":[],"lines":[],"records":0}' 6 none --journal
+printf '%s\n' '5 0 0 create /a 644' '5 0 0 create /a 644' '6 0 0 write /a 0 41fF' '6 0 0 read /a 0 10' '6 0 0 read /a 2 10' '6 0 0 stat /a' '6 0 0 cut' > two
+printf 'view\n7 1 1 list /\n7 1 1 stat /b\n' > three
+documents 1 '{"confirmed":3,"format":1,"gone":3,"journal":null,"lines":[{"ino":32,"line":"ok","line_number":1,"script":1},{"line":"refused","line_number":2,"refusal":"17 Exists","script":1},{"count":2,"line":"ok","line_number":3,"script":1},{"hex":"41ff","line":"read","line_number":4,"script":1},{"hex":"","line":"read","line_number":5,"script":1},{"gid":0,"ino":32,"kind":"file","line":"stat","line_number":6,"links":1,"permissions":"0644","script":1,"size":2,"uid":0},{"line":"cut","line_number":7,"record":2,"script":1}],"records":0}' 6 two
+documents 1 '{"confirmed":2,"format":1,"gone":null,"journal":null,"lines":[{"count":2,"line":"list","line_number":2,"script":2},{"line":"refused","line_number":3,"refusal":"2 NoEntry","script":2}],"records":0}' 7 none three
+# Bytes of a path that aren't printable, and a backslash, are escaped; what JSON escapes comes in addition.
+printf '5 0 0 mkdir /\\\377"\t 700\n' > four
+documents 0 '{"confirmed":1,"format":1,"gone":null,"journal":["5 0 0 mkdir /\\\\\\377\"\\011 0700"],"lines":[{"ino":32,"line":"ok","line_number":1,"script":1}],"records":1}' 6 four --journal
+has 'the keys of play --json' '' "$(python3 "$data/../looks/keys.py" "$samples/../docs/JSON.md" play < documents)"
+# The journal of many calls, as JSON.
+cp made.7 played
+runs play --journal 7 played calls
+python3 "$data/as_json.py" --journal calls < output > document
+cp made.7 played
+runs play --journal --json 7 played calls
+wants 'a journal as JSON' 1 document none
+# A script that can't be read, and a volume that isn't sound, have the same lines as without --json, and nothing is printed.
+cp made.6 kept
+refuses 2 'unixvol: script 2 line 2' play --json 6 kept one creat
+saves 'an image of which no script was played with --json' kept made.6
+: > kept
+refuses 1 'unixvol: unsound, rule 1' play --json 6 kept one
+misread "error: the argument '--trace' cannot be used with '--json'" play --json --trace 6 kept one
+misread "error: the argument '--trace' cannot be used with '--json'" play 6 kept one --trace --json --journal
+saves 'no image that --json and --trace are given for' kept none
+# A full device: the volume is saved.
+cp made.7 played
+"$program" play --json 7 played one > /dev/full 2> error < /dev/null
+echo $? > status
+: > output
+echo 'unixvol: cannot write -' > line
+wants 'a play as JSON on a full device' 3 none line
+cp made.7 again
+"$program" play 7 again one > output
+saves 'the volume of a play as JSON on a full device' played again
+
 # Each query, for a view.
 printf '%s\n' view '1 1 65535 stat /' '2 1 65535 read /a 1 2' '3 1 65535 list /d' > queries
 sed 's/65535/32767/' queries > asking

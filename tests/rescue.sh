@@ -1,5 +1,5 @@
 #!/usr/bin/env bash
-# Runs `export`, `find`, `sums` and `repair` of the built program with `--cut`, `--bad`, `--bad-blocks`, `--sizes` and `--like` on volumes that were cut off, or
+# Runs `export`, `find`, `sums`, `get` and `repair` of the built program with `--cut`, `--bad`, `--bad-blocks`, `--sizes` and `--like` on volumes that were cut off, or
 # of which blocks couldn't be read, and compares what it writes with what the whole volume holds.
 # Usage: tests/rescue.sh PROGRAM. It prints a line for each row that fails, and ends with 'N passed, N failed'.
 . "$(dirname "$0")/rows.sh"
@@ -37,7 +37,26 @@ for edition in 6 7; do
     has "the lines with damaged files of edition $edition" 0 $?
     has "the members with damaged files of edition $edition" 'f1 f2 f3 f4 f5 f6 f7 f8' "$(tar -tf damaged.tar | paste -s -d ' ' -)"
     for n in 1 2 3; do same damaged.tar "f$n" "f$n"; done
-    sed -n 's/^unixvol: f4: .*: \([0-9]*\)-[0-9]*$/\1/p' error > from
+    # `get` prints the files of which nothing is lost, and a damaged one only if it is told to; each line is about that file.
+    echo 'unixvol: 3994 of 4872 blocks are lost' > count
+    for n in 1 2 3; do
+        runs get "$edition" cut.img --cut "/f$n"
+        wants "get of a whole file, f$n" 1 "f$n" count
+    done
+    for n in 4 8; do
+        tar -xOf damaged.tar "f$n" > zeros
+        { cat count; sed -n "s,^unixvol: f$n:,unixvol: /f$n:,p" told; } > line
+        runs get "$edition" --cut cut.img "/f$n"
+        wants "get of a damaged file, f$n" 5 none line
+        runs get "$edition" --cut --damaged cut.img "/f$n"
+        wants "get --damaged, f$n" 5 zeros line
+    done
+    refuses 1 'unixvol: 2 NoEntry' get "$edition" --cut cut.img /f9
+    refuses 1 'unixvol: 21 IsDirectory' get "$edition" --cut cut.img /
+    refuses 1 'unixvol: unsound, rule 1' get "$edition" --unsound cut.img /f1
+    runs get "$edition" --cut b.img /f4
+    wants 'get --cut of a whole image' 0 f4 none
+    sed -n 's/^unixvol: f4: .*: \([0-9]*\)-[0-9]*$/\1/p' told > from
     has "f4 has all bytes before the lost ones in edition $edition" "$(head -c "$(cat from)" f4 | md5sum)" "$(tar -xOf damaged.tar f4 | head -c "$(cat from)" | md5sum)"
     has "f4 has zeros in their place in edition $edition" "$((100000 - $(cat from)))" "$(tar -xOf damaged.tar f4 | tail -c "+$(($(cat from) + 1))" | tr -d -c '\0' | wc -c)"
     exports 1 nothing.tar "$edition" cut.img --cut /f1
@@ -412,7 +431,8 @@ refuses 3 'unixvol: bad.map: line 3: the range begins before the end of the one 
 # lost_on_way BLOCK PATH LINE: with this block lost, PATH isn't found, and nothing is printed but LINE after the number of lost blocks
 lost_on_way() {
     local words
-    for words in find sums export 'find --json' 'sums --json' 'find --lost' 'export --damaged'; do
+    for words in find sums export get 'find --json' 'sums --json' 'find --lost' 'export --damaged' 'get --damaged'; do
+        [[ "$words $1 $2" != get*' 41 /usr/games/moved' ]] || continue
         # shellcheck disable=SC2086
         "$program" $words --bad-blocks "$1" 7 "$linux" "$2" > found 2> error
         has "the status of $words --bad-blocks $1 $2" 5 $?
@@ -430,10 +450,15 @@ lost_on_way 14 /etc '/: names may be missing: 80 of 80 bytes are lost: 0-79'
 lost_on_way 41 //usr/games/none '/usr/games: names may be missing: 176 of 688 bytes are lost: 512-687'
 lost_on_way 41 /usr/games/moved '/usr/games: names may be missing: 176 of 688 bytes are lost: 512-687'
 lost_on_way 15 /usr/../etc/motd '/usr: names may be missing: 96 of 96 bytes are lost: 0-95'
+# `get` finds that file, and the line is about the directory from which other names may be missing.
+"$program" get 7 "$linux" /usr/games/moved > wanted
+printf '%s\n' 'unixvol: 1 of 240 blocks are lost' 'unixvol: /usr/games: names may be missing: 176 of 688 bytes are lost: 512-687' > line
+runs get --bad-blocks 41 7 "$linux" /usr/games/moved
+wants 'get of a file in a directory of which names may be missing' 5 wanted line
 # If nothing is lost on the way, the path is wrong, also if bytes of the file at its end are lost.
-for command in find sums export; do
+for command in find sums export get; do
     refuses 1 'unixvol: 2 NoEntry' "$command" --bad-blocks 41 7 "$linux" /none
-    refuses 1 'unixvol: 20 NotDirectory' "$command" --bad-blocks 41 7 "$linux" /etc/motd
+    [ "$command" = get ] || refuses 1 'unixvol: 20 NotDirectory' "$command" --bad-blocks 41 7 "$linux" /etc/motd
     refuses 1 'unixvol: 20 NotDirectory' "$command" --bad-blocks 20 7 "$linux" /etc/motd/x
 done
 

@@ -216,6 +216,9 @@ get 7 disk -x -o out /d/f | unexpected argument '-x'
 get 7 disk -o out | <PATH>
 get 7 disk -o out -o out /d/f | '--output <FOLDER>' cannot be used multiple times
 get 7 disk -o out /d/f /e/f/ | invalid value 'f' for '<PATH>': two files have this last name
+get --unsound -o out 7 disk /d/f | the argument '--output' cannot be used with '--unsound'
+ls --unsound -R 7 disk | the argument '--recursive' cannot be used with '--unsound'
+ls --unsound 7 disk --unsound | '--unsound' cannot be used multiple times
 map --svg --json 7 disk | the argument '--svg' cannot be used with '--json'
 map 7 disk --json --svg | the argument '--svg' cannot be used with '--json'
 map 7 disk --json --file / | the argument '--file' cannot be used with '--json'

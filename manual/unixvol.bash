@@ -37,8 +37,8 @@ _unixvol() {
     fi
     case $command in
         cat) kinds='6,7,any file any' options='--at --explain -h --help' valued='--at=any' ;;
-        ls) kinds='6,7,any file path' options='--at -l --long -R --recursive -d --directory --json --slots --explain -h --help' valued='--at=any' ;;
-        get) kinds='6,7,any file path any...' options='--at -o --output -p --preserve --explain -h --help' valued='--at=any -o=file --output=file' changing='-o --output' others='6,7,any file path...' ;;
+        ls) kinds='6,7,any file path' options='--at -l --long -R --recursive -d --directory --json --slots --unsound --explain -h --help' valued='--at=any' ;;
+        get) kinds='6,7,any file path any...' options='--at -o --output -p --preserve --unsound --cut --bad --bad-blocks --sizes --like --damaged --explain -h --help' valued='--at=any -o=file --output=file --bad=file --bad-blocks=any --sizes=any --like=rk05,rk06,rk07,rl01,rl02,rm03,rp03,rp04,rp06,rx01,rx02' changing='-o --output' others='6,7,any file path...' ;;
         find) kinds='6,7,any file path' options='--at -g --name --lost --cut --bad --bad-blocks --sizes --like --json --explain -h --help' valued='--at=any -g=any --name=any --bad=file --bad-blocks=any --sizes=any --like=rk05,rk06,rk07,rl01,rl02,rm03,rp03,rp04,rp06,rx01,rx02' ;;
         export) kinds='6,7,any file path' options='--at --lost --cut --bad --bad-blocks --sizes --like --damaged --status --explain -h --help' valued='--at=any --bad=file --bad-blocks=any --sizes=any --like=rk05,rk06,rk07,rl01,rl02,rm03,rp03,rp04,rp06,rx01,rx02' ;;
         sums) kinds='6,7,any file path' options='--at --lost --cut --bad --bad-blocks --sizes --like --json --explain -h --help' valued='--at=any --bad=file --bad-blocks=any --sizes=any --like=rk05,rk06,rk07,rl01,rl02,rm03,rp03,rp04,rp06,rx01,rx02' ;;
@@ -46,8 +46,8 @@ _unixvol() {
         super) kinds='6,7,any file' options='--at --json --explain -h --help' valued='--at=any' ;;
         free) kinds='6,7,any file' options='--at --json --explain -h --help' valued='--at=any' ;;
         block) kinds='6,7,any file any' options='--at --json --explain -h --help' valued='--at=any' ;;
-        dump) kinds='6,7,any file any' options='--at -i --inode --octal --explain -h --help' valued='--at=any' ;;
-        diff) kinds='6,7,any file file' options='--at --times --fields --all --explain -h --help' valued='--at=any' ;;
+        dump) kinds='6,7,any file any' options='--at -i --inode --octal --json --explain -h --help' valued='--at=any' ;;
+        diff) kinds='6,7,any file file' options='--at --times --fields --all --json --explain -h --help' valued='--at=any' ;;
         df) kinds='6,7,any file' options='--at --json --explain -h --help' valued='--at=any' ;;
         map) kinds='6,7,any file' options='--at --svg --json --file --explain -h --help' valued='--at=any --file=path' ;;
         check) kinds='6,7,any file' options='--at --status --json --explain -h --help' valued='--at=any' ;;
@@ -69,7 +69,7 @@ _unixvol() {
         salvage) kinds='6,7,any file' options='--at -o --output -n --dry-run --explain -h --help' valued='--at=any -o=file --output=file' ;;
         repair) kinds='6,7,any file file any' options='--at --new -n --dry-run --blocks --cut --bad --bad-blocks --sizes --like --explain -h --help' valued='--at=any --blocks=any --bad=file --bad-blocks=any --sizes=any --like=rk05,rk06,rk07,rl01,rl02,rm03,rp03,rp04,rp06,rx01,rx02' ;;
         resize) kinds='6,7,any file any' options='--at -n --dry-run --explain -h --help' valued='--at=any' ;;
-        play) kinds='6,7,any file file...' options='--at --journal --trace --explain -h --help' valued='--at=any' ;;
+        play) kinds='6,7,any file file...' options='--at --journal --trace --json --explain -h --help' valued='--at=any' ;;
         migrate) kinds='file file any any any' options='--new --at --explain -h --help' valued='--at=any' ;;
         serve) kinds='6,7,any file' options='--at --read-only --mine -r --rescue --explain -h --help' valued='--at=any -r=file --rescue=file' ;;
         identify) kinds='file...' options='--json --csv -r --recursive --explain -h --help' ;;

@@ -45,9 +45,29 @@ pub below_hole : (shape : Shape) (n : ℕ) → names_block shape n ≡ false →
 below_hole shape n hole =
     below_more shape n ∙ (ap (λ t. stored_blocks shape n ++ cond t (n ∷ []) []) hole ∙ append-nil (stored_blocks shape n))
 
--- a logical block with a data block is added to the stored blocks
-below_some : (shape : Shape) (n : ℕ) → names_block shape n ≡ true → stored_blocks shape (n + 1) ≡ stored_blocks shape n ++ (n ∷ [])
-below_some shape n some = below_more shape n ∙ ap (λ t. stored_blocks shape n ++ cond t (n ∷ []) []) some
+-- consecutive logical blocks that all have data blocks stay if the others are left out
+run_named : (shape : Shape) (n k : ℕ) → ((b : ℕ) → n ≤ b → b < n + k → names_block shape b ≡ true)
+    → filter (names_block shape) (range_with_len n k) ≡ range_with_len n k
+run_named shape n zero some = refl
+run_named shape n (suc k) some =
+    let rest = run_named shape (n + 1) k (λ b from to. some b (omega (arith, from)) (omega (arith, to))) in
+    ap (λ t. cond t (n ∷ filter (names_block shape) (range_with_len (n + 1) k)) (filter (names_block shape) (range_with_len (n + 1) k)))
+    (some n (omega arith) (omega arith))
+    ∙ ap (λ xs. n ∷ xs) rest
+
+-- consecutive logical blocks with data blocks are added to the stored blocks
+below_run : (shape : Shape) (n k : ℕ) → ((b : ℕ) → n ≤ b → b < n + k → names_block shape b ≡ true)
+    → stored_blocks shape (n + k) ≡ stored_blocks shape n ++ range_with_len n k
+below_run shape n k some =
+    let at : 0 + n ≡ n = omega arith in
+    ap (filter (names_block shape)) (range_more 0 n k)
+    ∙ (filter-append (names_block shape) (range_with_len 0 n) (range_with_len (0 + n) k)
+    ∙ (ap (λ x. filter (names_block shape) (range_with_len 0 n) ++ filter (names_block shape) (range_with_len x k)) at
+    ∙ ap (λ xs. filter (names_block shape) (range_with_len 0 n) ++ xs) (run_named shape n k some)))
+
+-- a logical block with a data block is such a run
+pub one_named : (shape : Shape) (n : ℕ) → names_block shape n ≡ true → (b : ℕ) → n ≤ b → b < n + 1 → names_block shape b ≡ true
+one_named shape n some b from to = ap (names_block shape) (let e : b ≡ n = omega (arith, from, to) in e) ∙ some
 
 -- several holes add no stored block
 pub below_holes : (shape : Shape) (m n : ℕ) → m ≤ n → ((b : ℕ) → m ≤ b → b < n → names_block shape b ≡ false)
@@ -62,12 +82,17 @@ below_holes shape m (suc n) order holes =
           ∙ (below_hole shape n (holes n high (omega arith)) ∙ below_holes shape m n high (λ b from to. holes b from (omega (arith, to))))
     ]
 
+-- consecutive stored blocks add the positions on their paths
+pub on_run : (shape : Shape) (n k : ℕ) (p : List ℕ) → ((b : ℕ) → n ≤ b → b < n + k → names_block shape b ≡ true)
+    → is_on_ways Deep (stored_blocks shape (n + k)) p ≡ (is_on_ways Deep (stored_blocks shape n) p || is_on_ways Deep (range_with_len n k) p)
+on_run shape n k p some =
+    ap (λ blocks. is_on_ways Deep blocks p) (below_run shape n k some)
+    ∙ list_any-append (λ b. list_any (bytes_eq p) (way Deep b)) (stored_blocks shape n) (range_with_len n k)
+
 -- one more stored block adds the positions on its path
 pub on_more : (shape : Shape) (n : ℕ) (p : List ℕ) → names_block shape n ≡ true
     → is_on_ways Deep (stored_blocks shape (n + 1)) p ≡ (is_on_ways Deep (stored_blocks shape n) p || is_on_ways Deep (n ∷ []) p)
-on_more shape n p some =
-    ap (λ blocks. is_on_ways Deep blocks p) (below_some shape n some)
-    ∙ list_any-append (λ b. list_any (bytes_eq p) (way Deep b)) (stored_blocks shape n) (n ∷ [])
+on_more shape n p some = on_run shape n 1 p (one_named shape n some)
 
 -- no blocks need no positions
 pub none_below : (shape : Shape) → places_for shape 0 ≡ 0
@@ -80,14 +105,19 @@ pub count_holes : (shape : Shape) (m n : ℕ) → m ≤ n → ((b : ℕ) → m �
 unfolding places_for
 count_holes shape m n order holes = ap (λ blocks. count_by (is_on_ways Deep blocks) (places Deep)) (below_holes shape m n order holes)
 
+-- consecutive stored blocks need the positions on their paths that aren't on an earlier path
+pub count_run : (shape : Shape) (n k : ℕ) → ((b : ℕ) → n ≤ b → b < n + k → names_block shape b ≡ true)
+    → places_for shape (n + k) ≡ places_for shape n + need_of Deep (is_on_ways Deep (stored_blocks shape n)) (range_with_len n k)
+unfolding places_for place_count
+count_run shape n k some =
+    count_same (is_on_ways Deep (stored_blocks shape (n + k))) (λ p. is_on_ways Deep (stored_blocks shape n) p || is_on_ways Deep (range_with_len n k) p)
+    (places Deep) (λ p. on_run shape n k p some)
+    ∙ stored_count V7 (record { names = is_on_ways Deep (stored_blocks shape n); large = false; slots = [] }) (range_with_len n k)
+
 -- a stored block needs the positions on its path that aren't on an earlier path
 pub count_more : (shape : Shape) (n : ℕ) → names_block shape n ≡ true
     → places_for shape (n + 1) ≡ places_for shape n + need_of Deep (is_on_ways Deep (stored_blocks shape n)) (n ∷ [])
-unfolding places_for place_count
-count_more shape n some =
-    count_same (is_on_ways Deep (stored_blocks shape (n + 1))) (λ p. is_on_ways Deep (stored_blocks shape n) p || is_on_ways Deep (n ∷ []) p) (places Deep)
-    (λ p. on_more shape n p some)
-    ∙ stored_count V7 (record { names = is_on_ways Deep (stored_blocks shape n); large = false; slots = [] }) (n ∷ [])
+count_more shape n some = count_run shape n 1 (one_named shape n some)
 
 -- more blocks don't need fewer positions
 pub count_grows : (shape : Shape) (m n : ℕ) → m ≤ n → places_for shape m ≤ places_for shape n

@@ -1,5 +1,6 @@
 -- Copying the files of a volume one after another.
 use Rattle.std.proofs.Common.{◌≡◌, ◌≢◌, ◌∙◌, sym, ap, subst, refl, ℕ, zero, suc, ◌+◌, ◌*◌, ◌/◌, ◌%◌, ◌<◌, ◌≤◌, eqb, true, false, not, List, [], ◌∷◌, length, get_or, replicate, length-append, inl, inr, arith}
+use Rattle.std.specs.List.{range_with_len}
 use Rattle.std.proofs.lemmas.Bool.{cases_eq, cases_lt, cases_Bool, eqb-true, true≢false}
 use Rattle.std.proofs.lemmas.List.{get_or_past}
 use Rattle.pdp_words.specs.Words.{word}
@@ -30,11 +31,11 @@ use Rattle.vol_change.proofs.ReadyLaws.{ready_whole}
 use Rattle.vol_change.proofs.ShapePlaces.{at_places, guarded, need_places}
 use Rattle.vol_migrate.specs.Raised.{names_block, stored_blocks}
 use Rattle.vol_migrate.specs.Stages.{IsUsed, MayMigrate, IsCarried, IsStage, progress, carried_byte, raised_byte, bytes_of_slot}
-use Rattle.vol_migrate.proofs.CarriedBlocks.{below_holes, count_holes, count_more, count_grows, none_below, before_more, before_within, need_all}
+use Rattle.vol_migrate.proofs.CarriedBlocks.{below_holes, count_holes, count_run, count_grows, none_below, before_more, before_within, need_all}
 use Rattle.vol_migrate.proofs.FirstInodes.{byte_kept}
 use Rattle.vol_migrate.proofs.FileShapes.{bare_need, names_stored}
 use Rattle.vol_migrate.proofs.RaisedSlots.{raised_none}
-use Rattle.vol_migrate.proofs.StageSteps.{carried_kind, form_seventh, touched_one, progress_self, progress_other, progress_before, progress_after, super_stays, other_stays, self_carried}
+use Rattle.vol_migrate.proofs.StageSteps.{carried_kind, form_seventh, touched_run, progress_self, progress_other, progress_before, progress_after, super_stays, other_stays, self_carried}
 
 -- rules 3 to 8 hold for a volume that may be migrated
 pub old_rules : (old : List ℕ) (from to : Geometry) → MayMigrate old from to → Rules3To8 from old
@@ -74,29 +75,29 @@ carried_file old from to now image i n may used carried = record {
       ∙ (used_is_file old from to i may used).kind;
 }
 
--- writing the next block of a file needs as many blocks as are counted for it
-pub need_is : (old : List ℕ) (from to : Geometry) (now : ℕ) (image : List ℕ) (i b len : ℕ) → MayMigrate old from to → IsUsed from old i
-    → IsCarried from to old now image i b → 1 ≤ len → len ≤ 512
-    → need to image (i + 1) (512 * b) len ≡ need_of Deep (is_on_ways Deep (stored_blocks (shapes from old i) b)) (b ∷ [])
-need_is old from to now image i b len may used carried some few =
+-- writing the next blocks of a file needs as many blocks as are counted for them
+pub need_is : (old : List ℕ) (from to : Geometry) (now : ℕ) (image : List ℕ) (i b k len : ℕ) → MayMigrate old from to → IsUsed from old i
+    → IsCarried from to old now image i b → 1 ≤ k → 512 * k < len + 512 → len ≤ 512 * k
+    → need to image (i + 1) (512 * b) len ≡ need_of Deep (is_on_ways Deep (stored_blocks (shapes from old i) b)) (range_with_len b k)
+need_is old from to now image i b k len may used carried first begun few =
     let file = carried_file old from to now image i b may used carried in
     let form = form_seventh to image (i + 1) may.seventh file in
     let places : at_places Deep (is_named to image (i + 1)) ≡ at_places Deep (is_on_ways Deep (stored_blocks (shapes from old i) b)) =
     λ t p. guarded (is_place Deep p) (is_named to image (i + 1) p) (is_on_ways Deep (stored_blocks (shapes from old i) b) p)
     (λ passes. carried.names p (place_passed Deep p passes)) t in
     ap (λ f. need_of f (is_named to image (i + 1)) (touched (512 * b) len)) form
-    ∙ (ap (need_of Deep (is_named to image (i + 1))) (touched_one b len some few)
-    ∙ (sym (need_places Deep (is_named to image (i + 1)) (b ∷ []))
-    ∙ (ap (λ names. need_of Deep names (b ∷ [])) places
-    ∙ need_places Deep (is_on_ways Deep (stored_blocks (shapes from old i) b)) (b ∷ []))))
+    ∙ (ap (need_of Deep (is_named to image (i + 1))) (touched_run b k len first begun few)
+    ∙ (sym (need_places Deep (is_named to image (i + 1)) (range_with_len b k))
+    ∙ (ap (λ names. need_of Deep names (range_with_len b k)) places
+    ∙ need_places Deep (is_on_ways Deep (stored_blocks (shapes from old i) b)) (range_with_len b k))))
 
--- there are enough free blocks for the next block of a file
-pub need_room : (old : List ℕ) (from to : Geometry) (now : ℕ) (image : List ℕ) (i b : ℕ) (stage : IsStage from to old now image i b) → MayMigrate old from to
-    → IsUsed from old i → names_block (shapes from old i) b ≡ true → b < whole_blocks (size_of from old i)
-    → need_of Deep (is_on_ways Deep (stored_blocks (shapes from old i) b)) (b ∷ []) ≤ length stage.blocks
-need_room old from to now image i b stage may used some within =
-    let more = count_more (shapes from old i) b some in
-    let grows = count_grows (shapes from old i) (b + 1) (whole_blocks (size_of from old i)) (omega (arith, within)) in
+-- there are enough free blocks for the next blocks of a file
+pub need_room : (old : List ℕ) (from to : Geometry) (now : ℕ) (image : List ℕ) (i b k : ℕ) (stage : IsStage from to old now image i b) → MayMigrate old from to
+    → IsUsed from old i → ((c : ℕ) → b ≤ c → c < b + k → names_block (shapes from old i) c ≡ true) → b + k ≤ whole_blocks (size_of from old i)
+    → need_of Deep (is_on_ways Deep (stored_blocks (shapes from old i) b)) (range_with_len b k) ≤ length stage.blocks
+need_room old from to now image i b k stage may used some within =
+    let more = count_run (shapes from old i) b k some in
+    let grows = count_grows (shapes from old i) (b + k) (whole_blocks (size_of from old i)) within in
     let next = before_more from old i used.first in
     let all = before_within from old (i + 1) (from.last_inode + 1) (omega arith) (let last = used.last in omega (arith, last)) in
     let total = need_all from old in
@@ -104,15 +105,15 @@ need_room old from to now image i b stage may used some within =
     let room = stage.room in
     omega (arith, more, grows, next, all, total, space, room)
 
--- after the write of a block, one more block is copied
-pub stage_written : (old : List ℕ) (from to : Geometry) (now : ℕ) (image new text : List ℕ) (i b : ℕ) → MayMigrate old from to
-    → (stage : IsStage from to old now image i b) → IsUsed from old i → names_block (shapes from old i) b ≡ true
+-- after the write of `k` blocks from `b` on, these are copied
+pub stage_written : (old : List ℕ) (from to : Geometry) (now : ℕ) (image new text : List ℕ) (i b k : ℕ) → MayMigrate old from to
+    → (stage : IsStage from to old now image i b) → IsUsed from old i → ((c : ℕ) → b ≤ c → c < b + k → names_block (shapes from old i) c ≡ true)
     → Writes to image new (i + 1) (512 * b) text stage.blocks
-    → 1 ≤ length text → length text ≤ 512 → 512 * b + length text ≤ size_of from old i
-    → ((x : ℕ) → x < size_of from old i → x / 512 ≡ b → x < 512 * b + length text)
+    → 1 ≤ k → 512 * k < length text + 512 → length text ≤ 512 * k → 512 * b + length text ≤ size_of from old i
+    → ((x : ℕ) → x < size_of from old i → x / 512 < b + k → x < 512 * b + length text)
     → ((r : ℕ) → r < length text → get_or text r 0 ≡ carried_byte (kind_at from old i) (body from old i) (512 * b + r))
-    → IsStage from to old now new i (b + 1)
-stage_written old from to now image new text i b may stage used some writes begun few within whole bytes =
+    → IsStage from to old now new i (b + k)
+stage_written old from to now image new text i b k may stage used some writes first begun few within whole bytes =
     let here : IsCarried from to old now image i b =
     subst (IsCarried from to old now image i) (progress_self from old i b) (stage.carried i used) in
     let file = carried_file old from to now image i b may used here in
@@ -120,8 +121,8 @@ stage_written old from to now image new text i b may stage used some writes begu
     let rules = old_rules old from to may in
     let greatest = rules.sound.sizes.greatest i old_file in
     let limit : (constants from.edition).greatest ≡ 16777215 = ap (λ e. (constants e).greatest) may.sixth in
-    let need = need_is old from to now image i b (length text) may used here begun few in
-    let more = count_more (shapes from old i) b some in
+    let need = need_is old from to now image i b k (length text) may used here first begun few in
+    let more = count_run (shapes from old i) b k some in
     let count = writes.count in
     let parts : length stage.blocks ≡ length writes.taken + length writes.rest = ap length writes.free ∙ length-append writes.taken writes.rest in
     let room = stage.room in
@@ -133,31 +134,32 @@ stage_written old from to now image new text i b may stage used some writes begu
       carried = λ j other.
           elim (cases_eq j i) [
             | inl same ↦
-                let now_here : IsCarried from to old now new i (b + 1) =
-                self_carried from to old image new text stage.blocks now i b may.sixth may.seventh file (omega (arith, greatest, limit)) some writes begun few within whole bytes here in
-                let P : ℕ → Type 0 = λ k. IsCarried from to old now new k (progress from old i (b + 1) k) in
-                subst P (sym same) (subst (IsCarried from to old now new i) (sym (progress_self from old i (b + 1))) now_here)
+                let now_here : IsCarried from to old now new i (b + k) =
+                self_carried from to old image new text stage.blocks now i b k may.sixth may.seventh file (omega (arith, greatest, limit)) some writes first begun few within whole
+                bytes here in
+                let P : ℕ → Type 0 = λ h. IsCarried from to old now new h (progress from old i (b + k) h) in
+                subst P (sym same) (subst (IsCarried from to old now new i) (sym (progress_self from old i (b + k))) now_here)
             | inr apart ↦
                 let was = stage.carried j other in
                 let is = (carried_file old from to now image j (progress from old i b j) may other was).kind in
                 let still = other_stays from to old image new now (i + 1) j (progress from old i b j) stage.sound.fits writes.alone (omega arith)
                 (λ e. apart (omega (arith, e))) (may.numbers j other) may.seventh is was in
-                subst (IsCarried from to old now new j) (progress_other from old i b (b + 1) j apart) still
+                subst (IsCarried from to old now new j) (progress_other from old i b (b + k) j apart) still
           ];
-      zeros = λ k r first last idle low.
-          let same : get_or new (inode_place to.edition k + r) 0 ≡ get_or image (inode_place to.edition k + r) 0 =
-          elim (cases_eq k (i + 1)) [
+      zeros = λ h r low_h last idle low.
+          let same : get_or new (inode_place to.edition h + r) 0 ≡ get_or image (inode_place to.edition h + r) 0 =
+          elim (cases_eq h (i + 1)) [
             | inl is ↦
                 elim idle [
                   | inl vacant ↦ absurd (vacant i is used)
                   | inr byte ↦
-                      byte_kept to image new k (i + 1) r is byte
+                      byte_kept to image new h (i + 1) r is byte
                       (writes.alone.elsewhere.inode 51 (ap (λ e. is_kept_byte e 51) may.seventh))
                 ]
             | inr apart ↦
-                (elsewhere_inode to image new (i + 1) k stage.sound.fits writes.alone.elsewhere (omega arith) first last apart).bytes r low
+                (elsewhere_inode to image new (i + 1) h stage.sound.fits writes.alone.elsewhere (omega arith) low_h last apart).bytes r low
           ] in
-          same ∙ stage.zeros k r first last idle low;
+          same ∙ stage.zeros h r low_h last idle low;
     }
 
 -- a byte of the old body in a hole is 0

@@ -32,7 +32,7 @@ use Rattle.vol_layout.proofs.EditionLaws.{super_order}
 use Rattle.vol_mkfs.proofs.NewSizes.{sizes_kept}
 use Rattle.vol_migrate.specs.Raised.{names_block}
 use Rattle.vol_migrate.specs.Stages.{IsUsed, IsCarried, HasSuper, progress, carried_byte}
-use Rattle.vol_migrate.proofs.CarriedBlocks.{on_more}
+use Rattle.vol_migrate.proofs.CarriedBlocks.{on_run}
 
 -- a copied i-node has the raised mode of the old one
 carried_mode : (from to : Geometry) (old image : List ℕ) (now i n : ℕ) → IsCarried from to old now image i n
@@ -72,12 +72,12 @@ pub form_seventh : (to : Geometry) (image : List ℕ) (k : ℕ) → to.edition �
 form_seventh to image k seventh file =
     form_file to.edition (mode_of to image k) file.kind ∙ ap (λ e. file_form e (mode_of to image k)) seventh
 
--- writing bytes within one logical block touches only this block
-pub touched_one : (b len : ℕ) → 1 ≤ len → len ≤ 512 → touched (512 * b) len ≡ b ∷ []
-touched_one b zero some few = absurd (omega (arith, some))
-touched_one b (suc n) some few =
+-- writing bytes that end in the last of some consecutive logical blocks touches these
+pub touched_run : (b k len : ℕ) → 1 ≤ k → 512 * k < len + 512 → len ≤ 512 * k → touched (512 * b) len ≡ range_with_len b k
+touched_run b k zero first begun few = absurd (omega (arith, first, begun))
+touched_run b k (suc n) first begun few =
     let first : 512 * b / 512 ≡ b = omega arith in
-    let last : (512 * b + n) / 512 - 512 * b / 512 + 1 ≡ 1 = omega (arith, few) in
+    let last : (512 * b + n) / 512 - 512 * b / 512 + 1 ≡ k = omega (arith, begun, few) in
     ap (λ x. range_with_len x ((512 * b + n) / 512 - 512 * b / 512 + 1)) first ∙ ap (range_with_len b) last
 
 -- the number of copied blocks of another i-node doesn't depend on `n`
@@ -155,33 +155,33 @@ other_stays from to old image new now k j n fits alone first other last seventh 
           ∙ carried.names p place;
     }
 
--- a write of block `b` copies one more block of the file
-pub self_carried : (from to : Geometry) (old image new text free : List ℕ) (now i b : ℕ) → from.edition ≡ V6 → to.edition ≡ V7
+-- a write of `k` blocks from `b` on copies these blocks of the file
+pub self_carried : (from to : Geometry) (old image new text free : List ℕ) (now i b k : ℕ) → from.edition ≡ V6 → to.edition ≡ V7
     → IsFile to image (i + 1) → size_of from old i ≤ 16777215
-    → names_block (shapes from old i) b ≡ true
+    → ((c : ℕ) → b ≤ c → c < b + k → names_block (shapes from old i) c ≡ true)
     → Writes to image new (i + 1) (512 * b) text free
-    → 1 ≤ length text → length text ≤ 512 → 512 * b + length text ≤ size_of from old i
-    → ((x : ℕ) → x < size_of from old i → x / 512 ≡ b → x < 512 * b + length text)
+    → 1 ≤ k → 512 * k < length text + 512 → length text ≤ 512 * k → 512 * b + length text ≤ size_of from old i
+    → ((x : ℕ) → x < size_of from old i → x / 512 < b + k → x < 512 * b + length text)
     → ((r : ℕ) → r < length text → get_or text r 0 ≡ carried_byte (kind_at from old i) (body from old i) (512 * b + r))
-    → IsCarried from to old now image i b → IsCarried from to old now new i (b + 1)
-self_carried from to old image new text free now i b sixth seventh file limit some writes begun few within whole bytes carried =
-    let k = i + 1 in
-    let form : form_at to image k ≡ Deep = form_seventh to image k seventh file in
-    let touches : touched (512 * b) (length text) ≡ b ∷ [] = touched_one b (length text) begun few in
-    let mode : mode_of to new k ≡ mode_of to image k =
-    writes.mode ∙ ap (λ f. if grows_large f (touched (512 * b) (length text)) then with_large (mode_of to image k) true else mode_of to image k) form in
-    let before_size : size_of to image k ≡ size_of from old i = carried_size from to old image now i b carried in
-    let size : size_of to new k ≡ size_of to image k = writes.size ∙ omega (arith, before_size, within) in
-    let fields : KeepsFields (inode_of to.edition image k) (inode_of to.edition new k) =
-    fields_kept to.edition image new (inode_place to.edition k) writes.alone.elsewhere.inode (ap (λ m. m % 4096) mode) in
-    let o = inode_of to.edition image k in
-    let n = inode_of to.edition new k in
+    → IsCarried from to old now image i b → IsCarried from to old now new i (b + k)
+self_carried from to old image new text free now i b k sixth seventh file limit some writes first begun few within whole bytes carried =
+    let h = i + 1 in
+    let form : form_at to image h ≡ Deep = form_seventh to image h seventh file in
+    let touches : touched (512 * b) (length text) ≡ range_with_len b k = touched_run b k (length text) first begun few in
+    let mode : mode_of to new h ≡ mode_of to image h =
+    writes.mode ∙ ap (λ f. if grows_large f (touched (512 * b) (length text)) then with_large (mode_of to image h) true else mode_of to image h) form in
+    let before_size : size_of to image h ≡ size_of from old i = carried_size from to old image now i b carried in
+    let size : size_of to new h ≡ size_of to image h = writes.size ∙ omega (arith, before_size, within) in
+    let fields : KeepsFields (inode_of to.edition image h) (inode_of to.edition new h) =
+    fields_kept to.edition image new (inode_place to.edition h) writes.alone.elsewhere.inode (ap (λ m. m % 4096) mode) in
+    let o = inode_of to.edition image h in
+    let n = inode_of to.edition new h in
     let r = raised_inode (inode_of from.edition old i) now in
     let bits : n.mode.bits ≡ r.mode.bits =
-    inode_mode to.edition new (inode_place to.edition k) ∙ (mode ∙ (sym (inode_mode to.edition image (inode_place to.edition k))
+    inode_mode to.edition new (inode_place to.edition h) ∙ (mode ∙ (sym (inode_mode to.edition image (inode_place to.edition h))
     ∙ ap (λ (node : Inode). node.mode.bits) carried.inode)) in
     let sizes : n.size ≡ r.size =
-    inode_size to.edition new (inode_place to.edition k) ∙ (size ∙ (sym (inode_size to.edition image (inode_place to.edition k))
+    inode_size to.edition new (inode_place to.edition h) ∙ (size ∙ (sym (inode_size to.edition image (inode_place to.edition h))
     ∙ ap (λ (node : Inode). node.size) carried.inode)) in
     let links : n.links ≡ r.links = fields.links ∙ ap (λ (node : Inode). node.links) carried.inode in
     let uid : n.uid ≡ r.uid = fields.uid ∙ ap (λ (node : Inode). node.uid) carried.inode in
@@ -190,8 +190,8 @@ self_carried from to old image new text free now i b sixth seventh file limit so
     let modified : n.modified ≡ r.modified = fields.modified ∙ ap (λ (node : Inode). node.modified) carried.inode in
     let changed : n.changed ≡ r.changed = fields.changed ∙ ap (λ (node : Inode). node.changed) carried.inode in
     let greatest : (constants to.edition).greatest ≡ 1082201088 = ap (λ e. (constants e).greatest) seventh in
-    let long : length (body to image k) ≡ size_of from old i = length-body to image k ∙ omega (arith, before_size, limit, greatest) in
-    let starts : 512 * b ≤ length (body to image k) = omega (arith, long, within) in
+    let long : length (body to image h) ≡ size_of from old i = length-body to image h ∙ omega (arith, before_size, limit, greatest) in
+    let starts : 512 * b ≤ length (body to image h) = omega (arith, long, within) in
     record {
       inode = λ t. record {
         mode = record { bits = bits t };
@@ -208,23 +208,22 @@ self_carried from to old image new text free now i b sixth seventh file limit so
           ap (λ xs. get_or xs x 0) writes.body
           ∙ elim (cases_lt (x / 512) b) [
             | inl earlier ↦
-                spliced_before (body to image k) (512 * b) text x starts (omega (arith, earlier)) ∙ carried.done x low earlier
+                spliced_before (body to image h) (512 * b) text x starts (omega (arith, earlier)) ∙ carried.done x low earlier
             | inr later ↦
-                let here : x / 512 ≡ b = omega (arith, later, below) in
-                let in_text = whole x low here in
+                let in_text = whole x low below in
                 let r = x - 512 * b in
-                let at : 512 * b + r ≡ x = omega (arith, here) in
-                ap (λ y. get_or (spliced (body to image k) (512 * b) text) y 0) (sym at)
-                ∙ (spliced_inside (body to image k) (512 * b) text r starts (omega (arith, in_text, here))
-                ∙ (bytes r (omega (arith, in_text, here)) ∙ ap (carried_byte (kind_at from old i) (body from old i)) at))
+                let at : 512 * b + r ≡ x = omega (arith, later) in
+                ap (λ y. get_or (spliced (body to image h) (512 * b) text) y 0) (sym at)
+                ∙ (spliced_inside (body to image h) (512 * b) text r starts (omega (arith, in_text, later))
+                ∙ (bytes r (omega (arith, in_text, later)) ∙ ap (carried_byte (kind_at from old i) (body from old i)) at))
           ];
       rest = λ x low above.
           ap (λ xs. get_or xs x 0) writes.body
-          ∙ (spliced_after (body to image k) (512 * b) text x starts (omega (arith, above, few)) ∙ carried.rest x low (omega (arith, above)));
+          ∙ (spliced_after (body to image h) (512 * b) text x starts (omega (arith, above, few)) ∙ carried.rest x low (omega (arith, above)));
       names = λ p place.
-          let new_form : form_at to new k ≡ Deep = ap (form_of to.edition) mode ∙ form in
+          let new_form : form_at to new h ≡ Deep = ap (form_of to.edition) mode ∙ form in
           writes.names p (subst (λ f. IsPlace f p) (sym new_form) place)
-          ∙ (ap (λ f. filled f (is_named to image k) (touched (512 * b) (length text)) p) form
-          ∙ (ap (λ blocks. filled Deep (is_named to image k) blocks p) touches
-          ∙ (ap (λ t. t || is_on_ways Deep (b ∷ []) p) (carried.names p place) ∙ sym (on_more (shapes from old i) b p some))));
+          ∙ (ap (λ f. filled f (is_named to image h) (touched (512 * b) (length text)) p) form
+          ∙ (ap (λ blocks. filled Deep (is_named to image h) blocks p) touches
+          ∙ (ap (λ t. t || is_on_ways Deep (range_with_len b k) p) (carried.names p place) ∙ sym (on_run (shapes from old i) b k p some))));
     }

@@ -3,6 +3,7 @@ pub use Rattle.vol_judge.specs.Sound
 pub use Rattle.vol_losses.specs.Losses
 pub use Rattle.vol_reports.specs.Icheck
 pub mod Claims
+pub mod Copies
 pub mod Kept
 pub mod Laws
 pub mod Lines

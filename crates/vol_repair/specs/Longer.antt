@@ -5,11 +5,12 @@ use Rattle.vol_layout.specs.Edition.{constants}
 use Rattle.vol_layout.specs.Geometry.{block_count, geometry_read}
 use Rattle.vol_layout.specs.declared.edition.Edition.{Edition}
 
--- the sizes of the old image's volume are known; the new image has exactly `blocks` blocks, more than that volume, and its super-block says so; all other
--- bytes of the old volume are the same, and those after it are zeros (this project)
+-- the sizes of the old image's volume are known; the new image has exactly `blocks` blocks, more than that volume and within the edition's limit, and its
+-- super-block says so; all other bytes of the old volume are the same, and those after it are zeros (this project)
 pub record IsLonger (edition : Edition) (blocks : ℕ) (old new : List ℕ) : Type 0 where
   pub sized : is_ok (geometry_read edition old) ≡ true
   pub more : block_count edition old < blocks
+  pub limit : blocks ≤ (constants edition).block_limit
   pub len : length new ≡ 512 * blocks
   pub count : block_count edition new ≡ blocks
   pub before : (k : ℕ) → k < 514 → slice_index new k ≡ slice_index old k

@@ -7,9 +7,9 @@ use Rattle.vol_losses.proofs.Agreement.{node_agrees, body_agrees}
 use Rattle.vol_repair.proofs.laws.repaired_files_are_right.Goals as goal
 
 pub returns : goal.returns
-returns c = λ edition lost old volume new lines i fits agrees repaired fitting whole.
+returns c = λ edition blocks lost old volume new lines i fits agrees copy fitting whole.
     let geometry = geometry_of edition old in
-    let kept = (repaired.mended.told.told.fitting i fitting.last fitting).0 in
+    let kept = (copy.told.fitting i fitting).0 in
     let node : inode_of edition volume i ≡ inode_of edition old i =
     inode_of_kept geometry old volume i (node_agrees geometry lost old volume i fits fitting.first fitting.last agrees whole.node) in
     record {

@@ -36,7 +36,7 @@ _unixvol() {
         return
     fi
     case $command in
-        cat) kinds='6,7,any file any' options='--at --explain -h --help' valued='--at=any' ;;
+        cat) kinds='6,7,any file any' options='--at --cut --bad --bad-blocks --sizes --like --damaged --explain -h --help' valued='--at=any --bad=file --bad-blocks=any --sizes=any --like=rk05,rk06,rk07,rl01,rl02,rm03,rp03,rp04,rp06,rx01,rx02' ;;
         ls) kinds='6,7,any file path' options='--at -l --long -R --recursive -d --directory --json --slots --unsound --explain -h --help' valued='--at=any' ;;
         get) kinds='6,7,any file path any...' options='--at -o --output -p --preserve --unsound --cut --bad --bad-blocks --sizes --like --damaged --explain -h --help' valued='--at=any -o=file --output=file --bad=file --bad-blocks=any --sizes=any --like=rk05,rk06,rk07,rl01,rl02,rm03,rp03,rp04,rp06,rx01,rx02' changing='-o --output' others='6,7,any file path...' ;;
         find) kinds='6,7,any file path' options='--at -g --name --lost --cut --bad --bad-blocks --sizes --like --json --explain -h --help' valued='--at=any -g=any --name=any --bad=file --bad-blocks=any --sizes=any --like=rk05,rk06,rk07,rl01,rl02,rm03,rp03,rp04,rp06,rx01,rx02' ;;
@@ -50,7 +50,7 @@ _unixvol() {
         diff) kinds='6,7,any file file' options='--at --times --fields --all --json --explain -h --help' valued='--at=any' ;;
         df) kinds='6,7,any file' options='--at --json --explain -h --help' valued='--at=any' ;;
         map) kinds='6,7,any file' options='--at --svg --json --file --explain -h --help' valued='--at=any --file=path' ;;
-        check) kinds='6,7,any file' options='--at --status --json --explain -h --help' valued='--at=any' ;;
+        check) kinds='6,7,any file' options='--at --status --cut --bad --bad-blocks --sizes --like --json --explain -h --help' valued='--at=any --bad=file --bad-blocks=any --sizes=any --like=rk05,rk06,rk07,rl01,rl02,rm03,rp03,rp04,rp06,rx01,rx02' ;;
         icheck) kinds='6,7,any file any' options='--at --json --explain -h --help' valued='--at=any' ;;
         dcheck) kinds='6,7,any file any' options='--at --json --explain -h --help' valued='--at=any' ;;
         ncheck) kinds='6,7,any file any' options='--at --json --explain -h --help' valued='--at=any' ;;

@@ -552,8 +552,8 @@ keys_of() {
     done > printed
     has "the keys of $1 --json" '' "$(python3 "$data/keys.py" "$samples/../docs/JSON.md" "$1" < printed)"
 }
-for command in ls 'ls --slots' find map super df free check; do keys_of "$command" ''; done
-keys_of sums '' '--bad-blocks 10-30'
+for command in ls 'ls --slots' find map super df free; do keys_of "$command" ''; done
+for command in sums check; do keys_of $command '' '--bad-blocks 10-30'; done
 for command in icheck dcheck ncheck inode; do keys_of $command 1; done
 keys_of block 0 2 5 19
 

@@ -1,5 +1,5 @@
 #!/usr/bin/env bash
-# Runs `export`, `find`, `sums`, `get` and `repair` of the built program with `--cut`, `--bad`, `--bad-blocks`, `--sizes` and `--like` on volumes that were cut off, or
+# Runs `export`, `find`, `sums`, `get`, `cat`, `check` and `repair` of the built program with `--cut`, `--bad`, `--bad-blocks`, `--sizes` and `--like` on volumes that were cut off, or
 # of which blocks couldn't be read, and compares what it writes with what the whole volume holds.
 # Usage: tests/rescue.sh PROGRAM. It prints a line for each row that fails, and ends with 'N passed, N failed'.
 . "$(dirname "$0")/rows.sh"
@@ -51,6 +51,23 @@ for edition in 6 7; do
         runs get "$edition" --cut --damaged cut.img "/f$n"
         wants "get --damaged, f$n" 5 zeros line
     done
+    # So does `cat`, by a path or an i-number, which it names then.
+    for n in 1 4 8; do
+        ino=$("$program" ls "$edition" b.img | awk -v name="f$n" '$2 == name { print $1 }')
+        tar -xOf damaged.tar "f$n" > zeros
+        for name in "/f$n" "$ino"; do
+            { cat count; sed -n "s,^unixvol: f$n:,unixvol: $name:,p" told; } > line
+            runs cat "$edition" cut.img --cut "$name"
+            if [ "$n" = 1 ]; then wants "cat of a whole file, $name" 1 f1 count; else wants "cat of a damaged file, $name" 5 none line; fi
+            runs cat "$edition" --cut --damaged cut.img "$name"
+            wants "cat --damaged, $name" "$([ "$n" = 1 ] && echo 1 || echo 5)" zeros line
+        done
+    done
+    for name in /f9 0 700 65535; do refuses 1 'unixvol: 2 NoEntry' cat "$edition" --cut cut.img "$name"; done
+    refuses 1 'unixvol: unsound, rule 1' cat "$edition" cut.img /f1
+    refuses 1 'unixvol: unsound, rule 1' cat "$edition" --damaged cut.img 3
+    runs cat "$edition" --cut b.img /f4
+    wants 'cat --cut of a whole image' 0 f4 none
     refuses 1 'unixvol: 2 NoEntry' get "$edition" --cut cut.img /f9
     refuses 1 'unixvol: 21 IsDirectory' get "$edition" --cut cut.img /
     refuses 1 'unixvol: unsound, rule 1' get "$edition" --unsound cut.img /f1
@@ -72,6 +89,8 @@ for edition in 6 7; do
     put broken.img $((edition == 6 ? 1024 + 2 : 1024 + 64 + 2)) 09
     exports 1 broken.tar "$edition" broken.img --cut --damaged
     has "a whole volume of edition $edition that isn't sound, with --cut" 'unixvol: unsound, rule 12' "$(cat error)"
+    runs cat "$edition" --cut broken.img /f4
+    wants 'cat --cut of a whole image that is not sound' 0 f4 none
     cmp -s broken.tar whole.tar
     has "its archive, of edition $edition" 0 $?
 done
@@ -431,8 +450,8 @@ refuses 3 'unixvol: bad.map: line 3: the range begins before the end of the one 
 # lost_on_way BLOCK PATH LINE: with this block lost, PATH isn't found, and nothing is printed but LINE after the number of lost blocks
 lost_on_way() {
     local words
-    for words in find sums export get 'find --json' 'sums --json' 'find --lost' 'export --damaged' 'get --damaged'; do
-        [[ "$words $1 $2" != get*' 41 /usr/games/moved' ]] || continue
+    for words in find sums export get cat 'find --json' 'sums --json' 'find --lost' 'export --damaged' 'get --damaged' 'cat --damaged'; do
+        [[ "$words $1 $2" != @(get|cat)*' 41 /usr/games/moved' ]] || continue
         # shellcheck disable=SC2086
         "$program" $words --bad-blocks "$1" 7 "$linux" "$2" > found 2> error
         has "the status of $words --bad-blocks $1 $2" 5 $?
@@ -453,12 +472,46 @@ lost_on_way 15 /usr/../etc/motd '/usr: names may be missing: 96 of 96 bytes are 
 # `get` finds that file, and the line is about the directory from which other names may be missing.
 "$program" get 7 "$linux" /usr/games/moved > wanted
 printf '%s\n' 'unixvol: 1 of 240 blocks are lost' 'unixvol: /usr/games: names may be missing: 176 of 688 bytes are lost: 512-687' > line
-runs get --bad-blocks 41 7 "$linux" /usr/games/moved
-wants 'get of a file in a directory of which names may be missing' 5 wanted line
+for command in get cat; do
+    runs "$command" --bad-blocks 41 7 "$linux" /usr/games/moved
+    wants "$command of a file in a directory of which names may be missing" 5 wanted line
+done
+# By its i-number `cat` finds it without a way. A lost i-node has its line, and so have the lost bytes of a directory: its slots.
+moved=$("$program" ls 7 "$linux" /usr/games | awk '$2 == "moved" { print $1 }')
+head -n 1 line > count
+runs cat --bad-blocks 41 7 "$linux" "$moved"
+wants 'cat of a file by its i-number, whatever is lost on the way' 1 wanted count
+for words in '' --damaged; do
+    # shellcheck disable=SC2086
+    runs cat --bad-blocks 13 7 "$linux" 96 $words
+    { cat count; echo 'unixvol: 96: i-node 96 is lost'; } > line
+    wants "cat $words of an i-node that is lost" 5 none line
+done
+refuses 1 'unixvol: 2 NoEntry' cat --bad-blocks 13 7 "$linux" 0
+refuses 1 'unixvol: 2 NoEntry' cat --bad-blocks 13 7 "$linux" 65535
+games=$("$program" ls 7 "$linux" /usr | awk '$2 == "games" { print $1 }')
+"$program" cat 7 "$linux" /usr/games > wanted
+{ head -c 512 wanted; head -c 176 /dev/zero; } > zeros
+{ cat count; echo "unixvol: $games: 176 of 688 bytes are lost: 512-687"; } > line
+runs cat --bad-blocks 41 7 "$linux" "$games"
+wants 'cat of a directory of which a block is lost' 5 none line
+runs cat --bad-blocks 41 7 "$linux" "$games" --damaged
+wants 'cat --damaged of it' 5 zeros line
+{ cat count; printf 'unixvol: /usr/games: %s176 of 688 bytes are lost: 512-687\n' 'names may be missing: ' ''; } > line
+runs cat --bad-blocks 41 7 "$linux" /usr/games --damaged
+wants 'cat --damaged of it by its path' 5 zeros line
+runs cat --sizes $fsize,$isize 7 super.img /usr/games
+wants 'cat of a volume without a super-block' 1 wanted count
+misread "error: the argument '--bad-blocks' cannot be used with '--bad'" cat --bad-blocks 12 --bad half.map 7 b.img 1
+misread "error: the argument '--like' cannot be used with '--sizes'" cat --like rk05 --sizes 4872,100 7 b.img 1
+misread "error: invalid value '5-3' for '--bad-blocks <LIST>'" cat --bad-blocks 5-3 7 b.img 1
+refuses 2 'unixvol: no volume has 5 blocks with an i-list of 9' cat --sizes 5,9 7 b.img 1
+refuses 3 'unixvol: cannot read missing.map' cat --bad missing.map 7 one.img 1
+refuses 6 'unixvol: the image has 40 of 16000000 blocks' cat --cut 7 long.img 1
 # If nothing is lost on the way, the path is wrong, also if bytes of the file at its end are lost.
-for command in find sums export get; do
+for command in find sums export get cat; do
     refuses 1 'unixvol: 2 NoEntry' "$command" --bad-blocks 41 7 "$linux" /none
-    [ "$command" = get ] || refuses 1 'unixvol: 20 NotDirectory' "$command" --bad-blocks 41 7 "$linux" /etc/motd
+    [ "$command" = get ] || [ "$command" = cat ] || refuses 1 'unixvol: 20 NotDirectory' "$command" --bad-blocks 41 7 "$linux" /etc/motd
     refuses 1 'unixvol: 20 NotDirectory' "$command" --bad-blocks 20 7 "$linux" /etc/motd/x
 done
 
@@ -513,7 +566,7 @@ misread "error: the argument '--like' cannot be used with '--sizes'" sums --like
 python3 - "$program" > error << 'PYTHON'
 import json, os, random, re, subprocess, sys, tarfile
 
-program, count, digests = sys.argv[1], 0, 0
+program, count, digests, bodies = sys.argv[1], 0, 0, 0
 random.seed(1979)
 
 def run(*words, **more):
@@ -607,6 +660,11 @@ for round in range(50):
     for path, ino in paths(edition, "r.bad", *words).items():
         if all_paths.get(path) != ino and not any(d == "." or path.startswith(f"/{d}/") for d in short):
             print(round, "a path is wrong:", path, ino)
+    for ino in random.sample(sorted(set(all_paths.values())), min(4, len(all_paths))):
+        wanted, printed = run("cat", edition, "r.img", str(ino)).stdout, run("cat", edition, "r.bad", str(ino), *words)
+        bodies += printed.returncode == 1
+        if printed.returncode not in (1, 5) or printed.stdout != (wanted if printed.returncode == 1 else b""):
+            print(round, "what cat prints is wrong:", ino)
     again, damaged = exported(edition, "r.bad", "d.tar", *words, "--damaged")
     if again.stderr != done.stderr:
         print(round, "other lines with --damaged")
@@ -616,7 +674,7 @@ for round in range(50):
             continue
         if member[:5] != whole[name][:5] or member[5] != outside(whole[name][5], line):
             print(round, "a damaged file is wrong outside its ranges:", name)
-print(count > 500 and digests > 500)
+print(count > 500 and digests > 500 and bodies > 50)
 PYTHON
 has 'members of volumes of which random blocks are lost' True "$(cat error)"
 
@@ -687,6 +745,49 @@ has 'the names in the rest of it' 30 "$(grep -c '^/*d/name' found)"
 mends 5 7 many.img --bad-blocks 5
 has 'the line of lost i-nodes in a copy' 'unixvol: 1 of 100 blocks are lost unixvol: i-nodes 25 to 32 are lost' "$(paste -s -d ' ' error)"
 has 'the names of lost i-nodes' 8 "$(grep -c ' -> empty$' report)"
+# A lost root: the block of its i-node, or that of its names. Nothing that it led to is found, and each command says that something of the root is lost. With
+# --lost all else is below lost+found, by its i-number, and in a repaired copy too. The names are in the first data block, in slots of 16 bytes.
+for edition in 6 7; do
+    "$program" mkfs "$edition" root.img 600 40 0 0 0
+    "$program" put "$edition" root.img /f f1 0
+    "$program" mkdir "$edition" root.img /d 0
+    "$program" put "$edition" root.img /d/g f2 0
+    file=$(od -An -tu2 -j $((512 * 42 + 32)) -N 2 root.img | tr -d ' ')
+    directory=$(od -An -tu2 -j $((512 * 42 + 48)) -N 2 root.img | tr -d ' ')
+    for block in 2 42; do
+        said="names may be missing: 64 of 64 bytes are lost: 0-63"
+        [ $block = 42 ] || said="i-node $((edition - 5)) is lost"
+        for words in export find sums 'export --damaged' 'find --json' 'sums --json'; do
+            # shellcheck disable=SC2086
+            "$program" $words --bad-blocks $block "$edition" root.img > found 2> error
+            has "the status of $words without block $block of edition $edition" 5 $?
+            has "the lines of $words without block $block of edition $edition" "unixvol: 1 of 600 blocks are lost unixvol: : $said" \
+                "$(sed 's,^unixvol: [/.]: ,unixvol: : ,' error | paste -s -d ' ')"
+            has "the bytes and the paths of $words without block $block of edition $edition" "0 0" "$(tr -d '\0' < found | grep -v '^{' | wc -c) $(grep -c '"path"' found)"
+        done
+        printf '%s\n' 'unixvol: 1 of 600 blocks are lost' "unixvol: /: $said" > line
+        for words in get 'get --damaged' 'get --unsound'; do
+            # shellcheck disable=SC2086
+            runs $words --bad-blocks $block "$edition" root.img /f
+            wants "$words /f without block $block of edition $edition" 5 none line
+        done
+        exports 5 lost.tar "$edition" root.img --bad-blocks $block --lost
+        has "the line of the root, without block $block of edition $edition" 1 "$(grep -c "^unixvol: [.]: $said$" error)"
+        same lost.tar "lost+found/#$file" f1
+        same lost.tar "lost+found/#$directory/g" f2
+        "$program" find --lost --bad-blocks $block "$edition" root.img > found 2> error
+        has "find --lost without block $block of edition $edition" "5 /lost+found/#$directory /lost+found/#$directory/g /lost+found/#$file" \
+            "$? $(grep '#' found | paste -s -d ' ')"
+        "$program" sums --lost --bad-blocks $block "$edition" root.img > found 2> error
+        has "the status of sums --lost without block $block of edition $edition" 5 $?
+        has "sums --lost without block $block of edition $edition" "$(sha256sum < f1 | cut -c 1-64) $(sha256sum < f2 | cut -c 1-64)" \
+            "$(sed -n "s,^\([0-9a-f]*\) .* lost+found/#$file$,\1,p" found) $(sed -n 's,^\([0-9a-f]*\) .*/g$,\1,p' found)"
+        mends 5 "$edition" root.img --bad-blocks $block
+        has "the line of the root of a copy without block $block of edition $edition" 1 "$(grep -c "^unixvol: [.]: $said$" error)"
+        prints f1 get "$edition" new "/lost+found/#$file"
+        prints f2 get "$edition" new "/lost+found/#$directory/g"
+    done
+done
 # What isn't rescued, and words that exclude each other. If NEW is standard output, all lines are on standard error.
 for words in '--sizes 5,9' '--sizes 240,0'; do
     # shellcheck disable=SC2086
@@ -753,6 +854,112 @@ for round in range(40):
 print(count > 100)
 PYTHON
 has 'files of repaired copies without a line' True "$(cat error)"
+
+# `check`: what can be said of each rule.
+# reports STATUS LINES WORD..: `check` prints these lines, without what the rules require
+reports() {
+    runs check "${@:3}"
+    sed -i 's/^\([0-9]*\) [^:]*: /\1 /' output
+    printf '%s\n' "$2" > lines
+    wants "check ${*:3}" "$1" lines none
+}
+left='not broken by what is left'
+for edition in 6 7; do
+    "$program" mkfs "$edition" b.img 4872 100 0 0 0
+    "$program" put "$edition" b.img -t / f1 f2 f3 f4 f5 f6 f7 f8 0
+    head -c 450000 b.img > cut.img
+    rest=$(printf '%d not asked\n' 10 11 12)
+    reports 1 "1 3994 blocks are lost, the first is 878
+2 holds
+3 $left
+4 $left
+5 $left
+6 $left
+7 $left
+8 not asked
+9 $left
+$rest" "$edition" cut.img --cut
+    reports 1 "1 1 blocks are lost, the first is 4871
+2 holds
+3 $left
+4 $left
+5 $left
+6 $left
+7 $left
+8 not asked
+9 $left
+$rest" "$edition" b.img --bad-blocks 4871
+    # Without lost blocks all is as without the options.
+    runs check "$edition" b.img
+    cp output whole
+    runs check "$edition" b.img --cut --status
+    wants "check --cut of a whole volume of edition $edition" 0 whole none
+    # The super-block is lost: the sizes are given, so nothing can be said of them.
+    runs check "$edition" cut.img --cut --sizes 4872,100
+    has "rules 1 and 2 of edition $edition with given sizes" '1 3995 blocks are lost, the first is 1
+2 not asked' "$(sed -n '1,2s/ [^:]*:/ /; 1,2s/  / /; 1,2p' output)"
+done
+# An i-node of no known kind is told: it was there, whatever is lost.
+at=$((1024 + 64 * 2))
+changed cut.img odd.img $at 00f0
+reports 1 "1 3994 blocks are lost, the first is 878
+2 holds
+3 an odd mode: i-node 3
+4 $left
+5 $left
+6 $left
+7 $left
+8 not asked
+9 $left
+$rest" 7 odd.img --cut
+# A name with a slash is told if nothing of its directory is lost. A name whose i-node is lost may have one.
+"$program" mkfs 7 d.img 100 4 0 0 0
+for n in 1 2 3 4 5 6 7 8 9; do "$program" touch 7 d.img "/e$n" 1; done
+runs check 7 d.img --bad-blocks 5
+has 'rule 9, if an i-node is lost for which there is a name' 'not asked' "$(sed -n 's/^9 .*: //p' output)"
+root=$("$program" inode 7 d.img / | awk '$1 == "addr" { print $2 }')
+changed d.img slash.img $((512 * root + 16 * 2 + 2)) 2f
+runs check 7 slash.img --bad-blocks 50
+has 'rule 9, if a name has a slash' 'a slash in a name: directory 2, slot 2' "$(sed -n 's/^9 [^:]*: //p' output)"
+runs check 7 slash.img --bad-blocks "$root"
+has 'rule 9, if the directory is lost' "$left" "$(sed -n 's/^9 [^:]*: //p' output)"
+runs check --json 7 cut.img --cut
+has 'the report as JSON' 'False [{"at": {"block": 878, "count": 3994}, "finding": "blocks are lost", "holds": false}, {"at": null, "finding": null, "holds": true}, {"at": null, "finding": null, "holds": null}]' \
+    "$(python3 -c 'import json, sys
+report = json.load(sys.stdin)
+print(report["sound"], json.dumps([{key: rule[key] for key in ("at", "finding", "holds")} for rule in report["rules"][:3]]))' < output)"
+refuses 6 'unixvol: the image has 40 of 16000000 blocks' check --cut 7 long.img
+refuses 2 'unixvol: no volume has 5 blocks with an i-list of 9' check 7 b.img --sizes 5,9
+refuses 3 'unixvol: cannot read missing.map' check --bad missing.map 7 b.img
+misread "error: the argument '--bad-blocks' cannot be used with '--bad'" check --bad-blocks 12 --bad half.map 7 b.img
+
+# The law itself: what is named of a volume with lost blocks, of which some bytes were changed before, breaks the rule in the volume.
+python3 - "$program" "$linux" << 'PYTHON' > error
+import json, random, subprocess, sys
+
+program, linux = sys.argv[1:]
+random.seed(1977)
+
+def rules(*words):
+    done = subprocess.run([program, "check", "--json", "7", *words], stdin=subprocess.DEVNULL, capture_output=True)
+    return {rule["rule"]: rule["holds"] for rule in json.loads(done.stdout)["rules"]}
+
+named = 0
+for round in range(150):
+    image = bytearray(open(linux, "rb").read())
+    for change in range(random.choice((4, 8, 16))):
+        image[random.choice((random.randrange(1024, 1024 + 512 * 12), random.randrange(512 * 14, 512 * 22)))] = random.choice((0, 47, 255, random.randrange(256)))
+    open("r.img", "wb").write(image)
+    lost = sorted(random.sample(range(2, len(image) // 512), random.choice((1, 3, 10))))
+    whole, left = rules("r.img"), rules("r.img", "--bad-blocks", ",".join(map(str, lost)))
+    for rule in (3, 4, 5, 6, 7, 8, 9, 10, 11, 12):
+        if left[rule] is not None:
+            named += 1
+            if left[rule] or whole[rule] is not False:
+                print(round, rule, lost)
+print(named > 20)
+PYTHON
+has 'violations that are named although blocks are lost' True "$(cat error)"
 
 echo "$passed passed, $failed failed"
 [ "$failed" = 0 ]

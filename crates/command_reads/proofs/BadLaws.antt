@@ -1,4 +1,4 @@
--- What `find`, `sums` and `get` print of an image of which some blocks couldn't be read is what the volume holds.
+-- What `find`, `sums`, `get` and `cat` print of an image of which some blocks couldn't be read is what the volume holds.
 use Rattle.std.proofs.Common.{◌≡◌, ◌≤◌, ◌==◌, ◌||◌, ◌∙◌, ℕ, Bool, true, false, if◌then◌else◌, nat_lt, List, Result, Ok, Err, arith, refl, subst}
 use Rattle.std.proofs.lemmas.Bool.{eqb-false, ltb-false}
 use Rattle.vol_archive.specs.Export.{is_directory}
@@ -14,8 +14,9 @@ use Rattle.vol_listing.proofs.KnownLaws.{sums_right}
 use Rattle.vol_losses.proofs.Agreement.{body_agrees}
 use Rattle.vol_losses.proofs.BadLaws.{rescue_agrees}
 use Rattle.vol_losses.proofs.SureFlags.{whole_is}
+use Rattle.vol_rescue.proofs.KnownFindings.{findings_right}
 use Rattle.vol_rescue.proofs.RightPaths.{paths_right}
-use Rattle.command_reads.specs.BadLaws.{BadFilesAreRight, BadSumsAreRight, FoundPathsLeadRight}
+use Rattle.command_reads.specs.BadLaws.{BadBodiesAreRight, BadFilesAreRight, BadFindingsAreRight, BadSumsAreRight, FoundPathsLeadRight}
 use Rattle.command_reads.specs.Cat.{file_by, file_in, file_of, printable}
 use Rattle.command_reads.specs.Unsound.{readable_by}
 use Rattle.command_reads.specs.declared.node.NodeFault.{NodeFault}
@@ -54,6 +55,14 @@ in_list g found image i is = go (i == 0) (nat_lt g.last_inode i) refl refl is
           printed g found (kind_of g.edition (mode_of g image i)) is,
         )
 
+-- a node whose bytes can be printed is an i-node of the volume
+file_within : (read : Result Geometry GeometryFault) (found : Geometry) (image : List ℕ) (i : ℕ) → file_by read image i ≡ Ok found
+    → (1 ≤ i) × (i ≤ found.last_inode)
+file_within (Err fault) found image i is = absurd (cc)
+file_within (Ok g) found image i is =
+    let within = in_list g found image i is in
+    (within.0, subst (λ (h : Geometry). i ≤ h.last_inode) within.2 within.1)
+
 -- a file that can be read is an i-node of the volume
 pub readable_in : (read : Result Geometry GeometryFault) (found : Geometry) (image : List ℕ) (i : ℕ) → readable_by image i (file_by read image i) ≡ Ok found
     → (1 ≤ i) × (i ≤ found.last_inode)
@@ -75,5 +84,17 @@ pub bad_files_right : BadFilesAreRight
 unfolding file_of
 bad_files_right edition ranges at sizes bytes volume image path lost geometry i rescued has fits file whole =
     let within = readable_in (geometry_read edition image) geometry image i file.opened in
+    body_agrees geometry lost image volume i fits within.0 within.1
+    (rescue_agrees geometry edition ranges at sizes bytes volume image lost fits rescued has) (whole_is geometry image lost i whole)
+
+pub bad_findings_right : BadFindingsAreRight
+bad_findings_right edition ranges at sizes bytes volume image lost geometry found finding rescued has read fits tells =
+    findings_right edition geometry lost image volume found finding read fits
+    (rescue_agrees geometry edition ranges at sizes bytes volume image lost fits rescued has) tells
+
+pub bad_bodies_right : BadBodiesAreRight
+unfolding file_of
+bad_bodies_right edition ranges at sizes bytes volume image lost geometry i rescued has fits opened whole =
+    let within = file_within (geometry_read edition image) geometry image i opened in
     body_agrees geometry lost image volume i fits within.0 within.1
     (rescue_agrees geometry edition ranges at sizes bytes volume image lost fits rescued has) (whole_is geometry image lost i whole)

@@ -1,4 +1,4 @@
--- Statements on what `find` and `sums` print of an image of which some blocks couldn't be read, and on where its paths lead.
+-- Statements on what `find`, `sums`, `get` and `cat` print of an image of which some blocks couldn't be read, and on where its paths lead.
 use Rattle.std.specs.Prelude.{◌≡◌, ℕ, Bool, false, true, List, Option, All, None, Some, Ok}
 use Rattle.bad_maps.specs.declared.maps.ReadRange.{ReadRange}
 use Rattle.vol_archive.specs.Laws.{members_of}
@@ -6,11 +6,16 @@ use Rattle.vol_dir.specs.declared.directories.FoundDirectory.{FoundDirectory}
 use Rattle.vol_archive.specs.declared.met_entries.MetEntry.{MetEntry}
 use Rattle.vol_dir.specs.Access.{user}
 use Rattle.vol_dir.specs.Directories.{directory_at}
-use Rattle.vol_dir.specs.Entries.{IsDirectory}
+use Rattle.vol_dir.specs.Entries.{HasEntries, IsDirectory}
 use Rattle.vol_dir.specs.Tree.{tree}
 use Rattle.vol_dir.specs.Walk.{components, walk_from}
+use Rattle.vol_file.specs.Rules.{HasKinds, HasSizes}
+use Rattle.vol_findings.specs.Outcomes.{Tells}
+use Rattle.vol_findings.specs.declared.outcome.RuleOutcome.TheVariants.{Broken}
+use Rattle.vol_findings.specs.declared.outcome.RuleOutcomes.{RuleOutcomes}
+use Rattle.vol_judge.specs.declared.finding.Finding.{Finding}
 use Rattle.vol_layout.specs.Body.{body}
-use Rattle.vol_layout.specs.Geometry.{Fits}
+use Rattle.vol_layout.specs.Geometry.{Fits, geometry_read}
 use Rattle.vol_layout.specs.declared.edition.Edition.{Edition}
 use Rattle.vol_layout.specs.declared.geometry.Geometry.{Geometry}
 use Rattle.vol_listing.specs.KnownSums.{known_sum}
@@ -18,7 +23,9 @@ use Rattle.vol_listing.specs.Sums.{sum_at}
 use Rattle.vol_losses.specs.BadImages.{HasRead, IsRescued}
 use Rattle.vol_losses.specs.Losses.{is_whole}
 use Rattle.vol_losses.specs.declared.given_sizes.VolumeSizes.{VolumeSizes}
+use Rattle.vol_rescue.specs.KnownOutcomes.{known_outcomes}
 use Rattle.vol_rescue.specs.Paths.{AreSoundAbove}
+use Rattle.command_reads.specs.Cat.{file_of}
 use Rattle.command_reads.specs.Export.{AreFound}
 use Rattle.command_reads.specs.Unsound.{IsFileAt}
 use Rattle.command_reads.specs.Ways.{unsure_on}
@@ -45,6 +52,24 @@ abbrev pub BadFilesAreRight : Type 0
 BadFilesAreRight = (edition : Edition) (ranges : List ReadRange) (at : ℕ) (sizes : Option VolumeSizes) (bytes volume image path : List ℕ) (lost : List Bool)
     (geometry : Geometry) (i : ℕ) → IsRescued edition ranges at sizes bytes image lost → HasRead sizes ranges at bytes volume → Fits geometry image
     → IsFileAt edition image path geometry i → is_whole geometry image lost i ≡ true → body geometry volume i ≡ body geometry image i
+
+-- a violation of rule 3, 4 or 9 that `check` names breaks the rule in every volume that has the bytes of the known blocks, whatever the lost blocks held (this
+-- project)
+abbrev pub BadFindingsAreRight : Type 0
+BadFindingsAreRight = (edition : Edition) (ranges : List ReadRange) (at : ℕ) (sizes : Option VolumeSizes) (bytes volume image : List ℕ) (lost : List Bool)
+    (geometry : Geometry) (found : RuleOutcomes) (finding : Finding) → IsRescued edition ranges at sizes bytes image lost → HasRead sizes ranges at bytes volume
+    → geometry_read edition image ≡ Ok geometry → Fits geometry image → Tells edition image found
+    → let known = known_outcomes edition image lost found in
+    (known.kinds ≡ Broken finding → HasKinds geometry volume → ⊥)
+    × (known.sizes ≡ Broken finding → HasSizes geometry volume → ⊥)
+    × (known.entries ≡ Broken finding → HasEntries geometry volume → ⊥)
+
+-- the bytes that `cat` prints of an i-node of which nothing is lost, by its number or a path, are those of the i-node in every volume that has the bytes of the
+-- known blocks, whatever the lost blocks held (this project)
+abbrev pub BadBodiesAreRight : Type 0
+BadBodiesAreRight = (edition : Edition) (ranges : List ReadRange) (at : ℕ) (sizes : Option VolumeSizes) (bytes volume image : List ℕ) (lost : List Bool)
+    (geometry : Geometry) (i : ℕ) → IsRescued edition ranges at sizes bytes image lost → HasRead sizes ranges at bytes volume → Fits geometry image
+    → file_of edition image i ≡ Ok geometry → is_whole geometry image lost i ≡ true → body geometry volume i ≡ body geometry image i
 
 -- a path on which nothing is lost leads to the same directory, or to none for the same reason, in every volume that has the bytes of the known blocks;
 -- whatever the lost blocks held (this project)

@@ -17,7 +17,8 @@ use Rattle.vol_losses.specs.declared.given_sizes.VolumeSizes.{VolumeSizes}
 use Rattle.command_faults.specs.Faults.{fault_line, no_memory}
 use Rattle.command_faults.specs.Streams.{Streams}
 use Rattle.command_faults.specs.declared.fault.Fault.{Fault}
-use Rattle.command_reads.specs.BadFiles.{get_sights}
+use Rattle.command_reads.specs.BadFiles.{cat_sights, get_sights}
+use Rattle.command_reads.specs.Check.{check_sights}
 use Rattle.command_reads.specs.Export.{ExportsFrom, begun}
 use Rattle.command_reads.specs.Find.{found_sights}
 use Rattle.command_reads.specs.Losses.{IsUnreadEnding, TellsIncomplete}
@@ -85,8 +86,11 @@ ShowsRescued edition image lost screen streams status (bad_looks.Find path name 
     Shows (found_sights edition image lost path.now (option_map (λ word. word.now) name) orphans form screen) streams status
 ShowsRescued edition image lost screen streams status (bad_looks.Sums path form orphans) =
     Shows (sums_sights edition image lost path.now form orphans) streams status
+ShowsRescued edition image lost screen streams status (bad_looks.Check graded form) =
+    Shows (check_sights edition image lost graded form) streams status
 ShowsRescued edition image lost screen streams status (bad_looks.Read path damaged) =
     Shows (get_sights edition image lost path.now damaged) streams status
+ShowsRescued edition image lost screen streams status (bad_looks.Body node damaged) = Shows (cat_sights edition image lost node damaged) streams status
 
 -- part of the image of which only the bytes in the ranges were read is shown, or a fault is reported (this project)
 abbrev pub LooksRescued : Edition → List ℕ → List ReadRange → ℕ → Option VolumeSizes → BadLook → Screen → Streams → ℕ → Type 0

@@ -1,11 +1,12 @@
 -- The check of the rules of soundness.
-use Rattle.std.specs.Prelude.{◌≡◌, IsTrue, ◌↔◌, ℕ, ◌&&◌, Bool, true, false, not, if◌then◌else◌, List}
+use Rattle.std.specs.Prelude.{◌≡◌, IsTrue, ◌↔◌, ℕ, ◌&&◌, Bool, true, false, not, if◌then◌else◌, List, [], ◌∷◌}
 use Rattle.std.specs.Result.{is_ok}
 use Rattle.vol_layout.specs.Geometry.{geometry_read}
 use Rattle.vol_findings.specs.Outcomes.{Tells}
-use Rattle.vol_findings.specs.Reports.{IsReport, lines_of}
+use Rattle.vol_findings.specs.Reports.{IsReport, lines_of, report_text}
 use Rattle.vol_findings.specs.declared.outcome.RuleOutcomes.{RuleOutcomes}
 use Rattle.vol_judge.specs.Sound.{IsSound}
+use Rattle.vol_rescue.specs.KnownOutcomes.{known_outcomes}
 use Rattle.vol_layout.specs.declared.edition.Edition.{Edition}
 use Rattle.command_faults.specs.Faults.{no_memory}
 use Rattle.command_reads.specs.CheckJson.{report_json}
@@ -35,3 +36,21 @@ abbrev pub checked : Edition → List ℕ → Bool → OutputForm → Sights
 checked edition image graded form =
     silently (λ text status. (sound : Bool) × IsReportIn form edition image text sound × (status ≡ verdict_status graded (is_ok (geometry_read edition image)) sound))
     (λ fault. fault ≡ no_memory)
+
+-- the report with these outcomes in this format (this project)
+abbrev pub known_text : OutputForm → Edition → List ℕ → RuleOutcomes → List ℕ
+known_text forms.Text edition image found = report_text edition image found
+known_text forms.Json edition image found = report_json edition image (lines_of found)
+
+-- what `check` may come to of an image with lost blocks: the report on what can be said of each rule, with the status for an image that isn't sound; or out
+-- of memory (this project)
+abbrev pub known_sights : Edition → List ℕ → List Bool → Bool → OutputForm → Sights
+known_sights edition image lost graded form =
+    silently (λ text status. (found : RuleOutcomes) × Tells edition image found × (text ≡ known_text form edition image (known_outcomes edition image lost found))
+    × (status ≡ verdict_status graded (is_ok (geometry_read edition image)) false))
+    (λ fault. fault ≡ no_memory)
+
+-- what `check` may come to of an image of which blocks may be lost (this project)
+abbrev pub check_sights : Edition → List ℕ → List Bool → Bool → OutputForm → Sights
+check_sights edition image [] graded form = checked edition image graded form
+check_sights edition image (mark ∷ lost) graded form = known_sights edition image (mark ∷ lost) graded form

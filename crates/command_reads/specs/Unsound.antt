@@ -48,10 +48,13 @@ readable_by image i (Err why) = Err why
 abbrev pub readable : Edition → List ℕ → ℕ → Result Geometry NodeFault
 readable edition image i = readable_by image i (file_of edition image i)
 
+-- the reason why a node isn't opened, by what its name leads to: there is no such node, or it can't be opened (this project)
+abbrev pub IsUnopened : Result ℕ NodeFault → (ℕ → Result Geometry NodeFault) → NodeFault → Type 0
+IsUnopened number opened why = (number ≡ Err why) ⊎ ((i : ℕ) × (number ≡ Ok i) × (opened i ≡ Err why))
+
 -- the reason why nothing is shown of the node at a path: the path leads to none, or the node can't be opened (this project)
 abbrev pub IsUnfound : Edition → List ℕ → List ℕ → (ℕ → Result Geometry NodeFault) → NodeFault → Type 0
-IsUnfound edition image path opened why =
-    (number_at edition image path ≡ Err why) ⊎ ((i : ℕ) × (number_at edition image path ≡ Ok i) × (opened i ≡ Err why))
+IsUnfound edition image path opened why = IsUnopened (number_at edition image path) opened why
 
 -- the fault of a command that shows nothing of the node at a path: memory ran out, or the image has no such node (this project)
 abbrev pub IsUnshown : Edition → List ℕ → List ℕ → (ℕ → Result Geometry NodeFault) → Fault → Type 0

@@ -1,5 +1,5 @@
 -- The nodes on a path of an image with lost blocks, and the lines about one that can't be trusted.
-use Rattle.std.specs.Prelude.{◌≡◌, ℕ, ◌&&◌, ◌||◌, Bool, not, if◌then◌else◌, List, [], ◌∷◌, Option, None, Some, Result, Ok, Err, codes}
+use Rattle.std.specs.Prelude.{◌≡◌, ℕ, ◌&&◌, ◌||◌, Bool, not, if◌then◌else◌, List, [], ◌∷◌, Option, None, Some, Result, Ok, Err, codes, decimal}
 use Rattle.std.specs.Option.{option_map_or}
 use Rattle.vol_layout.specs.Geometry.{geometry_read}
 use Rattle.vol_layout.specs.declared.edition.Edition.{Edition}
@@ -67,3 +67,16 @@ TellsWay edition image [] path why told = told ≡ None
 TellsWay edition image (mark ∷ lost) path (starts.Unsound fault) told = told ≡ None
 TellsWay edition image (mark ∷ lost) path (starts.Refused refusal) told =
     IsWayLineRead image (mark ∷ lost) path told (geometry_read edition image)
+
+-- the entry of an i-node that a command names by its number, with this number in place of a path (this project)
+unfoldable pub number_entry : ℕ → MetEntry
+number_entry i = record { path = decimal i; inode = i; role = roles.File }
+
+-- the i-node with this number, which may be any, if it is lost (this project)
+abbrev pub lost_number : Geometry → List Bool → ℕ → Option MetEntry
+lost_number geometry lost i = if is_number geometry i && is_lost lost (node_block geometry.edition i) then Some (number_entry i) else None
+
+-- the lines about an i-node that is named by its number, if it is lost, given the result of reading the image's geometry (this project)
+abbrev pub IsNumberLineRead : List ℕ → List Bool → ℕ → Option (List ℕ) → Result Geometry GeometryFault → Type 0
+IsNumberLineRead image lost i told (Ok geometry) = IsWayLine geometry image lost told (lost_number geometry lost i)
+IsNumberLineRead image lost i told (Err fault) = told ≡ None

@@ -3,8 +3,9 @@ ghost use Rattle.std.specs.Prelude.{◌≡◌, IfOk, string_bytes};
 ghost use Rattle.command_faults.specs.Streams.{ErrorStream, Hears, streams};
 ghost use Rattle.command_reads.specs.BadLooks.{IsMisreadEnding, IsUnrescuedEnding, LooksBad, ShowsRescued, line_start, map_line, sizes_line};
 
-use crate::bad_files::read_in;
+use crate::bad_files::{print_in, read_in};
 use crate::bad_images::rescue_image;
+use crate::check::check_in;
 use crate::export::{export_read, unread};
 use crate::find::find_in;
 use crate::print::print;
@@ -43,7 +44,7 @@ pub enum BadBlocks<'a> {
 
 /// Shows part of an image of which only some blocks were read. A block of which a byte wasn't read is lost, whatever the image has in its place. An
 /// export is as [`look`](crate::look) makes it with `cut`. If blocks are lost, the fault of the other looks has the lines about what is lost, and the
-/// status is 5 if something that is shown is damaged or left out, else 1. If `sizes` are given, the super-block is lost too, and states these sizes;
+/// status is 5 if something that is shown is damaged or left out, else 1. A check has no such lines, and its status. If `sizes` are given, the super-block is lost too, and states these sizes;
 /// if no volume of the edition has them, nothing is shown, and the status is 2. If a map can't be read, nothing is shown, the fault names the line and
 /// what is wrong with it, and the status is 3.
 ///
@@ -106,9 +107,17 @@ fn show_rescued<O: Sink>(
             let shown = sums_of(alloc, edition, &read.image, &read.lost, path, form, lost);
             print(shown, output)
         }
+        BadLook::Check { graded, form } => {
+            let shown = check_in(alloc, edition, &read.image, &read.lost, graded, form);
+            print(shown, output)
+        }
         BadLook::Read { path, damaged } => {
             let (image, lost) = (&read.image, &read.lost);
             read_in(alloc, edition, image, lost, path, damaged, output)
+        }
+        BadLook::Body { node, damaged } => {
+            let (image, lost) = (&read.image, &read.lost);
+            print_in(alloc, edition, image, lost, node, damaged, output)
         }
     }
 }

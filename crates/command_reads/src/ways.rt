@@ -1,7 +1,7 @@
 //! The nodes on a path of an image with lost blocks, and the lines about one that can't be trusted.
 ghost use Rattle.std.specs.Prelude.{◌≡◌, IfOk, option_map};
 ghost use Rattle.vol_layout.specs.Geometry.{Fits, geometry_read};
-ghost use Rattle.command_reads.specs.Ways.{IsWayLineRead, TellsWay, is_unsure_node, last_seen, number_in, unsure_on, way_entry};
+ghost use Rattle.command_reads.specs.Ways.{IsNumberLineRead, IsWayLine, IsWayLineRead, TellsWay, is_unsure_node, last_seen, lost_number, number_entry, number_in, unsure_on, way_entry};
 
 use pdp_words::{Bytes, Image};
 use std::alloc::{AllocError, Global};
@@ -48,11 +48,71 @@ fn lines_on(
     let Ok(geometry) = Geometry::read(edition, image) else {
         return Ok(None);
     };
-    let Some(found) = unsure_on(alloc, image, &geometry, lost, path)? else {
+    let found = unsure_on(alloc, image, &geometry, lost, path)?;
+    lines_of(alloc, image, &geometry, lost, found)
+}
+
+/// Returns the lines about an i-node that is named by its number, which may be any, if it is lost: the number of lost blocks, and that it is lost.
+pub(crate) fn number_lines(
+    alloc: Global,
+    edition: Edition,
+    image: &Image,
+    lost: &[bool],
+    i: u16,
+) -> Result<Option<Vec<u8>>, AllocError>
+    ensures { IfOk result (λ told. IsNumberLineRead image.now lost.now i (option_map (λ lines. lines.items) told) (geometry_read edition image.now)) }
+{
+    let Ok(geometry) = Geometry::read(edition, image) else {
         return Ok(None);
     };
-    let told = tell_named(alloc, image, &geometry, lost, &[found])?;
+    let found = lost_number(alloc, &geometry, lost, i)?;
+    lines_of(alloc, image, &geometry, lost, found)
+}
+
+/// Returns the lines about a node that can't be trusted, if there is one.
+fn lines_of(
+    alloc: Global,
+    image: &Image,
+    geometry: &Geometry,
+    lost: &[bool],
+    found: Option<MetEntry>,
+) -> Result<Option<Vec<u8>>, AllocError>
+    requires { Fits geometry.now image.now }
+    ensures { IfOk result (λ told. IsWayLine geometry.now image.now lost.now (option_map (λ lines. lines.items) told) found) }
+{
+    let Some(found) = found else {
+        return Ok(None);
+    };
+    let told = tell_named(alloc, image, geometry, lost, &[found])?;
     Ok(Some(told.lines))
+}
+
+/// Returns the entry of i-node `i`, which may be any number, if it is lost.
+fn lost_number(
+    alloc: Global,
+    geometry: &Geometry,
+    lost: &[bool],
+    i: u16,
+) -> Result<Option<MetEntry>, AllocError>
+    ensures { IfOk result (λ found. found ≡ lost_number geometry.now lost.now i) }
+{
+    if i == 0 || i > geometry.last_inode || !is_node_lost(geometry, lost, i) {
+        return Ok(None);
+    }
+    Ok(Some(number_entry(alloc, i)?))
+}
+
+/// Returns the entry of an i-node that a command names by its number.
+#[tactic(auto, unfolding(crate::specs::Ways::number_entry))]
+pub(crate) fn number_entry(alloc: Global, i: u16) -> Result<MetEntry, AllocError>
+    ensures { IfOk result (λ entry. entry ≡ number_entry i) }
+{
+    let path = format!(in alloc; "{i}")?;
+    Ok(MetEntry {
+        path: Bytes::from_vec(path.into_bytes()),
+        inode: i,
+        role: Role::File,
+    })
 }
 
 /// Returns the last of the nodes on a path, up to where it leads or ends, from which it can't be trusted where paths lead.

@@ -1,3 +1,2 @@
-pub mod BadLooks
 pub mod Needs
 pub mod Permissions

@@ -4,10 +4,11 @@ use Rattle.std.specs.Borrow.{Bor}
 use Rattle.std.specs.Prelude.{option_map}
 use Rattle.command_terms.specs.declared.bad_looks.BadLook.TheVariants as bad_looks
 use Rattle.command_terms.specs.declared.looks.ExportOptions.{ExportOptions}
+use Rattle.command_terms.specs.declared.looks.NodeName.{NodeName}
 use Rattle.command_terms.specs.declared.looks.OutputForm.{OutputForm}
 use Rattle.command_words.specs.BadWords.{IsBadImageGiven}
 use Rattle.command_terms.specs.declared.options.Repairing.{Repairing}
-use Rattle.command_words.specs.Invocations.{AsksFor, IsExportGiven, IsFormGiven, IsOnePathGiven, IsRepairGiven, IsVolumeGiven, Words, is_set, look_at, repair_at, the_word}
+use Rattle.command_words.specs.Invocations.{AsksFor, IsExportGiven, IsFormGiven, IsNodeGiven, IsOnePathGiven, IsRepairGiven, IsVolumeGiven, Words, is_set, look_at, repair_at, the_word}
 use Rattle.command_words.specs.declared.invocation.BadImage.{BadImage}
 use Rattle.command_words.specs.declared.invocation.MadeFile.{MadeFile}
 use Rattle.command_words.specs.declared.invocation.VolumeFile.{VolumeFile}
@@ -50,3 +51,18 @@ pub get_asked : (clock : Option ℕ) (given : Words) (volume : VolumeFile) (path
     → AsksFor clock verbs.Get given (look_at volume (bad_looks.Read path damaged) bad)
 get_asked clock given volume path damaged None named is shown unsound none = (refl, (named, (is, unsound refl, none)))
 get_asked clock given volume path damaged (Some image) named is shown unsound bad = (refl, (named, (is, shown, bad)))
+
+-- the words of `check` ask for its invocation
+pub check_asked : (clock : Option ℕ) (given : Words) (volume : VolumeFile) (graded : Bool) (form : OutputForm) (bad : Option BadImage) → IsVolumeGiven given volume
+    → graded ≡ is_set (given (codes "status")) → IsFormGiven given form → IsBadImageGiven given volume.edition (is_set (given (codes "cut"))) bad
+    → AsksFor clock verbs.Check given (look_at volume (bad_looks.Check graded form) bad)
+check_asked clock given volume graded form None named is shown none = (refl, (named, (is, shown, none)))
+check_asked clock given volume graded form (Some image) named is shown bad = (refl, (named, (is, shown, bad)))
+
+-- the words of `cat` ask for its invocation
+pub cat_asked : (clock : Option ℕ) (given : Words) (volume : VolumeFile) (node : NodeName) (damaged : Bool) (bad : Option BadImage) → IsVolumeGiven given volume
+    → IsNodeGiven (the_word given (codes "INO")) node → damaged ≡ is_set (given (codes "damaged"))
+    → IsBadImageGiven given volume.edition (is_set (given (codes "cut"))) bad
+    → AsksFor clock verbs.Cat given (look_at volume (bad_looks.Body node damaged) bad)
+cat_asked clock given volume node damaged None named is shown none = (refl, (named, is, none))
+cat_asked clock given volume node damaged (Some image) named is shown bad = (refl, (named, (is, shown, bad)))

@@ -27,6 +27,8 @@ AreTwoGiven given = AreBothGiven given (codes "bad") (codes "bad-blocks") ⊎ Ar
 
 -- true if the command reads words about an image of which some blocks couldn't be read
 is_rescuer : Verb → Bool
+is_rescuer verbs.Cat = true
+is_rescuer verbs.Check = true
 is_rescuer verbs.Export = true
 is_rescuer verbs.Find = true
 is_rescuer verbs.Get = true
@@ -68,6 +70,8 @@ one_way clock given (invocations.Work volume (works.Check checkers.Blocks worker
 one_way clock given (invocations.Look volume (looks.Export path options)) read is both = none_two given V7 is.1.1 both
 one_way clock given (invocations.Look volume (looks.Find path name lost form)) read is both = none_two given V7 is.1.4 both
 one_way clock given (invocations.Look volume (looks.Sums path form lost)) read is both = none_two given V7 is.1.3 both
+one_way clock given (invocations.Look volume (looks.Check graded form)) read is both = none_two given V7 is.1.2 both
+one_way clock given (invocations.LookBad volume image (bad_looks.Check graded form)) read is both = image_two given volume.edition _ image is.1.2 both
 one_way clock given (invocations.LookBad volume image (bad_looks.Export p options)) read is both = image_two given volume.edition false image is.1.1 both
 one_way clock given (invocations.LookBad volume image (bad_looks.Find p name lost form)) read is both = image_two given volume.edition _ image is.1.4 both
 one_way clock given (invocations.Repair volume copy repairing) read is both = none_two given V7 is.1 both
@@ -77,6 +81,8 @@ one_way clock given (invocations.Get volume path) read is both = none_two given 
 one_way clock given (invocations.Copy volume (copies.Get folder paths keeps)) read is both = none_two given V7 is.1.4 both
 one_way clock given (invocations.Look volume (looks.ReadUnsound path)) read is both = none_two given V7 is.1.2 both
 one_way clock given (invocations.LookBad volume image (bad_looks.Read p damaged)) read is both = image_two given volume.edition _ image is.1.2 both
+one_way clock given (invocations.Cat volume node) read is both = none_two given V7 is.2 both
+one_way clock given (invocations.LookBad volume image (bad_looks.Body node damaged)) read is both = image_two given volume.edition _ image is.1.2 both
 one_way clock given invocation read is both = absurd (true≢false (sym read))
 
 -- if the words about the image aren't valid, none of these commands has an invocation
@@ -93,6 +99,13 @@ find_wrong clock given (inl list) = no_value clock verbs.Find given (inr (inr (i
 find_wrong clock given (inr (inl sizes)) = no_value clock verbs.Find given (inr (inr (inr (inr (inr (inr (inr (inr (inr (inl sizes))))))))))
 find_wrong clock given (inr (inr (inl disk))) = no_value clock verbs.Find given (inr (inr (inr (inr (inr (inr (inr (inr (inr (inr (inl disk)))))))))))
 find_wrong clock given (inr (inr (inr both))) = λ invocation asks. one_way clock given invocation (sym (ap is_rescuer asks.0)) asks.1 both
+
+pub check_wrong : (clock : Option ℕ) (given : Words) → IsBadWrong given → AsksForNothing clock verbs.Check given
+unfolding AsksForNothing is_rescuer
+check_wrong clock given (inl list) = no_value clock verbs.Check given (inr (inr (inr (inr (inr (inr (inl list)))))))
+check_wrong clock given (inr (inl sizes)) = no_value clock verbs.Check given (inr (inr (inr (inr (inr (inr (inr (inl sizes))))))))
+check_wrong clock given (inr (inr (inl disk))) = no_value clock verbs.Check given (inr (inr (inr (inr (inr (inr (inr (inr (inl disk)))))))))
+check_wrong clock given (inr (inr (inr both))) = λ invocation asks. one_way clock given invocation (sym (ap is_rescuer asks.0)) asks.1 both
 
 pub repair_wrong : (clock : Option ℕ) (given : Words) → IsBadWrong given → AsksForNothing clock verbs.Repair given
 unfolding AsksForNothing is_rescuer
@@ -114,3 +127,10 @@ get_wrong clock given (inl list) = no_value clock verbs.Get given (inr (inr (inr
 get_wrong clock given (inr (inl sizes)) = no_value clock verbs.Get given (inr (inr (inr (inr (inr (inr (inr (inr (inr (inr (inr (inl sizes))))))))))))
 get_wrong clock given (inr (inr (inl disk))) = no_value clock verbs.Get given (inr (inr (inr (inr (inr (inr (inr (inr (inr (inr (inr (inr (inl disk)))))))))))))
 get_wrong clock given (inr (inr (inr both))) = λ invocation asks. one_way clock given invocation (sym (ap is_rescuer asks.0)) asks.1 both
+
+pub cat_wrong : (clock : Option ℕ) (given : Words) → IsBadWrong given → AsksForNothing clock verbs.Cat given
+unfolding AsksForNothing is_rescuer
+cat_wrong clock given (inl list) = no_value clock verbs.Cat given (inr (inr (inr (inr (inr (inr (inl list)))))))
+cat_wrong clock given (inr (inl sizes)) = no_value clock verbs.Cat given (inr (inr (inr (inr (inr (inr (inr (inl sizes))))))))
+cat_wrong clock given (inr (inr (inl disk))) = no_value clock verbs.Cat given (inr (inr (inr (inr (inr (inr (inr (inr (inl disk)))))))))
+cat_wrong clock given (inr (inr (inr both))) = λ invocation asks. one_way clock given invocation (sym (ap is_rescuer asks.0)) asks.1 both

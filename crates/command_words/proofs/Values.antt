@@ -41,7 +41,9 @@ image_values given edition image is = (list_value given edition (is_set (given (
 -- the words of an invocation are valid for its command's arguments: the search is made at each invocation
 pub values_given : (clock : Option ℕ) (given : Words) (invocation : Invocation) → IsGiven clock given invocation
     → AreValues clock given (arguments_of (verb_of invocation))
-values_given clock given (invocations.Cat volume node) is = search (rules, scripts_value)
+values_given clock given (invocations.Cat volume node) is = let whole = none_values given is.2 in search (rules, whole)
+values_given clock given (invocations.LookBad volume image (bad_looks.Body node damaged)) is =
+    let whole = image_values given volume.edition image is.1.2 in search (rules, whole)
 values_given clock given (invocations.Look volume (looks.Export path options)) is =
     let sizes = sizes_value given V7 None is.1.1.1 in
     let list = none_read bytes_around _ is.1.1.0.1 in
@@ -68,6 +70,9 @@ values_given clock given (invocations.Get volume path) is = let whole = none_val
 values_given clock given (invocations.Copy volume (copies.Get folder paths keeps)) is = let whole = none_values given is.1.4 in search (rules, whole)
 values_given clock given (invocations.Look volume (looks.ReadUnsound path)) is = let whole = none_values given is.1.2 in search (rules, whole)
 values_given clock given (invocations.LookBad volume image (bad_looks.Read path damaged)) is =
+    let whole = image_values given volume.edition image is.1.2 in search (rules, whole)
+values_given clock given (invocations.Look volume (looks.Check graded form)) is = let whole = none_values given is.1.2 in search (rules, whole)
+values_given clock given (invocations.LookBad volume image (bad_looks.Check graded form)) is =
     let whole = image_values given volume.edition image is.1.2 in search (rules, whole)
 values_given clock given invocation is = search (rules, scripts_value)
 

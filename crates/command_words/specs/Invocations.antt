@@ -34,7 +34,6 @@ use Rattle.command_words.specs.declared.invocation.Work.{Work}
 use Rattle.command_words.specs.declared.invocation.Work.TheVariants as works
 use Rattle.command_words.specs.declared.verbs.Verb.{Verb}
 use Rattle.command_words.specs.declared.verbs.Verb.TheVariants as verbs
-use Rattle.command_terms.specs.BadLooks.{whole_look}
 use Rattle.command_terms.specs.declared.bad_looks.BadLook.{BadLook}
 use Rattle.command_terms.specs.declared.bad_looks.BadLook.TheVariants as bad_looks
 use Rattle.command_terms.specs.declared.comparison.Comparison.{Comparison}
@@ -243,6 +242,15 @@ look_verb (looks.Slots path form) = verbs.Ls
 look_verb (looks.ListUnsound path listing) = verbs.Ls
 look_verb (looks.ReadUnsound path) = verbs.Get
 
+-- the command that shows part of an image of which some blocks couldn't be read (this project)
+abbrev pub bad_look_verb : BadLook → Verb
+bad_look_verb (bad_looks.Export path options) = verbs.Export
+bad_look_verb (bad_looks.Find path name lost form) = verbs.Find
+bad_look_verb (bad_looks.Sums path form lost) = verbs.Sums
+bad_look_verb (bad_looks.Check graded form) = verbs.Check
+bad_look_verb (bad_looks.Read path damaged) = verbs.Get
+bad_look_verb (bad_looks.Body node damaged) = verbs.Cat
+
 -- the command that copies files (this project)
 abbrev pub copying_verb : Copying → Verb
 copying_verb (copies.Put directory files keep now trace) = verbs.Put
@@ -260,7 +268,7 @@ verb_of (invocations.RepairBad volume image copy repairing) = verbs.Repair
 verb_of (invocations.Resize volume blocks is_trial) = verbs.Resize
 verb_of (invocations.Change volume change trace) = change_verb change
 verb_of (invocations.Look volume look) = look_verb look
-verb_of (invocations.LookBad volume image look) = look_verb (whole_look look)
+verb_of (invocations.LookBad volume image look) = bad_look_verb look
 verb_of (invocations.Copy volume copying) = copying_verb copying
 verb_of (invocations.Work volume work) = work_verb work
 verb_of (invocations.Serve volume serving) = verbs.Serve
@@ -498,6 +506,7 @@ IsLookGiven given (looks.Map picture file) = IsPictureGiven given picture × (is
 IsLookGiven given looks.Uses =
     (is_set (given (codes "json")) ≡ true) × (is_set (given (codes "svg")) ≡ false) × (slice_get (given (codes "file")) 0 ≡ None)
 IsLookGiven given (looks.Check graded form) = (graded ≡ is_set (given (codes "status"))) × IsFormGiven given form
+    × IsBadImageGiven given V7 (is_set (given (codes "cut"))) None
 IsLookGiven given (looks.List path listing) = (path.now ≡ the_word given (codes "PATH")) × AreLinesGiven given listing.lines
     × IsDepthGiven given listing.depth × (is_set (given (codes "slots")) ≡ false) × (is_set (given (codes "unsound")) ≡ false)
 IsLookGiven given (looks.Slots path form) = (path.now ≡ the_word given (codes "PATH")) × (is_set (given (codes "slots")) ≡ true)
@@ -518,12 +527,25 @@ IsBadLookGiven given edition image (bad_looks.Find path name lost form) = (path.
     × IsBadImageGiven given edition (is_set (given (codes "cut"))) (Some image)
 IsBadLookGiven given edition image (bad_looks.Sums path form lost) = (path.now ≡ the_word given (codes "PATH")) × IsFormGiven given form
     × (lost ≡ is_set (given (codes "lost"))) × IsBadImageGiven given edition (is_set (given (codes "cut"))) (Some image)
+IsBadLookGiven given edition image (bad_looks.Check graded form) = (graded ≡ is_set (given (codes "status"))) × IsFormGiven given form
+    × IsBadImageGiven given edition (is_set (given (codes "cut"))) (Some image)
 IsBadLookGiven given edition image (bad_looks.Read path damaged) = IsOnePathGiven given path.now × (damaged ≡ is_set (given (codes "damaged")))
     × IsBadImageGiven given edition (is_set (given (codes "cut"))) (Some image)
+IsBadLookGiven given edition image (bad_looks.Body node damaged) = IsNodeGiven (the_word given (codes "INO")) node
+    × (damaged ≡ is_set (given (codes "damaged"))) × IsBadImageGiven given edition (is_set (given (codes "cut"))) (Some image)
+
+-- the invocation that shows the same of an image that was read whole (this project)
+abbrev pub whole_at : VolumeFile → BadLook → Invocation
+whole_at volume (bad_looks.Export path options) = invocations.Look volume (looks.Export path options)
+whole_at volume (bad_looks.Find path name lost form) = invocations.Look volume (looks.Find path name lost form)
+whole_at volume (bad_looks.Sums path form lost) = invocations.Look volume (looks.Sums path form lost)
+whole_at volume (bad_looks.Check graded form) = invocations.Look volume (looks.Check graded form)
+whole_at volume (bad_looks.Read path damaged) = invocations.Look volume (looks.ReadUnsound path)
+whole_at volume (bad_looks.Body node damaged) = invocations.Cat volume node
 
 -- the invocation that shows part of an image, of which some blocks may not have been read (this project)
 abbrev pub look_at : VolumeFile → BadLook → Option BadImage → Invocation
-look_at volume look None = invocations.Look volume (whole_look look)
+look_at volume look None = whole_at volume look
 look_at volume look (Some image) = invocations.LookBad volume image look
 
 -- the words of `put` for several files, in order (this project)
@@ -618,6 +640,7 @@ IsServingGiven given (servings.Changes is_mine rescue) = (is_set (given (codes "
 -- the words describe this invocation (this project)
 abbrev pub IsGiven : Option ℕ → Words → Invocation → Type 0
 IsGiven clock given (invocations.Cat volume node) = IsVolumeGiven given volume × IsNodeGiven (the_word given (codes "INO")) node
+    × IsBadImageGiven given V7 (is_set (given (codes "cut"))) None
 IsGiven clock given (invocations.Mkfs place volume) = IsNewPlaceGiven given place × IsNewVolumeGiven clock given volume
 IsGiven clock given (invocations.Migrate old at new migration) = (old.now ≡ the_word given (codes "OLD"))
     × IsMadeGiven given (codes "NEW") new × IsMigrationGiven clock given migration × IsAtGiven given at

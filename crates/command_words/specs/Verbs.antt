@@ -98,7 +98,7 @@ with_bad more =
 
 -- the row of a command: its name, and its words in order (this project)
 abbrev pub row_of : Verb → List ℕ × List Argument
-row_of verbs.Cat = (codes "cat", on_volume (node ∷ []))
+row_of verbs.Cat = (codes "cat", on_volume (node ∷ option (codes "cut") ∷ with_bad (option (codes "damaged") ∷ [])))
 row_of verbs.Ls = (
   codes "ls",
   on_volume (maybe_path ∷ lettered (codes "long") 108 ∷ lettered (codes "recursive") 82
@@ -126,7 +126,7 @@ row_of verbs.Dump = (codes "dump", on_volume ((codes "BLOCK", kinds.Place, needs
 row_of verbs.Diff = (codes "diff", on_volume (word (codes "OTHER") ∷ option (codes "times") ∷ option (codes "fields") ∷ option (codes "all") ∷ option (codes "json") ∷ []))
 row_of verbs.Df = (codes "df", on_volume (option (codes "json") ∷ []))
 row_of verbs.Map = (codes "map", on_volume (option (codes "svg") ∷ option (codes "json") ∷ (codes "file", kinds.Text, needs.Value None values.Path) ∷ []))
-row_of verbs.Check = (codes "check", on_volume (option (codes "status") ∷ option (codes "json") ∷ []))
+row_of verbs.Check = (codes "check", on_volume (option (codes "status") ∷ option (codes "cut") ∷ with_bad (option (codes "json") ∷ [])))
 row_of verbs.Icheck = (codes "icheck", of_checker)
 row_of verbs.Dcheck = (codes "dcheck", of_checker)
 row_of verbs.Ncheck = (codes "ncheck", of_checker)

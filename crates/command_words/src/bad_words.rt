@@ -1,7 +1,7 @@
 //! Reads the words about an image of which some blocks couldn't be read.
 ghost use Rattle.std.specs.Prelude.{◌≡◌, ◌∷◌, [], IfErr, IfOk};
 ghost use Rattle.command_words.specs.BadWords.{IsBadImageGiven, IsBadIfAny, IsBadWrong, IsSizesGiven, sizes_from, sizes_of, whole_file};
-ghost use Rattle.command_words.specs.Invocations.{TellsOf, look_at};
+ghost use Rattle.command_words.specs.Invocations.{TellsOf, look_at, whole_at};
 
 use crate::disks::{disk_blocks, list_default};
 use crate::fault::WordFault;
@@ -9,7 +9,7 @@ use crate::given::{Given, excluded, wrong};
 use crate::invocation::{BadImage, GivenBad, Invocation, VolumeFile};
 use crate::parameters::{Need, Parameter, ValueName, WordKind};
 use bad_maps::{ListFault, ReadRange, read_list};
-use command_terms::BadLook;
+use command_terms::{BadLook, Look};
 use line_words::{Pieces, number_in};
 use std::alloc::{AllocError, Global};
 use vol_layout::Edition;
@@ -93,11 +93,33 @@ pub(crate) fn look_at<'a>(
             image,
             look,
         },
-        None => Invocation::Look {
-            volume,
-            look: look.whole(),
-        },
+        None => whole_at(volume, look),
     }
+}
+
+/// Returns the invocation that shows the same of an image that was read whole.
+fn whole_at<'a>(volume: VolumeFile<'a>, look: BadLook<'a>) -> Invocation<'a>
+    ensures { result ≡ whole_at volume.entry look.entry }
+{
+    let look = match look {
+        BadLook::Export { path, options } => Look::Export { path, options },
+        BadLook::Find {
+            path,
+            name,
+            lost,
+            form,
+        } => Look::Find {
+            path,
+            name,
+            lost,
+            form,
+        },
+        BadLook::Sums { path, form, lost } => Look::Sums { path, form, lost },
+        BadLook::Check { graded, form } => Look::Check { graded, form },
+        BadLook::Read { path, .. } => Look::ReadUnsound { path },
+        BadLook::Body { node, .. } => return Invocation::Cat { volume, node },
+    };
+    Invocation::Look { volume, look }
 }
 
 /// Returns the range of all bytes that a file can have.

@@ -1,11 +1,13 @@
 -- The end of a command that shows part of an image of which some blocks couldn't be read.
-use Rattle.std.proofs.Common.{◌≡◌, ◌≤◌, ℕ, Bool, true, false, List, [], ◌∷◌, Option, inl, inr, arith}
+use Rattle.std.proofs.Common.{◌≡◌, ◌≤◌, ℕ, Bool, true, false, List, [], ◌∷◌, Option, inl, inr, arith, subst, sym}
 use Rattle.std.specs.Prelude.{option_map}
+use Rattle.std.specs.Result.{is_ok}
 use Rattle.bad_maps.specs.declared.maps.ReadRange.{ReadRange}
 use Rattle.command_faults.specs.Faults.{no_memory}
 use Rattle.command_faults.specs.Streams.{Streams}
-use Rattle.command_reads.specs.BadFiles.{get_sights}
+use Rattle.command_reads.specs.BadFiles.{cat_sights, get_sights}
 use Rattle.command_reads.specs.BadLooks.{LooksBad, LooksRescued, ShowsRescued, TellsUnrescued}
+use Rattle.command_reads.specs.Check.{check_sights, verdict_status}
 use Rattle.command_reads.specs.Export.{begun, told_status}
 use Rattle.command_reads.specs.Find.{found_sights}
 use Rattle.command_reads.specs.Losses.{TellsIncomplete, is_graded}
@@ -18,6 +20,7 @@ use Rattle.command_terms.specs.declared.bad_looks.BadLook.TheVariants as bad_loo
 use Rattle.command_words.specs.declared.invocation.BadImage.{BadImage}
 use Rattle.command_words.specs.declared.invocation.VolumeFile.{VolumeFile}
 use Rattle.host_files.specs.declared.image_file.Stamp.{Stamp}
+use Rattle.vol_layout.specs.Geometry.{geometry_read}
 use Rattle.vol_layout.specs.declared.edition.Edition.{Edition}
 use Rattle.vol_listing.specs.declared.options.Screen.{Screen}
 use Rattle.vol_losses.specs.declared.given_sizes.VolumeSizes.{VolumeSizes}
@@ -43,6 +46,13 @@ unreached_few : (orphans : Bool) (edition : Edition) (image : List ℕ) (lost : 
 unreached_few orphans edition image lost path text wanted lines (why, begins, told, none, is) =
     (omega (arith, is), λ e. absurd (omega (arith, is, e)))
 
+-- the status of a check is at most 6
+verdict_six : (graded measured sound : Bool) → verdict_status graded measured sound ≤ 6
+verdict_six graded measured true = omega arith
+verdict_six true true false = omega arith
+verdict_six true false false = omega arith
+verdict_six false measured false = omega arith
+
 ends_rescued : (edition : Edition) (image : List ℕ) (lost : List Bool) (screen : Screen) (streams : Streams) (status : ℕ) (look : BadLook)
     → ShowsRescued edition image lost screen streams status look → IsEndWithin 6 streams status
 ends_rescued edition image lost screen streams status (bad_looks.Export path options) shows =
@@ -64,10 +74,26 @@ ends_rescued edition image lost screen streams status (bad_looks.Sums path form 
           lines_few 6 (told_status graded summed.0.short) wanted lines told.0 told.1 summed.1
       | inr unreached ↦ unreached_few orphans edition image lost path.now text wanted lines unreached
     ]) shows
+ends_rescued edition image [] screen streams status (bad_looks.Check graded form) shows =
+    ends_shows 6 (check_sights edition image [] graded form) streams status (omega arith)
+    (λ text wanted lines is. (subst (λ n. n ≤ 6) (sym is.0.2) (verdict_six graded (is_ok (geometry_read edition image)) is.0.0), λ e. is.1)) shows
+ends_rescued edition image (mark ∷ lost) screen streams status (bad_looks.Check graded form) shows =
+    ends_shows 6 (check_sights edition image (mark ∷ lost) graded form) streams status (omega arith)
+    (λ text wanted lines is. (subst (λ n. n ≤ 6) (sym is.0.3) (verdict_six graded (is_ok (geometry_read edition image)) false), λ e. is.1)) shows
 ends_rescued edition image [] screen streams status (bad_looks.Read path damaged) shows =
     ends_shows 6 (get_sights edition image [] path.now damaged) streams status (omega arith) (λ text wanted lines is. lines_few 6 1 wanted lines (omega arith) (omega arith) is.1) shows
 ends_rescued edition image (mark ∷ lost) screen streams status (bad_looks.Read path damaged) shows =
     ends_shows 6 (get_sights edition image (mark ∷ lost) path.now damaged) streams status (omega arith)
+    (λ text wanted lines is. elim is [
+      | inl known ↦
+          let told = told_few true known.0.short in
+          lines_few 6 (told_status true known.0.short) wanted lines told.0 told.1 known.1
+      | inr (why, found, way, none, five) ↦ (omega (arith, five), λ e. absurd (omega (arith, five, e)))
+    ]) shows
+ends_rescued edition image [] screen streams status (bad_looks.Body node damaged) shows =
+    ends_shows 6 (cat_sights edition image [] node damaged) streams status (omega arith) (λ text wanted lines is. (omega (arith, is.0.1), λ e. is.1)) shows
+ends_rescued edition image (mark ∷ lost) screen streams status (bad_looks.Body node damaged) shows =
+    ends_shows 6 (cat_sights edition image (mark ∷ lost) node damaged) streams status (omega arith)
     (λ text wanted lines is. elim is [
       | inl known ↦
           let told = told_few true known.0.short in

@@ -41,7 +41,7 @@ pub fn run_to_end<R: ImageFiles + Eprint + AllocGlobal, O: Write + Drop, E: Writ
     let mut errors = IntoWrite::new(errors);
     let mut output = noted_writer(output);
     let ended = run(host.rt, screen, &mut output, volume, image, look);
-    let subject = Subject::of_look(volume, look.whole());
+    let subject = Subject::of_bad_look(volume, look);
     let status = tell_end(host, &mut errors, &ended, output.error(), Some(subject));
     ExitCode::from(finish_printed(host, output.into_inner().into_inner(), status))
 }

@@ -1,7 +1,7 @@
 //! The subjects of commands.
 
 use command_line::{Copying, Invocation, NewPlace, VolumeFile, Work};
-use command_terms::{Change, DumpTarget, Look, NodeName};
+use command_terms::{BadLook, Change, DumpTarget, Look, NodeName};
 use command_words::Verb;
 use vol_check::Checker;
 use vol_layout::Edition;
@@ -135,6 +135,19 @@ impl<'a> Subject<'a> {
                 About::Path(path),
             ),
             Look::ReadUnsound { path } => (Verb::Get, About::Path(path)),
+        };
+        Subject::new(volume, verb, about)
+    }
+
+    /// Returns the subject of a command that shows part of the image in a file, of which some blocks couldn't be read.
+    pub fn of_bad_look(volume: VolumeFile<'a>, look: BadLook<'a>) -> Subject<'a> {
+        let (verb, about) = match look {
+            BadLook::Export { path, .. } => (Verb::Export, About::Path(path)),
+            BadLook::Find { path, .. } => (Verb::Find, About::Path(path)),
+            BadLook::Sums { path, .. } => (Verb::Sums, About::Path(path)),
+            BadLook::Check { .. } => (Verb::Check, About::Image),
+            BadLook::Read { path, .. } => (Verb::Get, About::Path(path)),
+            BadLook::Body { node, .. } => (Verb::Cat, about_node(node)),
         };
         Subject::new(volume, verb, about)
     }

@@ -134,7 +134,9 @@ abbrev pub IsExportOf : List ℕ → ExportOptions → BadLook → Type 0
 IsExportOf path options (bad_looks.Export word chosen) = (word.now ≡ path) × (chosen ≡ options)
 IsExportOf path options (bad_looks.Find word name lost form) = ⊥
 IsExportOf path options (bad_looks.Sums word form lost) = ⊥
+IsExportOf path options (bad_looks.Check graded form) = ⊥
 IsExportOf path options (bad_looks.Read word damaged) = ⊥
+IsExportOf path options (bad_looks.Body node damaged) = ⊥
 
 -- an image with lost blocks is exported: those that it is too short for, or those that a map says weren't read (this project)
 abbrev pub RescuesAs : Edition → List ℕ → RescueView → List ℕ → List ℕ → Streams → ℕ → Type 0

@@ -24,7 +24,7 @@ use Rattle.vol_findings.specs.Outcomes.{Says, outcome_of, IsTwiceUnasked, TellsV
 use Rattle.vol_judge.specs.declared.finding.Finding.{Finding}
 use Rattle.vol_judge.specs.declared.finding.Finding.TheVariants.{TooShort, BadSizes}
 use Rattle.vol_findings.specs.declared.outcome.RuleOutcome.{RuleOutcome}
-use Rattle.vol_findings.specs.declared.outcome.RuleOutcome.TheVariants.{Holds, Broken, NotAsked}
+use Rattle.vol_findings.specs.declared.outcome.RuleOutcome.TheVariants.{Holds, Broken, NotAsked, Lost, Unbroken}
 use Rattle.vol_findings.specs.declared.outcome.RuleOutcomes.{RuleOutcomes}
 
 -- the result of a search for the first violation gives the right outcome if there is no reason not to check the rule
@@ -44,6 +44,8 @@ said_for : (rule : Type 0) (first : Finding → Type 0) (reason other : Type 0) 
 said_for rule first reason other Holds from back says = (says.0, λ there. says.1 (back there))
 said_for rule first reason other (Broken finding) from back says = (says.0, says.1, λ there. says.2 (back there))
 said_for rule first reason other NotAsked from back says = from says
+said_for rule first reason other (Lost count number) from back says = elim says [ ]
+said_for rule first reason other Unbroken from back says = elim says [ ]
 
 -- if `one` implies `other`, then `one` or `second` implies `other` or `second`
 first_for : (one other second : Type 0) → (one → other) → one ⊎ second → other ⊎ second

@@ -22,7 +22,7 @@ use Rattle.vol_judge.specs.RuleTexts.{rule_number}
 use Rattle.vol_judge.specs.declared.finding.Finding.{Finding}
 use Rattle.vol_judge.specs.declared.finding.Finding.TheVariants.{TooShort, BadSizes}
 use Rattle.vol_findings.specs.declared.outcome.RuleOutcome.{RuleOutcome}
-use Rattle.vol_findings.specs.declared.outcome.RuleOutcome.TheVariants.{Holds, Broken, NotAsked}
+use Rattle.vol_findings.specs.declared.outcome.RuleOutcome.TheVariants.{Holds, Broken, NotAsked, Lost, Unbroken}
 use Rattle.vol_findings.specs.declared.outcome.RuleOutcomes.{RuleOutcomes}
 use Rattle.vol_findings.specs.declared.report.RuleLine.{RuleLine}
 
@@ -34,6 +34,8 @@ first_said : (rule : Type 0) (first : Finding → Type 0) (reason : Type 0) (out
 first_said rule first reason Holds n facts answer says asked more = inr (says.0, more says.0)
 first_said rule first reason (Broken finding) n facts answer says asked more = inl (refl, says.1)
 first_said rule first reason NotAsked n facts answer says asked more = absurd (asked says)
+first_said rule first reason (Lost count number) n facts answer says asked more = elim says [ ]
+first_said rule first reason Unbroken n facts answer says asked more = elim says [ ]
 
 -- the reason not to check rule 7
 abbrev TwiceUnasked : Edition → List ℕ → Type 0

@@ -21,15 +21,17 @@ use Rattle.vol_judge.specs.declared.finding.Finding.{Finding}
 use Rattle.vol_judge.specs.declared.finding.Finding.TheVariants.{TooShort, BadSizes}
 use Rattle.vol_findings.specs.declared.blocks.BlockOutcomes.{BlockOutcomes}
 use Rattle.vol_findings.specs.declared.outcome.RuleOutcome.{RuleOutcome}
-use Rattle.vol_findings.specs.declared.outcome.RuleOutcome.TheVariants.{Holds, Broken, NotAsked}
+use Rattle.vol_findings.specs.declared.outcome.RuleOutcome.TheVariants.{Holds, Broken, NotAsked, Lost, Unbroken}
 use Rattle.vol_findings.specs.declared.outcome.RuleOutcomes.{RuleOutcomes}
 
--- an outcome is right: the rule isn't checked if and only if there is a reason not to; otherwise it holds, or the outcome has its first violation
--- (this project)
+-- an outcome for an image of which no block is lost is right: the rule isn't checked if and only if there is a reason not to; otherwise it holds, or the
+-- outcome has its first violation (this project)
 abbrev pub Says : Type 0 → (Finding → Type 0) → Type 0 → RuleOutcome → Type 0
 Says rule first reason Holds = rule × (reason → ⊥)
 Says rule first reason (Broken finding) = first finding × (rule → ⊥) × (reason → ⊥)
 Says rule first reason NotAsked = reason
+Says rule first reason (Lost count number) = ⊥
+Says rule first reason Unbroken = ⊥
 
 -- the outcome of a rule, from the result of a search for its first violation (this project)
 abbrev pub outcome_of : Option Finding → RuleOutcome

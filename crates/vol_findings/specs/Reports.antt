@@ -12,7 +12,7 @@ use Rattle.vol_layout.specs.declared.edition.Edition.TheVariants.{V6, V7}
 use Rattle.vol_findings.specs.Outcomes.{Tells}
 use Rattle.vol_findings.specs.Texts.{outcome_text}
 use Rattle.vol_findings.specs.declared.outcome.RuleOutcome.{RuleOutcome}
-use Rattle.vol_findings.specs.declared.outcome.RuleOutcome.TheVariants.{Holds, Broken, NotAsked}
+use Rattle.vol_findings.specs.declared.outcome.RuleOutcome.TheVariants.{Holds, Broken, NotAsked, Lost, Unbroken}
 use Rattle.vol_findings.specs.declared.outcome.RuleOutcomes.{RuleOutcomes}
 use Rattle.vol_findings.specs.declared.report.RuleLine.{RuleLine}
 
@@ -51,6 +51,8 @@ abbrev pub is_held : RuleOutcome → Bool
 is_held Holds = true
 is_held (Broken finding) = false
 is_held NotAsked = false
+is_held (Lost count number) = false
+is_held Unbroken = false
 
 -- true if the outcome in each line is that its rule holds (this project)
 abbrev pub are_held : List RuleLine → Bool

@@ -4,7 +4,7 @@ use Rattle.vol_free.specs.FreeWalk.{fault_word}
 use Rattle.vol_judge.specs.declared.finding.Finding.{Finding}
 use Rattle.vol_judge.specs.declared.finding.Finding.TheVariants as findings
 use Rattle.vol_findings.specs.declared.outcome.RuleOutcome.{RuleOutcome}
-use Rattle.vol_findings.specs.declared.outcome.RuleOutcome.TheVariants.{Holds, Broken, NotAsked}
+use Rattle.vol_findings.specs.declared.outcome.RuleOutcome.TheVariants.{Holds, Broken, NotAsked, Lost, Unbroken}
 use Rattle.vol_findings.specs.declared.texts.Spot.{Spot}
 use Rattle.vol_findings.specs.declared.texts.Spot.TheVariants as spots
 
@@ -75,8 +75,15 @@ spot_text (spots.Slot d s) = codes ": directory " ++ (decimal d ++ (codes ", slo
 spot_text (spots.Links i entries links) =
     codes ": i-node " ++ (decimal i ++ (codes ", entries " ++ (decimal entries ++ (codes ", links " ++ decimal links))))
 
--- the text of an outcome: that the rule holds; its violation, with the position; or that the rule isn't checked (this project)
+-- the text of a number of lost blocks, and the first of them (this project)
+unfoldable pub lost_text : ℕ → ℕ → List ℕ
+lost_text count first = decimal count ++ (codes " blocks are lost, the first is " ++ decimal first)
+
+-- the text of an outcome: that the rule holds; its violation, with the position; that the rule isn't checked; that blocks are lost; or that what is left
+-- doesn't break the rule (this project)
 abbrev pub outcome_text : RuleOutcome → List ℕ
 outcome_text Holds = codes "holds"
 outcome_text (Broken finding) = words_of finding ++ spot_text (spot_of finding)
 outcome_text NotAsked = codes "not asked"
+outcome_text (Lost count first) = lost_text count first
+outcome_text Unbroken = codes "not broken by what is left"

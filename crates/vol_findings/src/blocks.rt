@@ -90,7 +90,7 @@ fn check_files(
 {
     match zoned {
         RuleOutcome::Holds => RuleOutcome::of(find_twice(image, geometry, named)),
-        RuleOutcome::Broken(_) | RuleOutcome::NotAsked => RuleOutcome::NotAsked,
+        _ => RuleOutcome::NotAsked,
     }
 }
 
@@ -108,7 +108,7 @@ fn check_apart(files: RuleOutcome, list: Result<FreeStack, Finding>) -> RuleOutc
             Ok(stack) => RuleOutcome::of(stack.named),
             Err(_) => RuleOutcome::NotAsked,
         },
-        RuleOutcome::Broken(_) | RuleOutcome::NotAsked => files,
+        _ => files,
     }
 }
 

@@ -24,8 +24,12 @@ pub enum RuleOutcome {
     Holds,
     /// The rule doesn't hold; this is its first violation.
     Broken(Finding),
-    /// The rule isn't checked, because a rule that it needs doesn't hold.
+    /// The rule isn't checked, because a rule that it needs doesn't hold, or because of what is lost.
     NotAsked,
+    /// Rule 1 doesn't hold, since blocks are lost: how many, and the first.
+    Lost(usize, usize),
+    /// What is left of an image with lost blocks doesn't break the rule.
+    Unbroken,
 }
 
 /// The outcomes of the twelve rules, in order.
@@ -179,7 +183,7 @@ fn ups_of(
 {
     match entries {
         RuleOutcome::Holds => find_ups(alloc, image, geometry),
-        RuleOutcome::Broken(_) | RuleOutcome::NotAsked => {
+        _ => {
             let numbers = vec![in alloc; None; geometry.last_inode as usize + 1]?;
             Ok(Ups {
                 numbers,
@@ -205,6 +209,6 @@ fn check_dots(
 {
     match entries {
         RuleOutcome::Holds => RuleOutcome::of(find_dots(image, geometry, ups, parents)),
-        RuleOutcome::Broken(_) | RuleOutcome::NotAsked => RuleOutcome::NotAsked,
+        _ => RuleOutcome::NotAsked,
     }
 }

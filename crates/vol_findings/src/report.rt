@@ -47,14 +47,27 @@ pub fn make_report(alloc: Global, edition: Edition, image: &Image) -> Result<Rul
     ensures { IfOk result (λ report. IsReport edition image.now (string_bytes report.text) report.is_sound) }
 {
     let found = check_rules(alloc, edition, image)?;
-    let lines = lines_of(&found);
+    let text = report_text(alloc, edition, image, &found)?;
+    Ok(RuleReport {
+        text,
+        is_sound: are_held(&lines_of(&found)),
+    })
+}
+
+/// Returns the text of the report with these outcomes.
+pub fn report_text(
+    alloc: Global,
+    edition: Edition,
+    image: &Image,
+    found: &RuleOutcomes,
+) -> Result<String, AllocError>
+    ensures { IfOk result (λ text. string_bytes text ≡ report_text edition image.now found.now) }
+{
+    let lines = lines_of(found);
     let mut text = String::new(alloc);
     push_lines(&mut text, &lines)?;
     push_note(&mut text, edition, image)?;
-    Ok(RuleReport {
-        text,
-        is_sound: are_held(&lines),
-    })
+    Ok(text)
 }
 
 /// Returns the rules in order, each with its outcome.

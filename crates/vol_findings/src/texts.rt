@@ -61,6 +61,10 @@ impl fmt::Display for RuleOutcome {
                 write!(f, "{words}{spot}")
             }
             RuleOutcome::NotAsked => write!(f, "not asked"),
+            RuleOutcome::Lost(count, first) => {
+                write!(f, "{count} blocks are lost, the first is {first}")
+            }
+            RuleOutcome::Unbroken => write!(f, "not broken by what is left"),
         }
     }
 }

@@ -1,3 +1,5 @@
 pub mod KeptEntries
+pub mod KnownEntries
+pub mod KnownFindings
 pub mod RightMembers
 pub mod RightPaths

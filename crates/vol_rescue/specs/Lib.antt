@@ -1,4 +1,5 @@
 pub mod Damage
+pub mod KnownOutcomes
 pub mod Laws
 pub mod Lines
 pub mod Repaired

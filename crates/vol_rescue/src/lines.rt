@@ -1,5 +1,6 @@
 //! The lines about an image with lost blocks.
 ghost use Rattle.std.specs.Prelude.{◌≡◌, ◌+◌, ◌-◌, ◌*◌, ◌<◌, ◌≤◌, ◌^◌, ◌++◌, IfOk, OnOk, codes, string_bytes};
+ghost use Rattle.std.specs.List.{count_by};
 ghost use Rattle.vol_layout.specs.Edition.{constants};
 ghost use Rattle.vol_layout.specs.Geometry.{Fits};
 ghost use Rattle.vol_rescue.specs.Lines.{AddsEntry, AreEntryLines, IsEntryLine, NamesLosses, TellsLosses, TellsNamed, blocks_line, inode_lines, inode_text, inodes_line, lost_inodes_line, named_line, reason_text, role_line, top_entry};
@@ -75,9 +76,16 @@ pub fn tell_named(
 fn blocks_line(alloc: Global, lost: &[bool]) -> Result<String, AllocError>
     ensures { IfOk result (λ line. string_bytes line ≡ blocks_line lost.now) }
 {
-    let count = lost.iter().filter(|mark| **mark).count();
+    let count = lost_count(lost);
     let blocks = lost.len();
     format!(in alloc; "unixvol: {count} of {blocks} blocks are lost\n")
+}
+
+/// Returns the number of lost blocks.
+pub(crate) fn lost_count(lost: &[bool]) -> usize
+    ensures { result ≡ count_by (λ mark. mark) lost.now }
+{
+    lost.iter().filter(|mark| **mark).count()
 }
 
 /// Returns a line for each block of i-nodes that is lost.

@@ -1,27 +1,29 @@
-use Rattle.std.proofs.Common.{ℕ, List, [], Option, inl, inr, refl, subst}
+use Rattle.std.proofs.Common.{◌≡◌, ℕ, List, [], Option, Err, inl, inr, refl, subst}
 use Rattle.std.proofs.KnownBytes.{Appends-nil, Keeps-refl}
 use Rattle.command_faults.specs.Faults.{line_after}
 use Rattle.command_faults.specs.Streams.{Streams, streams}
 use Rattle.command_faults.specs.declared.fault.Fault.{Fault}
-use Rattle.command_reads.specs.BadFiles.{file_sights}
-use Rattle.command_reads.specs.Print.{IsSight}
+use Rattle.command_reads.specs.BadFiles.{IsOpened, file_sights, place_of}
+use Rattle.command_reads.specs.Node.{number_of}
 use Rattle.command_reads.proofs.KnownFiles.{file_unreached, hidden, known_file, visible}
 use Rattle.command_reads.proofs.Printed.{showing, told_only}
 use Rattle.command_reads.proofs.bad_files.read_known.Goals as goal
 
 pub returns-in-Err : goal.returns-in-Err
-returns-in-Err g c errors hears =
+returns-in-Err g c opened errors is hears =
     let edition = c.args.edition in
     let image = c.args.image.now in
     let lost = c.args.lost.now in
+    let place = place_of c.args.node in
+    let number = number_of c.args.edition c.args.image.now c.args.node in
     let both : Streams = streams g.O.Sink.contents g.O.Sink.failed c.args.output.now c.print.new.output errors in
-    showing (file_sights edition image lost c.args.path.now c.args.damaged) both _ _ _ refl
-    (subst (λ (path : List ℕ). IsSight (file_sights edition image lost path c.args.damaged) c.unreached-shown.result) c.as_bytes.ensures.value
-    (file_unreached edition image lost c.as_bytes.result.now c.args.damaged c.unreached-shown.result c.unreached-shown.ensures.shown c.unreached-shown.ensures.fault))
-    (c.print.ensures.printed errors hears) (c.print.ensures.told errors hears)
+    let unopened = subst (IsOpened number opened) c.in-Err.is is in
+    showing (file_sights edition image lost place number opened c.args.damaged) both _ _ _ refl
+    (file_unreached edition image lost place number opened c.args.damaged c.unreached-shown.result (c.unreached-shown.ensures.shown opened unopened)
+    (c.unreached-shown.ensures.fault opened unopened)) (c.print.ensures.printed errors hears) (c.print.ensures.told errors hears)
 
 pub returns-in-Err-remarks_on : goal.returns-in-Err-remarks_on
-returns-in-Err-remarks_on g c errors hears =
+returns-in-Err-remarks_on g c opened errors is hears =
     inr (
       _,
       inl refl,
@@ -30,15 +32,15 @@ returns-in-Err-remarks_on g c errors hears =
     )
 
 pub returns-then-not-is_shown : goal.returns-then-not-is_shown
-returns-then-not-is_shown g c errors hears =
+returns-then-not-is_shown g c opened errors is hears =
     let both : Streams = streams g.O.Sink.contents g.O.Sink.failed c.args.output.now c.args.output.now errors in
     let remarks = c.in-Ok-remarks_on.remarks in
     inl (
       [],
       c.ending_with.result.status,
       remarks.lines.items,
-      known_file c.args.edition c.args.image.now c.args.lost.now c.args.path.now c.as_bytes-2.result.now c.args.damaged c.is_shown.result c.in-Ok.file.geometry
-          c.in-Ok.file.inode [] remarks.lines.items remarks.is_short c.ending_with.result.status c.in-Ok.ensures.found c.as_bytes-2.ensures.value c.is_shown.ensures
+      known_file c.args.edition c.args.image.now c.args.lost.now (place_of c.args.node) (number_of c.args.edition c.args.image.now c.args.node) opened c.args.damaged
+          c.is_shown.result c.args.found c.in-Ok.file [] remarks.lines.items remarks.is_short c.ending_with.result.status is c.in-Ok.is c.is_shown.ensures
           (hidden c.is_shown.result _ c.if-not-is_shown.true) c.in-Ok-remarks_on.ensures c.ending_with.ensures.status,
       inl (record {
         status = refl;
@@ -49,15 +51,15 @@ returns-then-not-is_shown g c errors hears =
     )
 
 pub returns-in-Ok-show : goal.returns-in-Ok-show
-returns-in-Ok-show g c errors hears =
+returns-in-Ok-show g c opened errors is hears =
     let both : Streams = streams g.O.Sink.contents g.O.Sink.failed c.args.output.now c.show.new.writer errors in
     let remarks = c.in-Ok-remarks_on.remarks in
     inl (
       _,
       c.ending_with-in-Ok-show.result.status,
       remarks.lines.items,
-      known_file c.args.edition c.args.image.now c.args.lost.now c.args.path.now c.as_bytes-2.result.now c.args.damaged c.is_shown.result c.in-Ok.file.geometry
-          c.in-Ok.file.inode _ remarks.lines.items remarks.is_short c.ending_with-in-Ok-show.result.status c.in-Ok.ensures.found c.as_bytes-2.ensures.value c.is_shown.ensures
+      known_file c.args.edition c.args.image.now c.args.lost.now (place_of c.args.node) (number_of c.args.edition c.args.image.now c.args.node) opened c.args.damaged
+          c.is_shown.result c.args.found c.in-Ok.file _ remarks.lines.items remarks.is_short c.ending_with-in-Ok-show.result.status is c.in-Ok.is c.is_shown.ensures
           (visible c.is_shown.result _ c.if-not-is_shown.false) c.in-Ok-remarks_on.ensures c.ending_with-in-Ok-show.ensures.status,
       inl (record {
         status = refl;
@@ -68,15 +70,15 @@ returns-in-Ok-show g c errors hears =
     )
 
 pub returns-in-Err-show : goal.returns-in-Err-show
-returns-in-Err-show g c errors hears =
+returns-in-Err-show g c opened errors is hears =
     let both : Streams = streams g.O.Sink.contents g.O.Sink.failed c.args.output.now c.show.new.writer errors in
     let remarks = c.in-Ok-remarks_on.remarks in
     inl (
       _,
       _,
       remarks.lines.items,
-      known_file c.args.edition c.args.image.now c.args.lost.now c.args.path.now c.as_bytes-2.result.now c.args.damaged c.is_shown.result c.in-Ok.file.geometry
-          c.in-Ok.file.inode _ remarks.lines.items remarks.is_short _ c.in-Ok.ensures.found c.as_bytes-2.ensures.value c.is_shown.ensures
+      known_file c.args.edition c.args.image.now c.args.lost.now (place_of c.args.node) (number_of c.args.edition c.args.image.now c.args.node) opened c.args.damaged
+          c.is_shown.result c.args.found c.in-Ok.file _ remarks.lines.items remarks.is_short _ is c.in-Ok.is c.is_shown.ensures
           (visible c.is_shown.result _ c.if-not-is_shown.false) c.in-Ok-remarks_on.ensures refl,
       inr (record {
         status = c.from-in-Err-show.ensures.0;

@@ -1,6 +1,6 @@
 //! Makes the change that the command line requests.
 ghost use Rattle.command_faults.specs.Outcomes.{IsAmong, Concludes};
-ghost use Rattle.command_faults.specs.Streams.{heard, streams};
+ghost use Rattle.command_faults.specs.Streams.{Hears, heard, streams};
 ghost use Rattle.command_changes.specs.Changes.{changed};
 
 use crate::boot::boot;
@@ -36,8 +36,9 @@ pub fn do_change<O: Sink, E: Sink>(
     _output: &mut O,
     errors: &mut E,
 ) -> Answer
-    ensures { Concludes (changed edition image.items given change.entry trace)
-        (streams O.contents O.failed _output.old _output.new (heard E.contents E.failed errors.old errors.new)) result }
+    ensures outcome { Concludes (changed edition image.items given change.entry trace)
+        (streams O.contents O.failed _output.old _output.new result.fault) result }
+    ensures told { Hears (heard E.contents E.failed errors.old errors.new) result.fault }
 {
     let answer = conclude(perform(alloc, edition, image, given, change, trace));
     tell(&answer.fault, errors);

@@ -1,7 +1,7 @@
 //! `migrate` turns the volume in an image of the sixth edition into one of the seventh, and returns the bytes to save.
 ghost use Rattle.std.specs.Prelude.{◌≡◌, IfOk, IfErr};
 ghost use Rattle.command_faults.specs.Outcomes.{Concludes};
-ghost use Rattle.command_faults.specs.Streams.{heard, streams};
+ghost use Rattle.command_faults.specs.Streams.{Hears, heard, streams};
 ghost use Rattle.command_changes.specs.Migrate.{IsObstacle, Migrates, of_migration, unmigrated};
 
 use command_faults::answer::{conclude, tell, unremarked};
@@ -22,8 +22,9 @@ pub fn migrate_command<O: Sink, E: Sink>(
     _output: &mut O,
     errors: &mut E,
 ) -> Answer
-    ensures { Concludes (of_migration image.items migration)
-        (streams O.contents O.failed _output.old _output.new (heard E.contents E.failed errors.old errors.new)) result }
+    ensures outcome { Concludes (of_migration image.items migration)
+        (streams O.contents O.failed _output.old _output.new result.fault) result }
+    ensures told { Hears (heard E.contents E.failed errors.old errors.new) result.fault }
 {
     let answer = conclude(unremarked(alloc, migrate_image(alloc, image, migration)));
     tell(&answer.fault, errors);

@@ -8,7 +8,7 @@ ghost use Rattle.vol_import.specs.Make.{IsReason as IsStopped, told};
 ghost use Rattle.vol_import.specs.Plan.{Tells};
 ghost use Rattle.command_faults.specs.ChangeFaults.{IsReason};
 ghost use Rattle.command_faults.specs.Outcomes.{Concludes, IsAmong};
-ghost use Rattle.command_faults.specs.Streams.{heard, streams};
+ghost use Rattle.command_faults.specs.Streams.{Hears, heard, streams};
 ghost use Rattle.command_changes.specs.Import.{IsUnimported, of_import};
 ghost use Rattle.command_changes.specs.Put.{calls_to_put, emptying_by, kept_calls, onto, permissions_of, put_calls, put_onto, target_by, with_execution};
 ghost use Rattle.command_changes.specs.Traced.{ImportsVolume, MakesVolume};
@@ -108,8 +108,9 @@ pub fn put_all<O: Sink, E: Sink>(
     _output: &mut O,
     errors: &mut E,
 ) -> Answer
-    ensures { Concludes (of_import edition image.items (told (calls_to_put (reads_as edition image.items).tree now directory.now files.entry.items)) trace)
-        (streams O.contents O.failed _output.old _output.new (heard E.contents E.failed errors.old errors.new)) result }
+    ensures outcome { Concludes (of_import edition image.items (told (calls_to_put (reads_as edition image.items).tree now directory.now files.entry.items)) trace)
+        (streams O.contents O.failed _output.old _output.new result.fault) result }
+    ensures told { Hears (heard E.contents E.failed errors.old errors.new) result.fault }
 {
     let answer = conclude(put_files(alloc, edition, image, directory, files, now, trace));
     tell(&answer.fault, errors);

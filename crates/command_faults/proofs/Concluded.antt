@@ -1,10 +1,10 @@
 -- The answer of a command, from its outcome.
-use Rattle.std.proofs.Common.{◌≡◌, ◌∙◌, ◌⊎◌, ℕ, List, [], Option, Some, None, Result, Ok, Err, IfOk, IfErr, IsSome, true≢false, inl, inr, ◌≤◌, refl, sym, subst, arith}
+use Rattle.std.proofs.Common.{◌≡◌, ◌∙◌, ◌⊎◌, ℕ, Bool, List, [], Option, Some, None, Result, Ok, Err, IfOk, IfErr, IsSome, true≢false, inl, inr, ◌≤◌, ap, refl, sym, subst, arith}
 use Rattle.std.specs.Global.{Vec}
-use Rattle.std.specs.Io.KnownBytes.{Keeps}
+use Rattle.std.proofs.KnownBytes.{Keeps-refl}
 use Rattle.command_faults.specs.Faults.{fault_status, line_after, refusal_status}
 use Rattle.command_faults.specs.Outcomes.{IsAmong, IsUnremarked, Outcomes, Concludes, untraced}
-use Rattle.command_faults.specs.Streams.{Streams}
+use Rattle.command_faults.specs.Streams.{still}
 use Rattle.command_faults.specs.declared.answer.Answer.{Answer}
 use Rattle.command_faults.specs.declared.answer.Remarked.{Remarked}
 use Rattle.command_faults.specs.declared.fault.Fault.{Fault}
@@ -50,25 +50,26 @@ fault_few (faults.Worded rule lines) = (omega arith, omega arith)
 fault_few faults.Output = (omega arith, omega arith)
 
 -- if an outcome is one of the possible ones, its answer and its lines tell one of them
-pub concluded : (outcomes : Outcomes) (streams : Streams) (outcome : Result Remarked Fault) (answer : Answer) → IsAmong outcomes outcome
+pub concluded : (outcomes : Outcomes) (known : Option (List ℕ)) (failed : Bool) (told : Option Fault) (outcome : Result Remarked Fault) (answer : Answer)
+    → IsAmong outcomes outcome
     → IfOk outcome (λ made. (answer.image ≡ Some made.bytes) × (answer.status ≡ 0) × (line_after answer.fault ≡ made.lines.items) × (answer.trace ≡ made.trace))
     → IfErr outcome (λ fault. (answer.image ≡ None) × (answer.status ≡ fault_status fault) × (answer.fault ≡ Some fault) × (answer.trace ≡ None))
-    → streams.said (line_after answer.fault) → Keeps streams.old streams.new → streams.failed ≡ streams.had_failed → Concludes outcomes streams answer
-concluded outcomes streams (Ok made) answer among ok err said unprinted unused = record {
+    → told ≡ answer.fault → Concludes outcomes (still known failed told) answer
+concluded outcomes known failed told (Ok made) answer among ok err same = record {
   saved = (λ e. rw ok.0 refl, λ some. ok.1);
-  made = rw ok.0 (subst (outcomes.saves made.bytes.items) (sym ok.3) among.0, subst streams.said (ok.2 ∙ among.1) said);
+  made = rw ok.0 (subst (outcomes.saves made.bytes.items) (sym ok.3) among.0, ap line_after same ∙ ok.2 ∙ among.1);
   refused = λ none. absurd (true≢false (rw ok.0 at none));
   untraced = λ none. absurd (true≢false (rw ok.0 at none));
-  unprinted = unprinted;
-  unused = unused;
+  unprinted = Keeps-refl known;
+  unused = refl;
 }
-concluded outcomes streams (Err fault) answer among ok err said unprinted unused = record {
+concluded outcomes known failed told (Err fault) answer among ok err same = record {
   saved = (λ e. let few = fault_few fault in let is = err.1 in absurd (omega (arith, few.0, is, e)), λ some. absurd (true≢false (sym (subst IsSome err.0 some))));
   made = rw err.0 tt;
-  refused = λ _. (fault, among, err.1, subst (λ (fault : Option Fault). streams.said (line_after fault)) err.2 said);
+  refused = λ _. (fault, among, err.1, ap line_after (same ∙ err.2));
   untraced = λ _. err.3;
-  unprinted = unprinted;
-  unused = unused;
+  unprinted = Keeps-refl known;
+  unused = refl;
 }
 
 -- bytes without a trace and without lines that are made as required, or a reason, are one of the possible outcomes

@@ -12,7 +12,6 @@ use Rattle.vol_dir.specs.declared.refusal.Refusal.{Refusal}
 use Rattle.vol_layout.specs.declared.edition.Edition.{Edition}
 use Rattle.vol_layout.specs.declared.geometry.Geometry.{Geometry}
 use Rattle.vol_volume.specs.declared.calls.Call.{Call}
-use Rattle.vol_volume.specs.declared.calls.Call.TheVariants as calls
 use Rattle.vol_volume.specs.declared.calls.Done.{Done}
 use Rattle.vol_volume.specs.declared.calls.Record.{Record}
 use Rattle.command_faults.specs.declared.fault.Fault.{Fault}

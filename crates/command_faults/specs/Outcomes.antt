@@ -35,8 +35,8 @@ IsUnremarked (Err fault) (Err told) = told ≡ fault
 -- the status and the line of a fault. Nothing is printed on standard output yet (this project)
 pub record Concludes (outcomes : Outcomes) (streams : Streams) (answer : Answer) : Type 0 where
   pub saved : answer.status ≡ 0 ↔ IsSome answer.image
-  pub made : IfSome answer.image (λ bytes. outcomes.saves bytes.items answer.trace × streams.said outcomes.lines)
-  pub refused : IsNone answer.image → (fault : Fault) × outcomes.fails fault × (answer.status ≡ fault_status fault) × streams.said (fault_line fault)
+  pub made : IfSome answer.image (λ bytes. outcomes.saves bytes.items answer.trace × (streams.lines ≡ outcomes.lines))
+  pub refused : IsNone answer.image → (fault : Fault) × outcomes.fails fault × (answer.status ≡ fault_status fault) × (streams.lines ≡ fault_line fault)
   pub untraced : IsNone answer.image → answer.trace ≡ None
   pub unprinted : Keeps streams.old streams.new
   pub unused : streams.failed ≡ streams.had_failed

@@ -1,5 +1,5 @@
 -- The result of printing a text.
-use Rattle.std.proofs.Common.{◌≡◌, ℕ, List, [], Option, None, Some, Result, Ok, Err, IfOk, IfErr, inl, inr, refl, subst, sym}
+use Rattle.std.proofs.Common.{◌≡◌, ◌∙◌, ℕ, Bool, List, [], Option, None, Some, Result, Ok, Err, IfOk, IfErr, inl, inr, refl, ap, subst, sym}
 use Rattle.std.specs.Prelude.{OnOk, String}
 use Rattle.std.specs.Global.{Vec}
 use Rattle.std.specs.String.{string_bytes}
@@ -10,10 +10,10 @@ use Rattle.vol_archive.specs.Write.{StopsShort, Writes}
 use Rattle.vol_archive.specs.declared.write.WriteFault.{WriteFault}
 use Rattle.vol_archive.specs.declared.write.WriteFault.TheVariants as writes
 use Rattle.command_faults.specs.Faults.{fault_status, line_after}
-use Rattle.command_faults.specs.Streams.{Streams}
+use Rattle.command_faults.specs.Streams.{Streams, still}
 use Rattle.command_faults.specs.declared.fault.Fault.{Fault}
 use Rattle.command_reads.specs.Export.{unwritten}
-use Rattle.command_reads.specs.Print.{IsPlainString, IsPlainText, IsSight, IsTold, PrintsInPieces, PrintsTelling, Shows, Sights, plainly}
+use Rattle.command_reads.specs.Print.{IsPlainString, IsPlainText, IsSight, IsTold, IsToldWith, PrintsInPieces, PrintsTelling, Shows, Sights, plainly}
 use Rattle.command_reads.specs.declared.print.Shown.{Shown}
 
 -- if what a command shows is one of the possible texts or faults and is printed, one of them is printed
@@ -48,42 +48,37 @@ string_sight is_text is_fault (Err fault) (Err told) ok err is = subst is_fault 
 pub kept_same : (known : Option (List ℕ)) → Keeps known known
 kept_same known = Keeps-refl known
 
--- a fault that is reported before anything is printed
-pub told_only : (streams : Streams) (fault : Fault) (told : Option Fault) (status : ℕ) → Keeps streams.old streams.new → streams.failed ≡ streams.had_failed
-    → (status ≡ fault_status fault) × (told ≡ Some fault) → streams.said (line_after told) → IsTold streams fault status
-told_only streams fault told status kept working is said = record {
-  status = is.0;
-  kept = kept;
-  working = working;
-  said = subst (λ t. streams.said (line_after t)) is.1 said;
-}
+-- a fault is reported, with a status, if nothing is printed
+pub told_only : {known : Option (List ℕ)} {failed : Bool} {wanted : ℕ} {fault : Fault} {told : Option Fault} {status : ℕ}
+    → (status ≡ wanted) × (told ≡ Some fault) → IsToldWith wanted (still known failed told) fault status
+told_only {known} is = record { status = is.0; kept = Keeps-refl known; working = refl; said = ap line_after is.1 }
 
 -- a text that wasn't written whole, piece by piece, is printed so
 pub cut_off : (wanted : ℕ) (lines : List ℕ) (streams : Streams) (text : List ℕ) (status : ℕ) (told : Option Fault) (fault : WriteFault)
     → StopsShort streams.old streams.new streams.failed text fault
-    → (status ≡ fault_status (unwritten fault)) × (told ≡ Some (unwritten fault)) → streams.said (line_after told)
+    → (status ≡ fault_status (unwritten fault)) × (told ≡ Some (unwritten fault)) → streams.lines ≡ line_after told
     → PrintsInPieces wanted lines streams text status
 cut_off wanted lines streams text status told writes.NoMemory cut why said = inr (record {
   status = why.0;
   front = (cut.count, cut.front);
-  said = subst (λ t. streams.said (line_after t)) why.1 said;
+  said = said ∙ ap line_after why.1;
 })
 cut_off wanted lines streams text status told writes.Output cut why said = inl (inr (record {
   status = why.0;
   front = (cut.count, cut.front);
   broken = cut.cause refl;
-  said = subst (λ t. streams.said (line_after t)) why.1 said;
+  said = said ∙ ap line_after why.1;
 }))
 
 -- a text that was written piece by piece, whole or not, is printed so
 pub in_pieces : (wanted : ℕ) (streams : Streams) (text : List ℕ) (status : ℕ) (told : Option Fault) (written : Result (Unit {0}) WriteFault)
     → Writes streams.old streams.new streams.had_failed streams.failed text written → OnOk written ((status ≡ wanted) × (told ≡ None))
-    → IfErr written (λ fault. (status ≡ fault_status (unwritten fault)) × (told ≡ Some (unwritten fault))) → streams.said (line_after told)
+    → IfErr written (λ fault. (status ≡ fault_status (unwritten fault)) × (told ≡ Some (unwritten fault))) → streams.lines ≡ line_after told
     → PrintsInPieces wanted [] streams text status
 in_pieces wanted streams text status told (Ok done) written whole why said = inl (inl (record {
   status = whole.0;
   whole = written.0;
   working = written.1;
-  said = subst (λ t. streams.said (line_after t)) whole.1 said;
+  said = said ∙ ap line_after whole.1;
 }))
 in_pieces wanted streams text status told (Err fault) cut whole why said = cut_off wanted [] streams text status told fault cut why said

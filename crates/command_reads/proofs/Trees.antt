@@ -67,13 +67,13 @@ status_of (byte ∷ bytes) =
 pub printed_trees : (streams : Streams) (text lines : List ℕ) (status : ℕ) (told : Option Fault) (differ : Result Bool WriteFault)
     → Writes streams.old streams.new streams.had_failed streams.failed text differ → IfOk differ (λ d. d ≡ not (is_nil text))
     → IfOk differ (λ d. status ≡ tree_status d) → IfOk differ (λ d. line_after told ≡ lines)
-    → IfErr differ (λ fault. (status ≡ fault_status (unwritten fault)) × (told ≡ Some (unwritten fault))) → streams.said (line_after told)
+    → IfErr differ (λ fault. (status ≡ fault_status (unwritten fault)) × (told ≡ Some (unwritten fault))) → streams.lines ≡ line_after told
     → PrintsInPieces (diff_status text) lines streams text status
 printed_trees streams text lines status told (Ok d) written differs is line why said = inl (inl (record {
   status = is ∙ (ap tree_status differs ∙ status_of text);
   whole = written.0;
   working = written.1;
-  said = subst streams.said line said;
+  said = said ∙ line;
 }))
 printed_trees streams text lines status told (Err fault) cut differs is line why said = cut_off (diff_status text) lines streams text status told fault cut why said
 

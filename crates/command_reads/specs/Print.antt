@@ -63,7 +63,7 @@ pub record IsToldWith (wanted : ℕ) (streams : Streams) (fault : Fault) (code :
   pub status : code ≡ wanted
   pub kept : Keeps streams.old streams.new
   pub working : streams.failed ≡ streams.had_failed
-  pub said : streams.said (fault_line fault)
+  pub said : streams.lines ≡ fault_line fault
 
 -- nothing is printed, and a fault is reported, with its status (this project)
 abbrev pub IsTold : Streams → Fault → ℕ → Type 0
@@ -74,20 +74,20 @@ pub record IsBrokenOff (streams : Streams) (bytes : List ℕ) (code : ℕ) : Typ
   pub status : code ≡ 3
   pub front : (count : ℕ) × AppendsFront streams.old streams.new bytes count
   pub broken : streams.failed ≡ true
-  pub said : streams.said (fault_line faults.Output)
+  pub said : streams.lines ≡ fault_line faults.Output
 
 -- memory ran out after some of the bytes were written, and this is reported (this project)
 pub record IsCutShort (streams : Streams) (bytes : List ℕ) (code : ℕ) : Type 0 where
   pub status : code ≡ 4
   pub front : (count : ℕ) × AppendsFront streams.old streams.new bytes count
-  pub said : streams.said (fault_line no_memory)
+  pub said : streams.lines ≡ fault_line no_memory
 
 -- a text is printed, with a status and these lines (this project)
 pub record IsPrintedTelling (wanted : ℕ) (lines : List ℕ) (streams : Streams) (text : List ℕ) (code : ℕ) : Type 0 where
   pub status : code ≡ wanted
   pub whole : Appends streams.old streams.new text
   pub working : streams.failed ≡ streams.had_failed
-  pub said : streams.said lines
+  pub said : streams.lines ≡ lines
 
 -- a text is printed, with a status and no line (this project)
 abbrev pub IsPrintedWith : ℕ → Streams → List ℕ → ℕ → Type 0

@@ -6,7 +6,7 @@ ghost use Rattle.vol_layout.specs.declared.geometry.Geometry.{Geometry};
 ghost use Rattle.vol_losses.specs.Losses.{is_whole};
 ghost use Rattle.vol_rescue.specs.Lines.{TellsNamed};
 ghost use Rattle.command_faults.specs.Faults.{line_after};
-ghost use Rattle.command_faults.specs.Streams.{ErrorStream, Hears, streams};
+ghost use Rattle.command_faults.specs.Streams.{streams};
 ghost use Rattle.command_reads.specs.BadFiles.{IsBody, IsBodyFault, IsFileUnreached, IsFileUnreachedFault, IsOpened, TellsUnopened, as_start, cat_sights, file_sights, get_sights, place_of, told_entries, told_of};
 ghost use Rattle.command_reads.specs.Cat.{file_of};
 ghost use Rattle.command_reads.specs.Node.{number_of};
@@ -44,8 +44,7 @@ pub(crate) fn read_in<O: Sink>(
     damaged: bool,
     output: &mut O,
 ) -> Ending
-    ensures { (errors : ErrorStream) → Hears errors result.fault
-        → Shows (get_sights edition image.now lost.now path.now damaged) (streams O.contents O.failed output.old output.new errors) result.status }
+    ensures { Shows (get_sights edition image.now lost.now path.now damaged) (streams O.contents O.failed output.old output.new result.fault) result.status }
 {
     if lost.is_empty() {
         return read_unsound(alloc, edition, image, path, output);
@@ -65,8 +64,7 @@ pub(crate) fn print_in<O: Sink>(
     damaged: bool,
     output: &mut O,
 ) -> Ending
-    ensures { (errors : ErrorStream) → Hears errors result.fault
-        → Shows (cat_sights edition image.now lost.now node.entry damaged) (streams O.contents O.failed output.old output.new errors) result.status }
+    ensures { Shows (cat_sights edition image.now lost.now node.entry damaged) (streams O.contents O.failed output.old output.new result.fault) result.status }
 {
     let found = body_at(edition, image, node);
     if lost.is_empty() {
@@ -92,9 +90,9 @@ fn print_body<O: Sink>(image: &Image, found: Result<FoundFile, NodeFault>, outpu
     requires fits { IfOk found (λ file. Fits file.geometry image.now) }
     requires first { IfOk found (λ file. 1 ≤ file.inode) }
     requires last { IfOk found (λ file. file.inode ≤ file.geometry.last_inode) }
-    ensures { (edition : Edition) (number : Result ℕ NodeFault) (errors : ErrorStream) → IsOpened number (file_of edition image.now) found
-        → Hears errors result.fault → Shows (plainly (IsBody edition image.now number) (IsBodyFault edition image.now number))
-        (streams O.contents O.failed output.old output.new errors) result.status }
+    ensures { (edition : Edition) (number : Result ℕ NodeFault) → IsOpened number (file_of edition image.now) found
+        → Shows (plainly (IsBody edition image.now number) (IsBodyFault edition image.now number))
+        (streams O.contents O.failed output.old output.new result.fault) result.status }
 {
     let file = match found {
         Ok(file) => file,
@@ -128,10 +126,9 @@ fn read_known<O: Sink>(
     requires fits { IfOk found (λ file. Fits file.geometry image.now) }
     requires first { IfOk found (λ file. 1 ≤ file.inode) }
     requires last { IfOk found (λ file. file.inode ≤ file.geometry.last_inode) }
-    ensures { (opened : ℕ → Result Geometry NodeFault) (errors : ErrorStream) → IsOpened (number_of edition image.now node.entry) opened found
-        → Hears errors result.fault
+    ensures { (opened : ℕ → Result Geometry NodeFault) → IsOpened (number_of edition image.now node.entry) opened found
         → Shows (file_sights edition image.now lost.now (place_of node.entry) (number_of edition image.now node.entry) opened damaged)
-        (streams O.contents O.failed output.old output.new errors) result.status }
+        (streams O.contents O.failed output.old output.new result.fault) result.status }
 {
     let file = match found {
         Ok(file) => file,

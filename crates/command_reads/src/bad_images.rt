@@ -1,7 +1,7 @@
 //! The image of which some blocks couldn't be read, as a map of GNU ddrescue or a list says, and its lost blocks.
 ghost use Rattle.std.specs.Prelude.{ℕ, Bool, List, Option, IfErr, IfOk};
 ghost use Rattle.vol_losses.specs.BadImages.{IsRescued};
-ghost use Rattle.command_faults.specs.Streams.{ErrorStream, Hears, still};
+ghost use Rattle.command_faults.specs.Streams.{still};
 ghost use Rattle.command_reads.specs.BadImages.{IsBadRescued, TellsBadUnread};
 ghost use Rattle.command_reads.specs.BadLooks.{TellsUnrescued};
 
@@ -25,8 +25,8 @@ pub fn rescue_image(
     sizes: Option<VolumeSizes>,
 ) -> Result<CutImage, Ending>
     ensures read { IfOk result (λ read. IsBadRescued edition bytes.items sizes read.image read.lost.items bad.entry) }
-    ensures fault { IfErr result (λ ending. (known : Option (List ℕ)) (failed : Bool) (errors : ErrorStream) → Hears errors ending.fault
-        → TellsBadUnread edition bytes.items sizes (still known failed errors) ending.status bad.entry) }
+    ensures fault { IfErr result (λ ending. (known : Option (List ℕ)) (failed : Bool)
+        → TellsBadUnread edition bytes.items sizes (still known failed ending.fault) ending.status bad.entry) }
 {
     let map = match bad {
         BadBlocks::Outside(ranges) => {
@@ -50,8 +50,8 @@ fn rescue_from(
     sizes: Option<VolumeSizes>,
 ) -> Result<CutImage, Ending>
     ensures read { IfOk result (λ read. IsRescued edition ranges.now at sizes bytes.items read.image read.lost.items) }
-    ensures fault { IfErr result (λ ending. (known : Option (List ℕ)) (failed : Bool) (errors : ErrorStream) → Hears errors ending.fault
-        → TellsUnrescued edition ranges.now at sizes bytes.items (still known failed errors) ending.status) }
+    ensures fault { IfErr result (λ ending. (known : Option (List ℕ)) (failed : Bool)
+        → TellsUnrescued edition ranges.now at sizes bytes.items (still known failed ending.fault) ending.status) }
 {
     match rescued(alloc, edition, bytes, ranges, at, sizes) {
         Ok(read) => Ok(read),

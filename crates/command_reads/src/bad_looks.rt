@@ -1,6 +1,6 @@
 //! Looks at an image of which some blocks couldn't be read, as a map of GNU ddrescue or a list says.
 ghost use Rattle.std.specs.Prelude.{◌≡◌, IfOk, string_bytes};
-ghost use Rattle.command_faults.specs.Streams.{ErrorStream, Hears, streams};
+ghost use Rattle.command_faults.specs.Streams.{streams};
 ghost use Rattle.command_reads.specs.BadLooks.{IsMisreadEnding, IsUnrescuedEnding, LooksBad, ShowsRescued, line_start, map_line, sizes_line};
 
 use crate::bad_files::{print_in, read_in};
@@ -59,8 +59,7 @@ pub fn look_bad<O: Sink>(
     screen: Screen,
     output: &mut O,
 ) -> Ending
-    ensures { (errors : ErrorStream) → Hears errors result.fault
-        → LooksBad edition image.items sizes look.entry screen (streams O.contents O.failed output.old output.new errors) result.status bad.entry }
+    ensures { LooksBad edition image.items sizes look.entry screen (streams O.contents O.failed output.old output.new result.fault) result.status bad.entry }
 {
     match rescue_image(alloc, edition, image, bad, sizes) {
         Ok(read) => show_rescued(alloc, edition, &read, look, screen, output),
@@ -77,8 +76,7 @@ fn show_rescued<O: Sink>(
     screen: Screen,
     output: &mut O,
 ) -> Ending
-    ensures { (errors : ErrorStream) → Hears errors result.fault
-        → ShowsRescued edition read.now.image read.now.lost.items screen (streams O.contents O.failed output.old output.new errors) result.status look.entry }
+    ensures { ShowsRescued edition read.now.image read.now.lost.items screen (streams O.contents O.failed output.old output.new result.fault) result.status look.entry }
 {
     match look {
         BadLook::Export { path, options } => {

@@ -1,5 +1,5 @@
 //! `diff`: shows how two images differ, in their trees or field by field.
-ghost use Rattle.command_faults.specs.Streams.{ErrorStream, Hears, streams};
+ghost use Rattle.command_faults.specs.Streams.{streams};
 ghost use Rattle.command_reads.specs.Comparison.{ShowsComparison};
 
 use crate::diff::{NamedImage, diff_fields};
@@ -22,8 +22,7 @@ pub fn show_comparison<O: Sink>(
     by: Comparison,
     output: &mut O,
 ) -> Ending
-    ensures { (errors : ErrorStream) → Hears errors result.fault
-        → ShowsComparison edition old.entry new.entry by (streams O.contents O.failed output.old output.new errors) result.status }
+    ensures { ShowsComparison edition old.entry new.entry by (streams O.contents O.failed output.old output.new result.fault) result.status }
 {
     match by {
         Comparison::Tree { times, form } => {

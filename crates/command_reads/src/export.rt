@@ -3,7 +3,7 @@ ghost use Rattle.std.specs.Prelude.{◌≡◌, ◌==◌, ℕ, Bool, List, Option
 ghost use Rattle.vol_layout.specs.Geometry.{Fits};
 ghost use Rattle.vol_dir.specs.Entries.{IsDirectory};
 ghost use Rattle.command_faults.specs.Faults.{line_after};
-ghost use Rattle.command_faults.specs.Streams.{ErrorStream, Hears, still, streams};
+ghost use Rattle.command_faults.specs.Streams.{still, streams};
 ghost use Rattle.vol_inspect.specs.Lost.{IsInList};
 ghost use Rattle.command_reads.specs.Remarks.{AreOutOfReach};
 ghost use Rattle.command_reads.specs.Losses.{IsUnreadEnding};
@@ -51,8 +51,7 @@ pub(crate) fn export<O: Sink>(
     screen: Screen,
     output: &mut O,
 ) -> Ending
-    ensures { (errors : ErrorStream) → Hears errors result.fault
-        → Exports edition image.items path.now options screen (streams O.contents O.failed output.old output.new errors) result.status }
+    ensures { Exports edition image.items path.now options screen (streams O.contents O.failed output.old output.new result.fault) result.status }
 {
     match read_as(alloc, edition, image, options.losses.cut) {
         Ok(read) => export_read(alloc, edition, &read, path, options, screen, output),
@@ -86,8 +85,7 @@ pub(crate) fn export_read<O: Sink>(
     screen: Screen,
     output: &mut O,
 ) -> Ending
-    ensures { (errors : ErrorStream) → Hears errors result.fault
-        → ExportsFrom edition read.now.image read.now.lost.items path.now options screen (streams O.contents O.failed output.old output.new errors) result.status
+    ensures { ExportsFrom edition read.now.image read.now.lost.items path.now options screen (streams O.contents O.failed output.old output.new result.fault) result.status
         (begun options.lost edition read.now.image path.now) }
 {
     let image = &read.image;
@@ -117,8 +115,8 @@ fn unstarted_ending(
     options: ExportOptions,
     why: DirectoryFault,
 ) -> Ending
-    ensures { (known : Option (List ℕ)) (failed : Bool) (errors : ErrorStream) → Hears errors result.fault
-        → TellsUnstarted edition image.now lost.now path.now options (still known failed errors) result.status why }
+    ensures { (known : Option (List ℕ)) (failed : Bool)
+        → TellsUnstarted edition image.now lost.now path.now options (still known failed result.fault) result.status why }
 {
     match way_lines(alloc, edition, image, lost, path, why) {
         Ok(Some(lines)) => Ending {
@@ -147,8 +145,7 @@ fn export_to<O: Sink>(
 ) -> Ending
     requires fits { Fits start.now.geometry image.now }
     requires directory { options.lost ≡ false → IsDirectory start.now.geometry image.now start.now.inode }
-    ensures { (errors : ErrorStream) → Hears errors result.fault
-        → ExportsTo edition image.now lost.now start.now options (streams O.contents O.failed output.old output.new errors) result.status screen }
+    ensures { ExportsTo edition image.now lost.now start.now options (streams O.contents O.failed output.old output.new result.fault) result.status screen }
 {
     match screen {
         Screen::Terminal { .. } => Ending::from(Fault::Output),
@@ -168,8 +165,7 @@ fn export_below<O: Sink>(
 ) -> Ending
     requires fits { Fits start.now.geometry image.now }
     requires directory { options.lost ≡ false → IsDirectory start.now.geometry image.now start.now.inode }
-    ensures { (errors : ErrorStream) → Hears errors result.fault
-        → ExportsBelow edition image.now lost.now start.now options (streams O.contents O.failed output.old output.new errors) result.status }
+    ensures { ExportsBelow edition image.now lost.now start.now options (streams O.contents O.failed output.old output.new result.fault) result.status }
 {
     match write_below(alloc, edition, image, lost, start, options, output) {
         Ok(remarks) => ending_with(is_graded(options.graded, lost), remarks),

@@ -5,7 +5,7 @@ ghost use Rattle.serde_json.specs.View.{view};
 ghost use Rattle.serde_json.specs.Written.{compact_text};
 ghost use Rattle.vol_archive.specs.Write.{Writes};
 ghost use Rattle.vol_inspect.specs.Texts.{inode_text};
-ghost use Rattle.command_faults.specs.Streams.{streams, ErrorStream, Hears};
+ghost use Rattle.command_faults.specs.Streams.{streams};
 ghost use Rattle.command_reads.specs.Inode.{inode_back, inode_front, inode_json, kind_word, members_back, members_front, IsInodeText, IsInodeFault, found};
 ghost use Rattle.command_reads.specs.Node.{number_of};
 ghost use Rattle.command_reads.specs.Print.{ShowsIn, ShowsInPieces, plainly};
@@ -41,8 +41,7 @@ pub(crate) fn show_inode<O: Sink>(
     form: OutputForm,
     output: &mut O,
 ) -> Ending
-    ensures { (errors : ErrorStream) → Hears errors result.fault
-        → ShowsIn form (found edition image.now form (number_of edition image.now node.entry)) (streams O.contents O.failed output.old output.new errors) result.status }
+    ensures { ShowsIn form (found edition image.now form (number_of edition image.now node.entry)) (streams O.contents O.failed output.old output.new result.fault) result.status }
 {
     match number_of(edition, image, node) {
         Ok(number) => show_number(alloc, edition, image, number, form, output),
@@ -59,9 +58,8 @@ fn show_number<O: Sink>(
     form: OutputForm,
     output: &mut O,
 ) -> Ending
-    ensures { (errors : ErrorStream) → Hears errors result.fault
-        → ShowsIn form (plainly (IsInodeText edition image.now number form) (IsInodeFault edition image.now number))
-        (streams O.contents O.failed output.old output.new errors) result.status }
+    ensures { ShowsIn form (plainly (IsInodeText edition image.now number form) (IsInodeFault edition image.now number))
+        (streams O.contents O.failed output.old output.new result.fault) result.status }
 {
     match form {
         OutputForm::Text => {
@@ -100,9 +98,8 @@ fn print_json<O: Sink>(
     number: u16,
     output: &mut O,
 ) -> Ending
-    ensures { (errors : ErrorStream) → Hears errors result.fault
-        → ShowsInPieces (plainly (IsInodeText edition image.now number OutputForm.Json) (IsInodeFault edition image.now number))
-        (streams O.contents O.failed output.old output.new errors) result.status }
+    ensures { ShowsInPieces (plainly (IsInodeText edition image.now number OutputForm.Json) (IsInodeFault edition image.now number))
+        (streams O.contents O.failed output.old output.new result.fault) result.status }
 {
     match inspect_inode(alloc, edition, image, number) {
         Ok(report) => ending_after(put_report(alloc, &report, output), DONE),

@@ -2,7 +2,7 @@
 ghost use Rattle.std.specs.Prelude.{◌≡◌, ◌+◌, ◌<◌, ◌^◌, ◌++◌, ◌∷◌, codes, IfOk, length, List};
 ghost use Rattle.vol_archive.specs.Write.{Writes};
 ghost use Rattle.vol_layout.specs.Geometry.{Fits};
-ghost use Rattle.command_faults.specs.Streams.{ErrorStream, Hears, streams};
+ghost use Rattle.command_faults.specs.Streams.{streams};
 ghost use Rattle.command_reads.specs.Json.{listed_text};
 ghost use Rattle.command_reads.specs.Map.{uses_in, IsMapFault};
 ghost use Rattle.command_reads.specs.MapJson.{longer, next, run_data, runs, runs_from, runs_json, uses_json, AreUses};
@@ -41,8 +41,7 @@ pub(crate) fn show_uses<O: Sink>(
     image: &Image,
     output: &mut O,
 ) -> Ending
-    ensures { (errors : ErrorStream) → Hears errors result.fault
-        → ShowsInPieces (plainly (AreUses edition image.now) (IsMapFault edition image.now)) (streams O.contents O.failed output.old output.new errors) result.status }
+    ensures { ShowsInPieces (plainly (AreUses edition image.now) (IsMapFault edition image.now)) (streams O.contents O.failed output.old output.new result.fault) result.status }
 {
     match Geometry::read(edition, image) {
         Ok(geometry) => ending_after(put_uses(alloc, image, &geometry, output), DONE),

@@ -4,7 +4,7 @@ ghost use Rattle.std.specs.Io.KnownBytes.{Appends, Keeps};
 ghost use Rattle.pdp_words.specs.Devices.{AppendsFront};
 ghost use Rattle.vol_archive.specs.Write.{Writes};
 ghost use Rattle.command_faults.specs.Faults.{fault_status, line_after};
-ghost use Rattle.command_faults.specs.Streams.{ErrorStream, Hears, streams};
+ghost use Rattle.command_faults.specs.Streams.{streams};
 ghost use Rattle.command_reads.specs.Export.{unwritten};
 ghost use Rattle.command_reads.specs.Print.{IsPlainString, IsPlainText, IsSilent, IsTold, PrintsTelling, PrintsWith};
 
@@ -59,11 +59,9 @@ pub(crate) fn plain_string(text: Result<String, Fault>) -> Result<Shown, Fault>
 /// Prints what a command shows, and returns its ending.
 #[tactic(auto, using(crate::proofs::Printed::kept_same))]
 pub(crate) fn print<O: Sink>(shown: Result<Shown, Fault>, output: &mut O) -> Ending
-    ensures printed { (errors : ErrorStream) → Hears errors result.fault
-        → IfOk shown (λ shown. PrintsTelling shown.ending.status (line_after shown.ending.fault) (streams O.contents O.failed output.old output.new errors)
+    ensures printed { IfOk shown (λ shown. PrintsTelling shown.ending.status (line_after shown.ending.fault) (streams O.contents O.failed output.old output.new result.fault)
         shown.text.items result.status) }
-    ensures told { (errors : ErrorStream) → Hears errors result.fault
-        → IfErr shown (λ fault. IsTold (streams O.contents O.failed output.old output.new errors) fault result.status) }
+    ensures told { IfErr shown (λ fault. IsTold (streams O.contents O.failed output.old output.new result.fault) fault result.status) }
 {
     match shown {
         Ok(Shown { text, ending }) => print_text(&text, ending, output),
@@ -73,8 +71,7 @@ pub(crate) fn print<O: Sink>(shown: Result<Shown, Fault>, output: &mut O) -> End
 
 /// Prints a text, and returns the ending of a command that has printed it, or that standard output failed.
 pub fn print_text<O: Sink>(text: &[u8], ending: Ending, output: &mut O) -> Ending
-    ensures { (errors : ErrorStream) → Hears errors result.fault
-        → PrintsTelling ending.status (line_after ending.fault) (streams O.contents O.failed output.old output.new errors) text.now result.status }
+    ensures { PrintsTelling ending.status (line_after ending.fault) (streams O.contents O.failed output.old output.new result.fault) text.now result.status }
 {
     match write_all(output, text) {
         Ok(()) => ending,
@@ -84,8 +81,7 @@ pub fn print_text<O: Sink>(text: &[u8], ending: Ending, output: &mut O) -> Endin
 
 /// Prints a text, and returns a status for it.
 pub fn print_with<O: Sink>(text: &[u8], status: u8, output: &mut O) -> Ending
-    ensures { (errors : ErrorStream) → Hears errors result.fault
-        → PrintsWith status (streams O.contents O.failed output.old output.new errors) text.now result.status }
+    ensures { PrintsWith status (streams O.contents O.failed output.old output.new result.fault) text.now result.status }
 {
     let ending = Ending {
         status,

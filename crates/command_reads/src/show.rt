@@ -1,5 +1,7 @@
 //! Shows the part of an image that the command line names.
-ghost use Rattle.command_faults.specs.Streams.{heard, ErrorStream, Hears, streams};
+ghost use Rattle.std.specs.Prelude.{Option};
+ghost use Rattle.command_faults.specs.Streams.{Hears, heard, streams};
+ghost use Rattle.command_faults.specs.declared.fault.Fault.{Fault};
 ghost use Rattle.command_reads.specs.Look.{Looks};
 
 use crate::block::block_text;
@@ -35,7 +37,8 @@ pub fn look<O: Sink, E: Sink>(
     output: &mut O,
     errors: &mut E,
 ) -> u8
-    ensures { Looks edition image.items screen (streams O.contents O.failed output.old output.new (heard E.contents E.failed errors.old errors.new)) result look.entry }
+    ensures { (fault : Option Fault) × Hears (heard E.contents E.failed errors.old errors.new) fault
+        × Looks edition image.items screen (streams O.contents O.failed output.old output.new fault) result look.entry }
 {
     let ending = perform(alloc, edition, image, look, screen, output);
     tell(&ending.fault, errors);
@@ -53,8 +56,7 @@ pub fn perform<O: Sink>(
     screen: Screen,
     output: &mut O,
 ) -> Ending
-    ensures { (errors : ErrorStream) → Hears errors result.fault
-        → Looks edition image.items screen (streams O.contents O.failed output.old output.new errors) result.status look.entry }
+    ensures { Looks edition image.items screen (streams O.contents O.failed output.old output.new result.fault) result.status look.entry }
 {
     let image = Image::from_bytes(image);
     show(alloc, edition, image, look, screen, output)
@@ -69,8 +71,7 @@ fn show<O: Sink>(
     screen: Screen,
     output: &mut O,
 ) -> Ending
-    ensures { (errors : ErrorStream) → Hears errors result.fault
-        → Looks edition image screen (streams O.contents O.failed output.old output.new errors) result.status look.entry }
+    ensures { Looks edition image screen (streams O.contents O.failed output.old output.new result.fault) result.status look.entry }
 {
     let shown = match look {
         Look::Export { path, options } => {

@@ -5,7 +5,7 @@ ghost use Rattle.serde_json.specs.View.{view};
 ghost use Rattle.serde_json.specs.Written.{compact_text};
 ghost use Rattle.vol_layout.specs.Geometry.{Fits};
 ghost use Rattle.vol_dir.specs.Entries.{slot_count};
-ghost use Rattle.command_faults.specs.Streams.{ErrorStream, Hears, streams};
+ghost use Rattle.command_faults.specs.Streams.{streams};
 ghost use Rattle.vol_archive.specs.Write.{Writes};
 ghost use Rattle.command_reads.specs.Print.{ShowsInPieces, plainly};
 ghost use Rattle.command_reads.specs.Slots.{is_blank, slot_columns, slot_data, slot_item, slot_line, slot_lines, slot_text, slots_in, slots_json, IsSlotsFault, IsSlotsText};
@@ -53,9 +53,8 @@ pub(crate) fn show_slots<O: Sink>(
     screen: Screen,
     output: &mut O,
 ) -> Ending
-    ensures { (errors : ErrorStream) → Hears errors result.fault
-        → ShowsInPieces (plainly (IsSlotsText edition image.now path.now form screen) (IsSlotsFault edition image.now path.now))
-        (streams O.contents O.failed output.old output.new errors) result.status }
+    ensures { ShowsInPieces (plainly (IsSlotsText edition image.now path.now form screen) (IsSlotsFault edition image.now path.now))
+        (streams O.contents O.failed output.old output.new result.fault) result.status }
 {
     match find_directory(edition, image, path.as_bytes()) {
         Ok(start) => {

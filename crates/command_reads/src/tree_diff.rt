@@ -5,7 +5,7 @@ ghost use Rattle.vol_compare.specs.Json.{differences_data};
 ghost use Rattle.vol_compare.specs.Merge.{tree_lines};
 ghost use Rattle.field_json.specs.Items.{lines_json};
 ghost use Rattle.command_faults.specs.Faults.{fault_status, line_after};
-ghost use Rattle.command_faults.specs.Streams.{ErrorStream, Hears, streams};
+ghost use Rattle.command_faults.specs.Streams.{streams};
 ghost use Rattle.command_terms.specs.declared.looks.OutputForm.TheVariants as forms;
 ghost use Rattle.command_reads.specs.Diff.{items_status};
 ghost use Rattle.command_reads.specs.Export.{unwritten};
@@ -72,8 +72,7 @@ pub(crate) fn show_tree_diff<O: Sink>(
     form: OutputForm,
     output: &mut O,
 ) -> Ending
-    ensures { (errors : ErrorStream) → Hears errors result.fault
-        → ShowsInPieces (tree_differences edition old.entry new.entry times form) (streams O.contents O.failed output.old output.new errors) result.status }
+    ensures { ShowsInPieces (tree_differences edition old.entry new.entry times form) (streams O.contents O.failed output.old output.new result.fault) result.status }
 {
     let before = Image::from_bytes(old.bytes);
     let after = Image::from_bytes(new.bytes);
@@ -157,9 +156,8 @@ fn print_trees<O: Sink>(
     requires old_fits { Fits trees.old.geometry.now trees.old.image.now }
     requires new_fits { Fits trees.new.geometry.now trees.new.image.now }
     requires roots { trees.old.root.path ≡ trees.new.root.path }
-    ensures { (errors : ErrorStream) → Hears errors result.fault
-        → PrintsTrees form times trees.entry.old trees.entry.new trees.entry.remarks.lines.items
-        (streams O.contents O.failed output.old output.new errors) result.status }
+    ensures { PrintsTrees form times trees.entry.old trees.entry.new trees.entry.remarks.lines.items
+        (streams O.contents O.failed output.old output.new result.fault) result.status }
 {
     match form {
         OutputForm::Text => print_lines(alloc, trees, times, output),
@@ -172,9 +170,8 @@ fn print_lines<O: Sink>(alloc: Global, trees: Trees<'_>, times: bool, output: &m
     requires old_fits { Fits trees.old.geometry.now trees.old.image.now }
     requires new_fits { Fits trees.new.geometry.now trees.new.image.now }
     requires roots { trees.old.root.path ≡ trees.new.root.path }
-    ensures { (errors : ErrorStream) → Hears errors result.fault
-        → PrintsTrees forms.Text times trees.entry.old trees.entry.new trees.entry.remarks.lines.items
-        (streams O.contents O.failed output.old output.new errors) result.status }
+    ensures { PrintsTrees forms.Text times trees.entry.old trees.entry.new trees.entry.remarks.lines.items
+        (streams O.contents O.failed output.old output.new result.fault) result.status }
 {
     let differ = put_differences(alloc, &trees.old, &trees.new, times, output);
     ending_of(differ, trees.remarks)
@@ -185,9 +182,8 @@ fn print_json<O: Sink>(alloc: Global, trees: Trees<'_>, times: bool, output: &mu
     requires old_fits { Fits trees.old.geometry.now trees.old.image.now }
     requires new_fits { Fits trees.new.geometry.now trees.new.image.now }
     requires roots { trees.old.root.path ≡ trees.new.root.path }
-    ensures { (errors : ErrorStream) → Hears errors result.fault
-        → PrintsTrees forms.Json times trees.entry.old trees.entry.new trees.entry.remarks.lines.items
-        (streams O.contents O.failed output.old output.new errors) result.status }
+    ensures { PrintsTrees forms.Json times trees.entry.old trees.entry.new trees.entry.remarks.lines.items
+        (streams O.contents O.failed output.old output.new result.fault) result.status }
 {
     match trees_json(alloc, &trees.old, &trees.new, times) {
         Ok(Shown { text, ending }) => {

@@ -1,7 +1,7 @@
 //! `ls --unsound` and `get --unsound`: show what is there in an image that need not be sound.
 ghost use Rattle.std.specs.Prelude.{◌≡◌, ◌≤◌, IfErr, IfOk, OnOk};
 ghost use Rattle.vol_layout.specs.Geometry.{Fits};
-ghost use Rattle.command_faults.specs.Streams.{ErrorStream, Hears, streams};
+ghost use Rattle.command_faults.specs.Streams.{streams};
 ghost use Rattle.command_reads.specs.Print.{IsSight, Shows, telling};
 ghost use Rattle.command_reads.specs.Unsound.{IsFileAt, IsUnfound, IsUnshown, IsUnsoundFile, IsUnsoundListing, TellsRule, listable, readable};
 
@@ -92,9 +92,8 @@ pub(crate) fn read_unsound<O: Sink>(
     path: &str,
     output: &mut O,
 ) -> Ending
-    ensures { (errors : ErrorStream) → Hears errors result.fault
-        → Shows (telling 1 (IsUnsoundFile edition image.now path.now) (IsUnshown edition image.now path.now (readable edition image.now)))
-        (streams O.contents O.failed output.old output.new errors) result.status }
+    ensures { Shows (telling 1 (IsUnsoundFile edition image.now path.now) (IsUnshown edition image.now path.now (readable edition image.now)))
+        (streams O.contents O.failed output.old output.new result.fault) result.status }
 {
     let file = match file_at(edition, image, path) {
         Ok(file) => file,

@@ -1,10 +1,10 @@
 -- The end of a comparison of two images.
-use Rattle.std.proofs.Common.{◌≡◌, ℕ, ◌≤◌, ◌==◌, Bool, true, false, if◌then◌else◌, List, [], length, Option, inl, inr, refl, subst, sym, arith}
+use Rattle.std.proofs.Common.{◌≡◌, ℕ, ◌≤◌, ◌==◌, Bool, true, false, if◌then◌else◌, List, length, Option, inl, inr, subst, sym, arith}
 use Rattle.command_faults.proofs.Concluded.{fault_few}
 use Rattle.command_reads.specs.Comparison.{ShowsComparison}
 use Rattle.command_reads.specs.Diff.{diff_status, field_differences}
 use Rattle.command_reads.specs.Print.{Shows, ShowsInPieces}
-use Rattle.command_reads.specs.TreeDiff.{AreRemarks, IsTreeShown, tree_differences}
+use Rattle.command_reads.specs.TreeDiff.{IsTreeShown, tree_differences}
 use Rattle.command_terms.specs.declared.comparison.Comparison.{Comparison}
 use Rattle.command_terms.specs.declared.comparison.Comparison.TheVariants as comparisons
 use Rattle.command_terms.specs.declared.looks.OutputForm.{OutputForm}
@@ -30,7 +30,7 @@ ends_badly volume other by streams status least most = record { within = most; w
 -- a comparison that reports nothing if its status is 0
 ends_silently : (volume : VolumeFile) (other : List ℕ) (all : Bool) (form : OutputForm) (streams : Streams) (status : ℕ) → IsEnd streams status
     → EndsComparison volume other (comparisons.Fields all form) streams status
-ends_silently volume other all form streams status ends = record { within = ends.within; whole = λ e. ((ends.whole e).0, ([], refl, (ends.whole e).1)) }
+ends_silently volume other all form streams status ends = record { within = ends.within; whole = ends.whole }
 
 -- so is that after a list of differences, which may have none
 items_few : (none : Bool) → (if none then 0 else 1) ≤ 4
@@ -64,14 +64,9 @@ ends_trees volume other old new times form streams status old_is new_is (inl (te
   whole = λ e. (
     printed.working,
     (
-      lines,
-      (
-        old.bytes.items,
-        new.bytes.items,
-        subst (λ name. AreRemarks volume.edition old.bytes.items name new.bytes.items other lines) old_is
-            (subst (λ name. AreRemarks volume.edition old.bytes.items old.name.now new.bytes.items name lines) new_is is.1),
-      ),
-      printed.said,
+      old.bytes.items,
+      new.bytes.items,
+      rw printed.said (rw (old_is, new_is) at is.1),
     ),
   );
 }

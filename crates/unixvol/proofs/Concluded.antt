@@ -21,7 +21,7 @@ ends_unread remaining streams status (inr memory) kept =
 
 -- a run that ends as `Ends` requires also does so without the requirement on the reports of a change
 pub ends_remarked : (may : Bool) (streams : Streams) (status : ℕ) → Ends streams status → Ends (but_remarks may streams) status
-ends_remarked true streams status ends = record { within = ends.within; silent = ends.silent; whole = λ e. ((ends.whole e).0, tt) }
+ends_remarked true streams status ends = record { within = ends.within; silent = ends.silent; whole = λ e. ((ends.whole e).0, refl) }
 ends_remarked false streams status ends = ends
 
 -- if something was made, the reports are those for this case
@@ -45,7 +45,7 @@ ends_concluded outcomes streams taken answer status concludes (inl own) = record
   silent = λ _ _. concludes.unprinted;
   whole = λ e. (
     concludes.unused,
-    quiet (λ (bytes : Vec ℕ). outcomes.saves bytes.items answer.trace) (streams.said outcomes.lines) answer.image (concludes.saved.0 (sym own.0 ∙ e)) concludes.made,
+    quiet (λ (bytes : Vec ℕ). outcomes.saves bytes.items answer.trace) (streams.lines ≡ outcomes.lines) answer.image (concludes.saved.0 (sym own.0 ∙ e)) concludes.made,
   );
 }
 ends_concluded outcomes streams taken answer status concludes (inr file) = record {
@@ -55,7 +55,7 @@ ends_concluded outcomes streams taken answer status concludes (inr file) = recor
 }
 
 -- if files were read and saved, or weren't read, the run ends as `Ends` requires
-pub ends_got : (streams : Streams) (taken : List ℕ → Type 0) (read : Result (Vec FileRead) Fault) (status : ℕ) → EndsRead taken streams.said read status
+pub ends_got : (streams : Streams) (taken : List ℕ → Type 0) (read : Result (Vec FileRead) Fault) (status : ℕ) → EndsRead taken streams.lines read status
     → Keeps streams.old streams.new → streams.failed ≡ streams.had_failed → Ends streams status
 ends_got streams taken (Ok files) status (saved, said) unprinted unused = record {
   within = elim saved [ inl all ↦ omega (arith, all.0) | inr (inl three) ↦ omega (arith, three) | inr (inr four) ↦ omega (arith, four) ];

@@ -29,8 +29,8 @@ names_more paths k d old new file within was is named =
     ∙ sym (ap (map path_name) (take_more paths k d within) ∙ map-append path_name (take k paths) (get_or paths k d ∷ []))
 
 -- the end of a run that was to save the files that were read
-pub saved_read : (taken said : List ℕ → Type 0) (files : Vec FileRead) (given : List FileRead) (saved : Result (Unit {0}) FileFault) (status : ℕ) → given ≡ files.items
-    → status ≡ saved_status 0 saved → OnOk saved (AreSaved taken given) → IfErr saved (λ fault. IsStatusOfFileOrMemory (file_status fault)) → said []
-    → EndsRead taken said (Ok files) status
-saved_read taken said files given (Ok done) status same is ok err quiet = (inl (is, subst (AreSaved taken) same ok), quiet)
-saved_read taken said files given (Err fault) status same is ok err quiet = (inr (subst IsStatusOfFileOrMemory (sym is) err), quiet)
+pub saved_read : (taken : List ℕ → Type 0) (lines : List ℕ) (files : Vec FileRead) (given : List FileRead) (saved : Result (Unit {0}) FileFault) (status : ℕ) → given ≡ files.items
+    → status ≡ saved_status 0 saved → OnOk saved (AreSaved taken given) → IfErr saved (λ fault. IsStatusOfFileOrMemory (file_status fault)) → lines ≡ []
+    → EndsRead taken lines (Ok files) status
+saved_read taken lines files given (Ok done) status same is ok err quiet = (inl (is, subst (AreSaved taken) same ok), quiet)
+saved_read taken lines files given (Err fault) status same is ok err quiet = (inr (subst IsStatusOfFileOrMemory (sym is) err), quiet)

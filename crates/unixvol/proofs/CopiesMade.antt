@@ -1,5 +1,5 @@
 -- The end of `salvage -n`, of `salvage -o` and of `repair`.
-use Rattle.std.proofs.Common.{ℕ, ◌≤◌, true, List, Option, None, Some, inl, inr, sym, subst, arith}
+use Rattle.std.proofs.Common.{ℕ, ◌≤◌, true, List, Option, None, Some, inl, inr, refl, sym, subst, arith}
 use Rattle.std.specs.Option.{is_some}
 use Rattle.std.specs.Io.KnownBytes.{Keeps}
 use Rattle.command_faults.proofs.Concluded.{fault_few}
@@ -43,7 +43,7 @@ ends_unsaved streams status (inr four) kept =
 -- the end of a run that succeeds with a report on standard error
 ends_reporting : (streams : Streams) (report : List ℕ) (status : ℕ) → IsReportTold streams report status → Ends (but_remarks true streams) status
 ends_reporting streams report status told =
-    record { within = omega (arith, told.status); silent = λ some _. absurd (some told.status); whole = λ _. (told.working, tt) }
+    record { within = omega (arith, told.status); silent = λ some _. absurd (some told.status); whole = λ _. (told.working, refl) }
 
 ends_copy : (streams : Streams) (taken : List ℕ → Type 0) (stood : Stamp → Type 0) (bytes report : List ℕ) (status : ℕ)
     → SavesCopy streams taken stood bytes report status → Ends (but_remarks true streams) status

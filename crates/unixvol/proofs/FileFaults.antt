@@ -1,10 +1,9 @@
 -- Runs that a file's fault ended, and results that were to be saved.
-use Rattle.std.proofs.Common.{◌≡◌, ◌⊎◌, ℕ, Bool, List, [], Option, None, Result, Ok, Err, IfErr, IfSome, IsErrAnd, IsSome, OnOk, inl, inr, refl, sym, subst}
+use Rattle.std.proofs.Common.{◌≡◌, ◌⊎◌, ℕ, Bool, List, [], Option, None, Result, Ok, Err, IfErr, IfSome, IsErrAnd, IsSome, OnOk, inl, inr, refl, ap, sym, subst}
 use Rattle.std.proofs.KnownBytes.{Keeps-refl}
 use Rattle.std.specs.Io.KnownBytes.{Keeps}
-use Rattle.command_faults.specs.Streams.{ErrorStream, Hears, says}
+use Rattle.command_faults.specs.Faults.{line_after}
 use Rattle.command_faults.specs.declared.answer.Ending.{Ending}
-use Rattle.command_faults.specs.declared.fault.Fault.{Fault}
 use Rattle.unixvol.specs.FileFaults.{failed_by, file_status, run_fault, run_status, saved_status}
 use Rattle.unixvol.specs.Runs.{IsStatusOfFileOrMemory}
 use Rattle.unixvol.specs.declared.file_fault.FailedRun.{FailedRun}
@@ -22,14 +21,14 @@ stopped_quiet (Ok ending) fault is = absurd is
 stopped_quiet (Err failed) fault is = subst (λ (run : FailedRun). run.fault ≡ None) (sym is) refl
 
 -- such a run prints nothing either
-pub stopped : (fails : ℕ → Type 0) (known : Option (List ℕ)) (working : Bool) (errors : ErrorStream) (result : Result Ending FailedRun) (fault : FileFault)
-    → IsErrAnd result (λ failed. failed ≡ failed_by fault) → fails (file_status fault) → Hears errors (run_fault result)
-    → fails (run_status result) × Keeps known known × (working ≡ working) × says errors []
-stopped fails known working errors result fault is holds hears = (
+pub stopped : (fails : ℕ → Type 0) (known : Option (List ℕ)) (working : Bool) (result : Result Ending FailedRun) (fault : FileFault)
+    → IsErrAnd result (λ failed. failed ≡ failed_by fault) → fails (file_status fault)
+    → fails (run_status result) × Keeps known known × (working ≡ working) × (line_after (run_fault result) ≡ [])
+stopped fails known working result fault is holds = (
   stopped_status fails result fault is holds,
   Keeps-refl known,
   refl,
-  subst (λ (fault : Option Fault). Hears errors fault) (stopped_quiet result fault is) hears,
+  ap line_after (stopped_quiet result fault is),
 )
 
 -- if what was made, if anything, was saved, or something was made and it wasn't, the status is the own one or that of the fault

@@ -82,7 +82,7 @@ cut_behind a b c xs ys count had cut =
 pub breaks_off : {F : Type 0} (remaining : F → Option (List ℕ)) (stamped : F → Stamp → Type 0) (stood : Stamp → Type 0) (form : GuessForm) (images : List (Bor (List ℕ))) (k : ℕ) (d : Bor (List ℕ)) (streams : Streams) (b : Option (List ℕ))
     (status : ℕ) (line : List ℕ) (count one : ℕ) → k < length images → ArePrinted remaining stamped stood form images k streams.old b status
     → IsLine remaining stamped stood form (get_or images k d).now line one → AppendsFront b streams.new line count → streams.failed ≡ true
-    → streams.said (fault_line Output) → RunsIdentify remaining stamped stood streams form (map path_of images) 3
+    → streams.lines ≡ fault_line Output → RunsIdentify remaining stamped stood streams form (map path_of images) 3
 breaks_off remaining stamped stood form images k d streams b status line count one within had is cut broken said =
     inr (
       k + 1,
@@ -104,7 +104,7 @@ breaks_off remaining stamped stood form images k d streams b status line count o
 
 -- if standard output fails before the first line, the run breaks off
 pub breaks_first : {F : Type 0} (remaining : F → Option (List ℕ)) (stamped : F → Stamp → Type 0) (stood : Stamp → Type 0) (form : GuessForm) (paths : List (List ℕ)) (streams : Streams) (count : ℕ)
-    → AppendsFront streams.old streams.new (front_of form) count → streams.failed ≡ true → streams.said (fault_line Output)
+    → AppendsFront streams.old streams.new (front_of form) count → streams.failed ≡ true → streams.lines ≡ fault_line Output
     → RunsIdentify remaining stamped stood streams form paths 3
 breaks_first remaining stamped stood form paths streams count cut broken said =
     inr (
@@ -122,7 +122,7 @@ breaks_first remaining stamped stood form paths streams count cut broken said =
 
 -- if the lines of all files are printed, the run is over
 pub printed_all : {F : Type 0} (remaining : F → Option (List ℕ)) (stamped : F → Stamp → Type 0) (stood : Stamp → Type 0) (form : GuessForm) (images : List (Bor (List ℕ))) (k : ℕ) (streams : Streams) (status : ℕ) → length images ≤ k
-    → ArePrinted remaining stamped stood form images k streams.old streams.new status → streams.failed ≡ streams.had_failed → streams.said []
+    → ArePrinted remaining stamped stood form images k streams.old streams.new status → streams.failed ≡ streams.had_failed → streams.lines ≡ []
     → RunsIdentify remaining stamped stood streams form (map path_of images) status
 printed_all remaining stamped stood form images k streams status all had working said =
     let whole : take k (map path_of images) ≡ map path_of images = take_all k (map path_of images) (omega (arith, all, length-map images path_of)) in

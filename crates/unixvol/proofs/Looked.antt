@@ -52,7 +52,7 @@ pub ends_telling : (most wanted : ℕ) (lines : List ℕ) (streams : Streams) (t
     → PrintsTelling wanted lines streams text status → IsEndWithin most streams status
 ends_telling most wanted lines streams text status few within quiet (inl printed) = record {
   within = subst (λ n. n ≤ most) (sym printed.status) within;
-  whole = λ e. (printed.working, subst streams.said (quiet (sym printed.status ∙ e)) printed.said);
+  whole = λ e. (printed.working, printed.said ∙ quiet (sym printed.status ∙ e));
 }
 ends_telling most wanted lines streams text status few within quiet (inr is) = ends_broken most streams text status few is
 
@@ -129,11 +129,11 @@ told_within false false lost left none =
     (omega arith, omega arith)
 
 -- an export that was written whole, and whose status is 0 if it has no remarks and `told` otherwise, satisfies `IsEndWithin`
-ends_lines : (most told : ℕ) (streams : Streams) (status : ℕ) (lines : List ℕ) → 1 ≤ told → told ≤ most → streams.failed ≡ streams.had_failed → streams.said lines
+ends_lines : (most told : ℕ) (streams : Streams) (status : ℕ) (lines : List ℕ) → 1 ≤ told → told ≤ most → streams.failed ≡ streams.had_failed → streams.lines ≡ lines
     → status ≡ (if length lines == 0 then 0 else told) → IsEndWithin most streams status
 ends_lines most told streams status lines least within working said is =
     let few = lines_few most told status lines least within is in
-    record { within = few.0; whole = λ e. (working, subst streams.said (few.1 e) said) }
+    record { within = few.0; whole = λ e. (working, said ∙ few.1 e) }
 
 -- the statuses of an export that isn't printed whole are at most `most`
 pub record IsMost (graded : Bool) (lost : List Bool) (most : ℕ) : Type 0 where

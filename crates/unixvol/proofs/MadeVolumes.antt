@@ -1,13 +1,11 @@
 -- The result of a run of `mkfs`, from the volume that was made and whether it was saved.
-use Rattle.std.proofs.Common.{◌≡◌, ◌≢◌, ◌↔◌, ◌⊎◌, ◌∙◌, ℕ, zero, suc, ◌≤◌, true≢false, true, false, List, [], Option, None, Some, IsSome, IfSome, inl, inr, sym, subst, arith}
+use Rattle.std.proofs.Common.{◌≡◌, ◌≢◌, ◌↔◌, ◌⊎◌, ◌∙◌, ℕ, zero, suc, ◌≤◌, true≢false, true, false, List, Option, None, Some, IsSome, IfSome, inl, inr, ap, sym, subst, arith}
 use Rattle.std.specs.Io.KnownBytes.{Keeps}
 use Rattle.vol_mkfs.specs.Blank.{Blank, blank_of, IsMade}
 use Rattle.vol_mkfs.specs.Mkfs.{is_size}
 use Rattle.vol_layout.specs.Ids.{is_bad_id}
-use Rattle.command_faults.specs.Streams.{ErrorStream, Hears, says, Streams}
-use Rattle.command_faults.specs.Faults.{line_after}
+use Rattle.command_faults.specs.Streams.{Streams}
 use Rattle.command_changes.specs.Mkfs.{mkfs_line_at}
-use Rattle.command_faults.specs.declared.fault.Fault.{Fault}
 use Rattle.command_changes.specs.declared.mkfs.MadeVolume.{MadeVolume}
 use Rattle.vol_mkfs.specs.declared.blank.NewVolume.{NewVolume}
 use Rattle.unixvol.specs.Runs.{IsStatusOfFileOrMemory, MadeSaved, RunsMkfs}
@@ -30,34 +28,26 @@ own_within (suc (suc n)) other =
 file_within : (status : ℕ) → IsStatusOfFileOrMemory status → (3 ≤ status) × (status ≤ 4)
 file_within status file = elim file [ inl e ↦ (omega arith, omega arith) | inr e ↦ (omega arith, omega arith) ]
 
--- the line that is printed is the one for the status
-pub told_at : (volume : NewVolume) (status known : ℕ) (fault : Option Fault) (errors : ErrorStream)
-    → line_after fault ≡ mkfs_line_at (is_size volume.edition volume.blocks volume.list_blocks) status → Hears errors fault → status ≡ known
-    → says errors (mkfs_line_at (is_size volume.edition volume.blocks volume.list_blocks) known)
-told_at volume status known fault errors line hears is =
-    subst (λ n. says errors (mkfs_line_at (is_size volume.edition volume.blocks volume.list_blocks) n)) is (subst (says errors) line hears)
-
 -- the result of `mkfs` satisfies `RunsMkfs`, whether the volume was saved or not
 pub runs_by : (streams : Streams) (taken : List ℕ → Type 0) (volume : NewVolume) (made : MadeVolume) (status : ℕ)
     → IfSome made.volume (λ blank. blank ≡ blank_of volume)
     → (made.status ≡ 0 ↔ IsSome made.volume)
     → (made.status ≡ 1 ↔ ((is_size volume.edition volume.blocks volume.list_blocks ≡ false) ⊎ (is_bad_id volume.edition volume.uid volume.gid ≡ true)))
     → (made.status ≢ 0 → made.status ≢ 1 → made.status ≡ 4) → Keeps streams.old streams.new → streams.failed ≡ streams.had_failed
-    → (made.status ≡ 0 → streams.said []) → (made.status ≡ 1 → streams.said (mkfs_line_at (is_size volume.edition volume.blocks volume.list_blocks) 1))
-    → (made.status ≡ 4 → streams.said (mkfs_line_at (is_size volume.edition volume.blocks volume.list_blocks) 4))
-    → MadeSaved taken made status → RunsMkfs streams taken volume status
-runs_by streams taken volume made status is done refused memory unprinted unused quiet told wanting saved = elim saved [
+    → streams.lines ≡ mkfs_line_at (is_size volume.edition volume.blocks volume.list_blocks) made.status → MadeSaved taken made status
+    → RunsMkfs streams taken volume status
+runs_by streams taken volume made status is done refused memory unprinted unused line saved = elim saved [
   | inl own ↦ record {
     unprinted = unprinted;
     unused = unused;
     refused = (λ e. refused.0 (sym own.0 ∙ e), λ wrong. own.0 ∙ refused.1 wrong);
     within = subst (λ n. (n ≤ 4) × (n ≢ 2)) (sym own.0) (own_within made.status memory);
     made = λ e. taken_whole made.volume _ taken is own.1 (done.0 (sym own.0 ∙ e));
-    quiet = λ e. quiet (sym own.0 ∙ e);
-    told = λ e. told (sym own.0 ∙ e);
+    quiet = λ e. line ∙ ap (mkfs_line_at (is_size volume.edition volume.blocks volume.list_blocks)) (sym own.0 ∙ e);
+    told = λ e. line ∙ ap (mkfs_line_at (is_size volume.edition volume.blocks volume.list_blocks)) (sym own.0 ∙ e);
     unsaved = λ e.
         let four : made.status ≡ 4 = memory (λ z. omega (arith, own.0, e)) (λ o. omega (arith, own.0, e)) in absurd (omega (arith, own.0, e));
-    wanting = λ e. inr (wanting (sym own.0 ∙ e));
+    wanting = λ e. inr (line ∙ ap (mkfs_line_at (is_size volume.edition volume.blocks volume.list_blocks)) (sym own.0 ∙ e));
   }
   | inr file ↦
       let whole : made.status ≡ 0 = done.1 file.0 in
@@ -70,7 +60,7 @@ runs_by streams taken volume made status is done refused memory unprinted unused
         made = λ e. absurd (omega (arith, range.0));
         quiet = λ e. absurd (omega (arith, range.0));
         told = λ e. absurd (omega (arith, range.0));
-        unsaved = λ e. quiet whole;
-        wanting = λ e. inl (quiet whole);
+        unsaved = λ e. line ∙ ap (mkfs_line_at (is_size volume.edition volume.blocks volume.list_blocks)) whole;
+        wanting = λ e. inl (line ∙ ap (mkfs_line_at (is_size volume.edition volume.blocks volume.list_blocks)) whole);
       }
 ]

@@ -58,18 +58,18 @@ no_ok printed status ok err = absurd cc
 -- the end of an answer: its status is at most 4; if it is 0, no output failed and no fault was reported
 record Answered (streams : Streams) (answer : Answer) : Type 0 where
   within : answer.status ≤ 4
-  whole : answer.status ≡ 0 → (streams.failed ≡ streams.had_failed) × streams.said []
+  whole : answer.status ≡ 0 → (streams.failed ≡ streams.had_failed) × (streams.lines ≡ [])
 
 answered_fault : (streams : Streams) (answer : Answer) (status : ℕ) → answer.status ≡ status → (1 ≤ status) → (status ≤ 4) → Answered streams answer
 answered_fault streams answer status is least most = record { within = subst (λ n. n ≤ 4) (sym is) most; whole = λ e. absurd (omega (arith, is, e, least)) }
 
-answered_unread : (streams : Streams) (answer : Answer) (fault : ScriptsFault) → AnswersFault fault streams.said answer → Answered streams answer
+answered_unread : (streams : Streams) (answer : Answer) (fault : ScriptsFault) → AnswersFault fault streams.lines answer → Answered streams answer
 answered_unread streams answer (unread.Line script line flaw) (inl refused) = answered_fault streams answer 2 refused.0.ends (omega arith) (omega arith)
 answered_unread streams answer (unread.Line script line flaw) (inr refused) = answered_fault streams answer 4 refused.ends (omega arith) (omega arith)
 answered_unread streams answer unread.NoMemory refused = answered_fault streams answer 4 refused.ends (omega arith) (omega arith)
 
 answered_finished : (streams : Streams) (answer : Answer) (last : Mounted) (cuts : _) (report : ℕ → List ℕ) (scripts : List (Vec Played))
-    → Finishes last cuts scripts (PrintsPlay last scripts report streams.old streams.new streams.had_failed streams.failed) streams.said answer → Answered streams answer
+    → Finishes last cuts scripts (PrintsPlay last scripts report streams.old streams.new streams.had_failed streams.failed) streams.lines answer → Answered streams answer
 answered_finished streams answer last cuts report scripts finishes = elim finishes.ended [
   | inl printed ↦ record {
     within = subst (λ n. n ≤ 4) (sym printed.0.1.3.1) (printed_few scripts printed.0.1.0);
@@ -80,7 +80,7 @@ answered_finished streams answer last cuts report scripts finishes = elim finish
 
 -- a play without memory for its trace
 answered_untraced : (streams : Streams) (answer : Answer) (last : Mounted) (cuts : _) (scripts : List (Vec Played))
-    → Finishes last cuts scripts (λ printed. (printed ≡ Err no_memory) × IsSilent streams) streams.said answer → Answered streams answer
+    → Finishes last cuts scripts (λ printed. (printed ≡ Err no_memory) × IsSilent streams) streams.lines answer → Answered streams answer
 answered_untraced streams answer last cuts scripts finishes = elim finishes.ended [
   | inl printed ↦ absurd (no_ok (Ok answer.status) answer.status refl printed.0.0)
   | inr failed ↦ answered_fault streams answer (fault_status failed.0) failed.2 (fault_few failed.0).0 (fault_few failed.0).1

@@ -20,7 +20,7 @@ use Rattle.unixvol.proofs.Looked.{ends_badly, ends_telling, ends_told, ends_unre
 
 -- nothing more is required of a run that may report something
 ends_remarked : (remarks : Bool) (streams : Streams) (status : ℕ) → IsEndWithin 6 streams status → IsEndWithin 6 (but_remarks remarks streams) status
-ends_remarked true streams status end = record { within = end.within; whole = λ e. ((end.whole e).0, tt) }
+ends_remarked true streams status end = record { within = end.within; whole = λ e. ((end.whole e).0, refl) }
 ends_remarked false streams status end = end
 
 ends_bad_unread : (edition : Edition) (bytes : List ℕ) (sizes : Option VolumeSizes) (streams : Streams) (status : ℕ) (bad : BadBlocks)
@@ -41,7 +41,7 @@ ends_losses : (streams : Streams) (is_output : Bool) (report losses : List ℕ) 
 ends_losses streams false report losses status prints = ends_remarked true streams status (ends_printed streams report losses status prints)
 ends_losses streams true report losses status (inl printed) =
     let few = lines_few 6 5 (losses_status losses) losses (omega arith) (omega arith) refl in
-    record { within = subst (λ n. n ≤ 6) (sym printed.status) few.0; whole = λ e. (printed.working, tt) }
+    record { within = subst (λ n. n ≤ 6) (sym printed.status) few.0; whole = λ e. (printed.working, refl) }
 ends_losses streams true report losses status (inr broken) =
     ends_remarked true streams status (ends_badly 6 streams status (omega (arith, broken.status)) (omega (arith, broken.status)))
 

@@ -17,7 +17,7 @@ use Rattle.unixvol.specs.Traces.{EndsTraced, IsQuiet, PrintsTrace}
 quiet_same : (wanted other : ℕ) (lines others : List ℕ) (streams : Streams) (status : ℕ) → wanted ≡ other → lines ≡ others
     → IsQuiet wanted lines streams status → IsQuiet other others streams status
 quiet_same wanted other lines others streams status same also quiet =
-    record { ended = quiet.ended ∙ same; kept = quiet.kept; working = quiet.working; said = subst streams.said also quiet.said }
+    record { ended = quiet.ended ∙ same; kept = quiet.kept; working = quiet.working; said = quiet.said ∙ also }
 
 -- if nothing is written, the contents of a stream stay the same
 pub kept_same : (known : Option (List ℕ)) → Keeps known known
@@ -63,12 +63,12 @@ printed_ends : (trace : Option (Vec ℕ)) (lines told : List ℕ) (streams : Str
 printed_ends None lines told streams status same quiet = let is = quiet.ended in record {
   within = omega (arith, is);
   silent = λ _ _. quiet.kept;
-  whole = λ e. (quiet.working, subst streams.said same quiet.said);
+  whole = λ e. (quiet.working, quiet.said ∙ same);
 }
 printed_ends (Some text) lines told streams status same (inl whole) = let is = whole.0 in record {
   within = omega (arith, is);
   silent = λ other _. absurd (other is);
-  whole = λ e. (whole.2, subst streams.said same whole.3);
+  whole = λ e. (whole.2, whole.3 ∙ same);
 }
 printed_ends (Some text) lines told streams status same (inr broken) = let is = broken.0 in record {
   within = omega (arith, is);

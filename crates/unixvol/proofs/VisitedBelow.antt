@@ -76,7 +76,7 @@ visited_more remaining stamped stood listed form start left left' under found co
 pub breaks_off : {F : Type 0} (remaining : F → Option (List ℕ)) (stamped : F → Stamp → Type 0) (stood : Stamp → Type 0) (listed : List ℕ → FolderListing → Type 0) (form : GuessForm) (start left under : List Found) (found : Found) (count status one cut : ℕ) (streams : Streams) (b : Option (List ℕ)) (line : List ℕ)
     → ArePrintedBelow remaining stamped stood listed form start count left streams.old b status → left ≡ under ++ found ∷ []
     → IsVisit remaining stamped stood listed form found line [] one → AppendsFront b streams.new line cut → streams.failed ≡ true
-    → streams.said (fault_line Output) → VisitsAll remaining stamped stood listed streams form start 3
+    → streams.lines ≡ fault_line Output → VisitsAll remaining stamped stood listed streams form start 3
 breaks_off remaining stamped stood listed form start left under found count status one cut streams b line had top is front broken said = (
   count + 1,
   under ++ [],
@@ -97,7 +97,7 @@ breaks_off remaining stamped stood listed form start left under found count stat
 
 -- if standard output fails before the first line, nothing is visited
 pub breaks_first : {F : Type 0} (remaining : F → Option (List ℕ)) (stamped : F → Stamp → Type 0) (stood : Stamp → Type 0) (listed : List ℕ → FolderListing → Type 0) (form : GuessForm) (start : List Found) (streams : Streams) (cut : ℕ)
-    → AppendsFront streams.old streams.new (front_of form) cut → streams.failed ≡ true → streams.said (fault_line Output)
+    → AppendsFront streams.old streams.new (front_of form) cut → streams.failed ≡ true → streams.lines ≡ fault_line Output
     → VisitsAll remaining stamped stood listed streams form start 3
 breaks_first remaining stamped stood listed form start streams cut front broken said = (
   0,
@@ -116,14 +116,14 @@ breaks_first remaining stamped stood listed form start streams cut front broken 
 -- if nothing is left, all is visited
 pub visited_all : {F : Type 0} (remaining : F → Option (List ℕ)) (stamped : F → Stamp → Type 0) (stood : Stamp → Type 0) (listed : List ℕ → FolderListing → Type 0) (form : GuessForm) (start left : List Found) (count status : ℕ) (streams : Streams)
     → ArePrintedBelow remaining stamped stood listed form start count left streams.old streams.new status → left ≡ []
-    → streams.failed ≡ streams.had_failed → streams.said [] → VisitsAll remaining stamped stood listed streams form start status
+    → streams.failed ≡ streams.had_failed → streams.lines ≡ [] → VisitsAll remaining stamped stood listed streams form start status
 visited_all remaining stamped stood listed form start left count status streams had none working said =
     (count, left, had.lines, status, had.are, inl (none, record { status = refl; whole = had.whole; working = working; said = said }))
 
 -- if as many were visited as may be, the rest isn't
 pub gives_up : {F : Type 0} (remaining : F → Option (List ℕ)) (stamped : F → Stamp → Type 0) (stood : Stamp → Type 0) (listed : List ℕ → FolderListing → Type 0) (form : GuessForm) (start left : List Found) (count status end : ℕ) (streams : Streams)
     → ArePrintedBelow remaining stamped stood listed form start count left streams.old streams.new status → count ≡ 4294967295 → end ≡ max status 3
-    → streams.failed ≡ streams.had_failed → streams.said [] → VisitsAll remaining stamped stood listed streams form start end
+    → streams.failed ≡ streams.had_failed → streams.lines ≡ [] → VisitsAll remaining stamped stood listed streams form start end
 gives_up remaining stamped stood listed form start left count status end streams had many is working said =
     (count, left, had.lines, status, had.are, inr (inr (many, record { status = is; whole = had.whole; working = working; said = said })))
 

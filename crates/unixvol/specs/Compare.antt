@@ -26,7 +26,7 @@ AreTold volume other (comparisons.Fields all form) lines = lines ≡ []
 -- `diff` ends with a status of at most 4; if it is 0, no output failed, and nothing was reported but lines of images that aren't sound (this project)
 pub record EndsComparison (volume : VolumeFile) (other : List ℕ) (by : Comparison) (streams : Streams) (status : ℕ) : Type 0 where
   pub within : status ≤ 4
-  pub whole : status ≡ 0 → (streams.failed ≡ streams.had_failed) × ((lines : List ℕ) × AreTold volume other by lines × streams.said lines)
+  pub whole : status ≡ 0 → (streams.failed ≡ streams.had_failed) × AreTold volume other by streams.lines
 
 -- `diff` runs to its end, as a command that shows part of an image does (this project)
 abbrev pub ComparesToEnd : HostFiles → Option (List ℕ) → Option (List ℕ) → VolumeFile → List ℕ → Comparison → ℕ → Type 0

@@ -52,7 +52,7 @@ IsFileToo stands now word = (now.word ≡ Some word) × stands word.now true
 abbrev pub LeavesMoment : Streams → Standing → Moment → ℕ → Type 0
 LeavesMoment streams stands now status =
     (status ≡ 2) × ((word : Bor (List ℕ)) × IsFileToo stands now word)
-    × Keeps streams.old streams.new × (streams.failed ≡ streams.had_failed) × streams.said []
+    × Keeps streams.old streams.new × (streams.failed ≡ streams.had_failed) × (streams.lines ≡ [])
 
 -- files with these names are put into a directory: nothing is done; or their bytes are read from files and put into an image, which is read from a
 -- file and may be changed, and the result of the calls is saved if the system reported that some file had the stamp of the image's file; their trace is
@@ -78,9 +78,9 @@ AreSaved taken files = All (λ (file : FileRead). taken file.bytes.items) files
 
 -- a run ends after files were read from a volume: the status is 0 if each was saved, otherwise that of a file, and no fault is reported; or, if they
 -- weren't read, the fault is reported, with its status (this project)
-abbrev pub EndsRead : (List ℕ → Type 0) → (List ℕ → Type 0) → Result (Vec FileRead) Fault → ℕ → Type 0
-EndsRead taken said (Ok files) status = (((status ≡ 0) × AreSaved taken files.items) ⊎ IsStatusOfFileOrMemory status) × said []
-EndsRead taken said (Err fault) status = (status ≡ fault_status fault) × said (fault_line fault)
+abbrev pub EndsRead : (List ℕ → Type 0) → List ℕ → Result (Vec FileRead) Fault → ℕ → Type 0
+EndsRead taken lines (Ok files) status = (((status ≡ 0) × AreSaved taken files.items) ⊎ IsStatusOfFileOrMemory status) × (lines ≡ [])
+EndsRead taken lines (Err fault) status = (status ≡ fault_status fault) × (lines ≡ fault_line fault)
 
 -- the files at these paths of a volume are copied to the host: nothing is done; or nothing is printed, the files are read from an image, which is
 -- read from a file, and each is saved once all are read (this project)
@@ -88,7 +88,7 @@ abbrev pub RunsGet : Streams → HostFiles → Edition → List (List ℕ) → �
 RunsGet streams files edition paths status =
     RunsNothing streams files status
     ⊎ ((image : List ℕ) × (read : Result (Vec FileRead) Fault) × files.shown edition image × GetsFiles edition image paths read
-    × Keeps streams.old streams.new × (streams.failed ≡ streams.had_failed) × EndsRead files.taken streams.said read status)
+    × Keeps streams.old streams.new × (streams.failed ≡ streams.had_failed) × EndsRead files.taken streams.lines read status)
 
 -- several files are copied (this project)
 abbrev pub RunsCopy : Streams → HostFiles → Standing → Edition → Copying → ℕ → Type 0

@@ -10,11 +10,11 @@ Exits status end = (end ≡ status) ⊎ (end ≡ 3)
 abbrev pub ExitsAfterSaving : ℕ → ℕ → Type 0
 ExitsAfterSaving status end = (end ≡ status) ⊎ ((status ≡ 0) × (end ≡ 3))
 
--- a command runs to its end, from the contents of the program's two streams: for their contents afterwards, whether they failed, and the status of the run, it
--- runs and ends like this; and the exit status follows from that of the run (this project)
+-- a command runs to its end, from the contents of the program's two streams: for their contents afterwards, whether they failed, its lines, which were
+-- written to standard error, and the status of the run, it runs and ends like this; and the exit status follows from that of the run (this project)
 abbrev pub ToEnd : Option (List ℕ) → Option (List ℕ) → (Streams → ℕ → Type 0) → (Streams → ℕ → Type 0) → (ℕ → ℕ → Type 0) → ℕ → Type 0
 ToEnd output errors runs ends exits end =
-    (new : Option (List ℕ)) × (failed : Bool) × (told : Option (List ℕ)) × (untold : Bool) × (status : ℕ)
-    × runs (record { old = output; new = new; had_failed = false; failed = failed; said = Gets untold errors told }) status
-    × ends (record { old = output; new = new; had_failed = false; failed = failed; said = Gets untold errors told }) status
-    × exits status end
+    (new : Option (List ℕ)) × (failed : Bool) × (told : Option (List ℕ)) × (untold : Bool) × (lines : List ℕ) × (status : ℕ)
+    × runs (record { old = output; new = new; had_failed = false; failed = failed; lines = lines }) status
+    × ends (record { old = output; new = new; had_failed = false; failed = failed; lines = lines }) status
+    × Gets untold errors told lines × exits status end

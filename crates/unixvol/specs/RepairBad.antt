@@ -29,7 +29,7 @@ PrintsLosses streams true report losses status = PrintsTelling (losses_status lo
 abbrev pub SavesRescued : Streams → (List ℕ → Type 0) → (Stamp → Type 0) → List ℕ → List ℕ → List ℕ → ℕ → Type 0
 SavesRescued streams taken stood bytes report losses status =
     ((is_output : Bool) × (is_output ≡ true → IsOneFile stood) × taken bytes × PrintsLosses streams is_output report losses status)
-    ⊎ ((IsStatusOfFileOrMemory status × Keeps streams.old streams.new × (streams.failed ≡ streams.had_failed) × streams.said [])
+    ⊎ ((IsStatusOfFileOrMemory status × Keeps streams.old streams.new × (streams.failed ≡ streams.had_failed) × (streams.lines ≡ []))
     ⊎ IsTold streams no_memory status)
 
 -- the report on a copy is printed, with what is lost; if a file is named for the copy, it is saved there first (this project)

@@ -17,7 +17,7 @@ pub record IsReportTold (streams : Streams) (report : List ℕ) (code : ℕ) : T
   pub status : code ≡ 0
   pub kept : Keeps streams.old streams.new
   pub working : streams.failed ≡ streams.had_failed
-  pub said : streams.said report
+  pub said : streams.lines ≡ report
 
 -- true if a command may succeed and still report something: `salvage -o` and `repair` have their reports on standard error if the copy goes to standard
 -- output (this project)

@@ -199,7 +199,7 @@ PrintsBody unread shown old new had_failed failed edition node status =
 -- `cat` runs: its output, and the status, which is 0 only if standard output didn't fail (this project)
 abbrev pub RunsCat : Streams → HostFiles → Edition → NodeName → ℕ → Type 0
 RunsCat streams files edition node status =
-    PrintsBody files.unread (files.shown edition) streams.old streams.new streams.had_failed streams.failed edition node status × (status ≡ 0 → streams.failed ≡ streams.had_failed) × streams.said []
+    PrintsBody files.unread (files.shown edition) streams.old streams.new streams.had_failed streams.failed edition node status × (status ≡ 0 → streams.failed ≡ streams.had_failed) × (streams.lines ≡ [])
 
 -- `mkfs` runs: nothing is printed; the status is 1 exactly if its numbers can't be a volume's, with the line for that; any other line is the one for
 -- out of memory, with its status; and if it succeeds, the volume was written to a file (this project)
@@ -212,10 +212,10 @@ pub record RunsMkfs (streams : Streams) (taken : List ℕ → Type 0) (volume : 
   pub made : status ≡ 0
       → (bytes : List ℕ)
       × IsMade (blank_of volume) bytes × taken bytes
-  pub quiet : status ≡ 0 → streams.said []
-  pub told : status ≡ 1 → streams.said (mkfs_line_at (is_size volume.edition volume.blocks volume.list_blocks) 1)
-  pub unsaved : status ≡ 3 → streams.said []
-  pub wanting : status ≡ 4 → streams.said [] ⊎ streams.said (mkfs_line_at (is_size volume.edition volume.blocks volume.list_blocks) 4)
+  pub quiet : status ≡ 0 → streams.lines ≡ []
+  pub told : status ≡ 1 → streams.lines ≡ mkfs_line_at (is_size volume.edition volume.blocks volume.list_blocks) 1
+  pub unsaved : status ≡ 3 → streams.lines ≡ []
+  pub wanting : status ≡ 4 → (streams.lines ≡ []) ⊎ (streams.lines ≡ mkfs_line_at (is_size volume.edition volume.blocks volume.list_blocks) 4)
 
 -- the status after an answer: the answer's own if its image, if any, was saved; 3 or 4 if saving failed (this project)
 abbrev pub EndsSaved : (List ℕ → Type 0) → Answer → ℕ → Type 0
@@ -237,7 +237,7 @@ MadeSaved taken made status = ((status ≡ made.status) × IfSome made.volume (I
 -- nothing is done: a file isn't read, and nothing is printed (this project)
 abbrev pub RunsNothing : Streams → HostFiles → ℕ → Type 0
 RunsNothing streams files status =
-    files.unread status × Keeps streams.old streams.new × (streams.failed ≡ streams.had_failed) × streams.said []
+    files.unread status × Keeps streams.old streams.new × (streams.failed ≡ streams.had_failed) × (streams.lines ≡ [])
 
 -- `migrate` runs: nothing is done; or the volume in an image, which is read from a file, is migrated, nothing is printed, and the result is saved
 -- (this project)
@@ -277,7 +277,7 @@ abbrev pub SavesCopy : Streams → (List ℕ → Type 0) → (Stamp → Type 0) 
 SavesCopy streams taken stood bytes report status =
     (taken bytes × Prints streams report status)
     ⊎ (IsOneFile stood × taken bytes × IsReportTold streams report status)
-    ⊎ (IsStatusOfFileOrMemory status × Keeps streams.old streams.new × (streams.failed ≡ streams.had_failed) × streams.said [])
+    ⊎ (IsStatusOfFileOrMemory status × Keeps streams.old streams.new × (streams.failed ≡ streams.had_failed) × (streams.lines ≡ []))
 
 -- the report on a volume is printed; if a file is named for the volume, it is saved there first, and if that fails nothing is printed (this project)
 abbrev pub ReportsCopy : {A : Type 0} → Option A → Streams → (List ℕ → Type 0) → (Stamp → Type 0) → List ℕ → List ℕ → ℕ → Type 0
@@ -378,7 +378,7 @@ IsUngiven unread unheard needs.Nothing status = ⊥
 -- nothing is done: what a change needs isn't read, and nothing is printed (this project)
 abbrev pub TakesNothing : Streams → HostFiles → HostInput → Change → ℕ → Type 0
 TakesNothing streams files input change status =
-    IsUngiven files.unread input.unread (needs_of change) status × Keeps streams.old streams.new × (streams.failed ≡ streams.had_failed) × streams.said []
+    IsUngiven files.unread input.unread (needs_of change) status × Keeps streams.old streams.new × (streams.failed ≡ streams.had_failed) × (streams.lines ≡ [])
 
 -- this may be kept of a file, besides its bytes: permissions of 12 bits, or these and a time (this project)
 abbrev pub IsKept : Keep → Kept → Type 0
@@ -405,7 +405,7 @@ wants_terminal is_terminal _ = false
 
 -- nothing is done or printed, since an archive is needed from a terminal; the status is the one for a file that can't be read (this project)
 abbrev pub LeavesTerminal : Streams → ℕ → Type 0
-LeavesTerminal streams status = (status ≡ 3) × Keeps streams.old streams.new × (streams.failed ≡ streams.had_failed) × streams.said []
+LeavesTerminal streams status = (status ≡ 3) × Keeps streams.old streams.new × (streams.failed ≡ streams.had_failed) × (streams.lines ≡ [])
 
 -- a volume is changed, with these lines about the bytes to save: nothing is done, without lines; or it is changed, with the bytes that were read for
 -- it, in an image which is read from a file and may be changed, and the result is saved if the system reported that some file had the stamp of the
@@ -503,7 +503,7 @@ pub record Tells (streams : Streams) (kind : ErrorKind) (status : ℕ) : Type 0 
   pub mistake : kind ≢ kinds.OutOfMemory → kind ≢ kinds.DisplayHelp → kind ≢ kinds.DisplayVersion → status ≡ 2
   pub shown : (kind ≡ kinds.DisplayHelp) ⊎ (kind ≡ kinds.DisplayVersion) → (status ≡ 0) ⊎ IsStatusOfFileOrMemory status
   pub failed : status ≡ 3 → streams.failed ≡ true
-  pub quiet : streams.said []
+  pub quiet : streams.lines ≡ []
 
 -- the words that were read run: their invocation is carried out; or they are refused, with the status for that (this project)
 abbrev pub RunsRead : Streams → HostFiles → ℕ → Result Invocation Error → Type 0
@@ -515,15 +515,15 @@ RunsRead streams files status (Err error) = Tells streams (kind_of error) status
 pub record EndsWith (lines : List ℕ) (streams : Streams) (status : ℕ) : Type 0 where
   pub within : status ≤ 4
   pub silent : status ≢ 0 → status ≢ 3 → Keeps streams.old streams.new
-  pub whole : status ≡ 0 → (streams.failed ≡ streams.had_failed) × streams.said lines
+  pub whole : status ≡ 0 → (streams.failed ≡ streams.had_failed) × (streams.lines ≡ lines)
 
 -- a run ends, and reports nothing if its status is 0 (this project)
 abbrev pub Ends : Streams → ℕ → Type 0
 Ends streams status = EndsWith [] streams status
 
--- the streams; if a run may succeed and report something, nothing is required of the reported lines (this project)
+-- the streams; without the reported lines if a run may succeed and report something (this project)
 abbrev pub but_remarks : Bool → Streams → Streams
-but_remarks true streams = record streams { said = λ bytes. Unit {0} }
+but_remarks true streams = record streams { lines = [] }
 but_remarks false streams = streams
 
 -- the program runs to its end (this project)
@@ -535,7 +535,7 @@ RunsToEnd files output errors read end =
 -- a run that may have printed something with any status ends: the status is at most `most`; if it is 0, no output failed and no fault was reported (this project)
 pub record IsEndWithin (most : ℕ) (streams : Streams) (status : ℕ) : Type 0 where
   pub within : status ≤ most
-  pub whole : status ≡ 0 → (streams.failed ≡ streams.had_failed) × streams.said []
+  pub whole : status ≡ 0 → (streams.failed ≡ streams.had_failed) × (streams.lines ≡ [])
 
 -- a run that may have printed something with any status ends with a status of at most 4 (this project)
 abbrev pub IsEnd : Streams → ℕ → Type 0

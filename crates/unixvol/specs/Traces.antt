@@ -14,14 +14,14 @@ pub record IsQuiet (wanted : ℕ) (lines : List ℕ) (streams : Streams) (status
   pub ended : status ≡ wanted
   pub kept : Keeps streams.old streams.new
   pub working : streams.failed ≡ streams.had_failed
-  pub said : streams.said lines
+  pub said : streams.lines ≡ lines
 
 -- a text is printed, and these lines are reported, with status 0; or standard output fails after a prefix of the text, and that is reported instead,
 -- with status 3 (this project)
 abbrev pub PrintsText : List ℕ → List ℕ → Streams → ℕ → Type 0
 PrintsText text lines streams status =
-    ((status ≡ 0) × Appends streams.old streams.new text × (streams.failed ≡ streams.had_failed) × streams.said lines)
-    ⊎ ((status ≡ 3) × ((count : ℕ) × AppendsFront streams.old streams.new text count) × (streams.failed ≡ true) × streams.said (fault_line faults.Output))
+    ((status ≡ 0) × Appends streams.old streams.new text × (streams.failed ≡ streams.had_failed) × (streams.lines ≡ lines))
+    ⊎ ((status ≡ 3) × ((count : ℕ) × AppendsFront streams.old streams.new text count) × (streams.failed ≡ true) × (streams.lines ≡ fault_line faults.Output))
 
 -- a trace is printed if there is one, and otherwise nothing is, with status 0; and these lines are reported (this project)
 abbrev pub PrintsTrace : Option (Vec ℕ) → List ℕ → Streams → ℕ → Type 0

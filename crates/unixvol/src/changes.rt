@@ -1,7 +1,7 @@
 //! The commands that change a volume: opening and saving their files.
 ghost use Rattle.std.specs.Prelude.{◌≡◌, ◌+◌, ◌*◌, ◌/◌, ◌^◌, ◌≤◌, min, ℕ, IfErr, IfOk, List};
 ghost use Rattle.std.specs.Process.{exit_status};
-ghost use Rattle.command_faults.specs.Streams.{ErrorStream, Hears, streams};
+ghost use Rattle.command_faults.specs.Streams.{streams};
 ghost use Rattle.unixvol.specs.FileFaults.{file_status, run_fault, run_status};
 ghost use Rattle.unixvol.specs.Runs.{ChangesToEnd, EndsWith, GaveArchive, GavePut, IsGivenTo, IsUngiven, IsUnread, RunsChange, host_files, host_input, wants_terminal};
 
@@ -87,9 +87,9 @@ fn run<'a, R: ImageFiles + Clock + Eprint + AllocGlobal, I: Read + Drop, O: Sink
     trace: bool,
     packed: &mut Option<&'static str>,
 ) -> Result<Ending, FailedRun<'a>>
-    ensures { (errors : ErrorStream) → Hears errors (run_fault result) → (lines : List ℕ)
-        × RunsChange (streams O.contents O.failed output.old output.new errors) (host_files volume.entry.at R.File.remaining R.File.contents R.had R.stood) (host_input I.remaining) is_terminal volume.entry.edition change.entry trace lines (run_status result)
-        × EndsWith lines (streams O.contents O.failed output.old output.new errors) (run_status result) }
+    ensures { (lines : List ℕ)
+        × RunsChange (streams O.contents O.failed output.old output.new (run_fault result)) (host_files volume.entry.at R.File.remaining R.File.contents R.had R.stood) (host_input I.remaining) is_terminal volume.entry.edition change.entry trace lines (run_status result)
+        × EndsWith lines (streams O.contents O.failed output.old output.new (run_fault result)) (run_status result) }
 {
     let needs = change.needs();
     if wants_terminal(is_terminal, needs) {

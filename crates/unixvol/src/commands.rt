@@ -3,7 +3,7 @@ ghost use Rattle.std.specs.Prelude.{◌≡◌, ◌≢◌, ◌≤◌, ℕ, Bool, 
 ghost use Rattle.std.specs.Io.KnownBytes.{Keeps};
 ghost use Rattle.std.specs.Process.{exit_status};
 ghost use Rattle.command_faults.specs.Faults.{line_after};
-ghost use Rattle.command_faults.specs.Streams.{ErrorStream, Hears, still, streams};
+ghost use Rattle.command_faults.specs.Streams.{still, streams};
 ghost use Rattle.unixvol.specs.FileFaults.{run_fault, run_status};
 ghost use Rattle.unixvol.specs.Reports.{IsOneFile, may_report, may_report_read};
 ghost use Rattle.unixvol.specs.Runs.{IsPlainCommand, IsUnread, GaveAt, PrintsBody, RunsMigrate, RunsMkfs, RunsRepair, RunsSalvage, Runs, RunsRead, SavesCopy, RunsToEnd, Ends, but_remarks, host_files, made_in, new_place_at, read_at, volume_at};
@@ -63,10 +63,8 @@ fn run<'a, R: ImageFiles + Clock + Eprint + AllocGlobal, O: Sink>(
     read: Result<Invocation<'a>, Error>,
 ) -> Result<Ending, FailedRun<'a>>
     requires { IfOk read IsPlainCommand }
-    ensures runs { (errors : ErrorStream) → Hears errors (run_fault result)
-        → RunsRead (streams O.contents O.failed output.old output.new errors) (host_files (read_at read.entry) R.File.remaining R.File.contents R.had R.stood) (run_status result) read.entry }
-    ensures ends { (errors : ErrorStream) → Hears errors (run_fault result)
-        → Ends (but_remarks (may_report_read read.entry) (streams O.contents O.failed output.old output.new errors)) (run_status result) }
+    ensures runs { RunsRead (streams O.contents O.failed output.old output.new (run_fault result)) (host_files (read_at read.entry) R.File.remaining R.File.contents R.had R.stood) (run_status result) read.entry }
+    ensures ends { Ends (but_remarks (may_report_read read.entry) (streams O.contents O.failed output.old output.new (run_fault result))) (run_status result) }
 {
     match read {
         Ok(invocation) => carry_out(host, output, invocation),
@@ -84,10 +82,8 @@ fn carry_out<'a, R: ImageFiles + Clock + Eprint + AllocGlobal, O: Sink>(
     invocation: Invocation<'a>,
 ) -> Result<Ending, FailedRun<'a>>
     requires { IsPlainCommand invocation }
-    ensures runs { (errors : ErrorStream) → Hears errors (run_fault result)
-        → Runs (streams O.contents O.failed output.old output.new errors) (host_files (volume_at invocation.entry) R.File.remaining R.File.contents R.had R.stood) (run_status result) invocation.entry }
-    ensures ends { (errors : ErrorStream) → Hears errors (run_fault result)
-        → Ends (but_remarks (may_report invocation.entry) (streams O.contents O.failed output.old output.new errors)) (run_status result) }
+    ensures runs { Runs (streams O.contents O.failed output.old output.new (run_fault result)) (host_files (volume_at invocation.entry) R.File.remaining R.File.contents R.had R.stood) (run_status result) invocation.entry }
+    ensures ends { Ends (but_remarks (may_report invocation.entry) (streams O.contents O.failed output.old output.new (run_fault result))) (run_status result) }
 {
     match invocation {
         Invocation::Cat { volume, node } => run_cat(host, output, volume, node),
@@ -152,8 +148,8 @@ fn run_mkfs<'a, R: ImageFiles + Clock + Eprint + AllocGlobal>(
     place: NewPlace<'a>,
     volume: NewVolume,
 ) -> Result<Ending, FailedRun<'a>>
-    ensures { (known : Option (List ℕ)) (failed : Bool) (errors : ErrorStream) → Hears errors (run_fault result)
-        → RunsMkfs (still known failed errors) (made_in (host_files (new_place_at place.entry) R.File.remaining R.File.contents R.had R.stood) place.entry volume.blocks) volume (run_status result) }
+    ensures { (known : Option (List ℕ)) (failed : Bool)
+        → RunsMkfs (still known failed (run_fault result)) (made_in (host_files (new_place_at place.entry) R.File.remaining R.File.contents R.had R.stood) place.entry volume.blocks) volume (run_status result) }
 {
     let made = make_volume(host.rt.alloc(), volume);
     let saved = save_made(host, place, volume.blocks, &made);
@@ -168,10 +164,9 @@ fn run_migrate<'a, R: ImageFiles + Clock + Eprint + AllocGlobal>(
     new: MadeFile<'a>,
     migration: Migration,
 ) -> Result<Ending, FailedRun<'a>>
-    ensures runs { (known : Option (List ℕ)) (failed : Bool) (errors : ErrorStream) → Hears errors (run_fault result)
-        → RunsMigrate (still known failed errors) (host_files at R.File.remaining R.File.contents R.had R.stood) migration (run_status result) }
-    ensures ends { (known : Option (List ℕ)) (failed : Bool) (errors : ErrorStream) → Hears errors (run_fault result)
-        → Ends (still known failed errors) (run_status result) }
+    ensures runs { (known : Option (List ℕ)) (failed : Bool)
+        → RunsMigrate (still known failed (run_fault result)) (host_files at R.File.remaining R.File.contents R.had R.stood) migration (run_status result) }
+    ensures ends { (known : Option (List ℕ)) (failed : Bool) → Ends (still known failed (run_fault result)) (run_status result) }
 {
     let volume = VolumeFile {
         edition: Edition::V6,
@@ -193,8 +188,7 @@ fn run_salvage<'a, R: ImageFiles + Clock + Eprint + AllocGlobal, O: Sink>(
     volume: VolumeFile<'a>,
     copy: Option<&'a str>,
 ) -> Result<Ending, FailedRun<'a>>
-    ensures { (errors : ErrorStream) → Hears errors (run_fault result)
-        → RunsSalvage (streams O.contents O.failed output.old output.new errors) (host_files volume.entry.at R.File.remaining R.File.contents R.had R.stood) volume.entry.edition copy.entry (run_status result) }
+    ensures { RunsSalvage (streams O.contents O.failed output.old output.new (run_fault result)) (host_files volume.entry.at R.File.remaining R.File.contents R.had R.stood) volume.entry.edition copy.entry (run_status result) }
 {
     let (image, stamp) = read_stamped(host.rt, volume)?;
     let salvaged = match salvage_with_report(host.rt.alloc(), volume.edition, image) {
@@ -215,8 +209,7 @@ fn run_repair<'a, R: ImageFiles + Clock + Eprint + AllocGlobal, O: Sink>(
     copy: Option<MadeFile<'a>>,
     repairing: Repairing,
 ) -> Result<Ending, FailedRun<'a>>
-    ensures { (errors : ErrorStream) → Hears errors (run_fault result)
-        → RunsRepair (streams O.contents O.failed output.old output.new errors) (host_files volume.entry.at R.File.remaining R.File.contents R.had R.stood) volume.entry.edition copy.entry repairing (run_status result) }
+    ensures { RunsRepair (streams O.contents O.failed output.old output.new (run_fault result)) (host_files volume.entry.at R.File.remaining R.File.contents R.had R.stood) volume.entry.edition copy.entry repairing (run_status result) }
 {
     let (image, stamp) = read_stamped(host.rt, volume)?;
     let repaired = match repair_with_report(host.rt.alloc(), volume.edition, image, repairing) {
@@ -237,8 +230,7 @@ fn save_unless_kept<'a, R: ImageFiles + Clock + Eprint + AllocGlobal, O: Sink>(
     old: Stamp,
     made: ReportedVolume,
 ) -> Result<Ending, FailedRun<'a>>
-    ensures { (errors : ErrorStream) → Hears errors (run_fault result)
-        → SavesCopy (streams O.contents O.failed output.old output.new errors) (IsTaken R.File.contents) R.stood made.bytes.items made.report.items (run_status result) }
+    ensures { SavesCopy (streams O.contents O.failed output.old output.new (run_fault result)) (IsTaken R.File.contents) R.stood made.bytes.items made.report.items (run_status result) }
 {
     expect_new(host.rt, copy)?;
     save_copy(host, output, copy.path, old, made)
@@ -253,8 +245,7 @@ fn save_copy<'a, R: ImageFiles + Clock + Eprint + AllocGlobal, O: Sink>(
     old: Stamp,
     made: ReportedVolume,
 ) -> Result<Ending, FailedRun<'a>>
-    ensures { (errors : ErrorStream) → Hears errors (run_fault result)
-        → SavesCopy (streams O.contents O.failed output.old output.new errors) (IsTaken R.File.contents) R.stood made.bytes.items made.report.items (run_status result) }
+    ensures { SavesCopy (streams O.contents O.failed output.old output.new (run_fault result)) (IsTaken R.File.contents) R.stood made.bytes.items made.report.items (run_status result) }
 {
     let is_output = is_output(host.rt, copy);
     save_over(host, copy, old, &made.bytes)?;

@@ -1,7 +1,7 @@
 //! `diff`, which shows how the volumes in two files differ.
 ghost use Rattle.std.specs.Prelude.{◌≡◌, IfErr, IfOk};
 ghost use Rattle.std.specs.Process.{exit_status};
-ghost use Rattle.command_faults.specs.Streams.{ErrorStream, Hears, streams};
+ghost use Rattle.command_faults.specs.Streams.{streams};
 ghost use Rattle.unixvol.specs.Compare.{ComparesToEnd, RunsDiff};
 ghost use Rattle.unixvol.specs.FileFaults.{file_status, run_fault, run_status};
 ghost use Rattle.unixvol.specs.Runs.{IsUnread, host_files};
@@ -84,8 +84,7 @@ fn run<'a, R: ImageFiles + AllocGlobal, O: Sink>(
     other: &'a str,
     by: Comparison,
 ) -> Result<Ending, FailedRun<'a>>
-    ensures { (errors : ErrorStream) → Hears errors (run_fault result)
-        → RunsDiff (streams O.contents O.failed output.old output.new errors)
+    ensures { RunsDiff (streams O.contents O.failed output.old output.new (run_fault result))
         (host_files volume.entry.at R.File.remaining R.File.contents R.had R.stood) volume.entry other.now by (run_status result) }
 {
     let old = read_named(rt, volume)?;

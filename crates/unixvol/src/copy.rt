@@ -1,7 +1,7 @@
 //! The commands that copy several files between the host and a volume: opening and saving their files.
 ghost use Rattle.std.specs.Prelude.{◌≡◌, ℕ, All, Bool, IfErr, IfOk, IfSome, List, None, OnOk, Option, map};
 ghost use Rattle.std.specs.Process.{exit_status};
-ghost use Rattle.command_faults.specs.Streams.{ErrorStream, Hears, still, streams};
+ghost use Rattle.command_faults.specs.Streams.{still, streams};
 ghost use Rattle.unixvol.specs.FileFaults.{file_status, run_fault, run_status};
 ghost use Rattle.unixvol.specs.Copies.{AreSaved, CopiesToEnd, IsFileToo, IsMomentAlone, RunsCopy, RunsGet, RunsPut, name_of};
 ghost use Rattle.unixvol.specs.Runs.{Ends, GavePut, IsGivenFile, IsStatusOfFileOrMemory, IsUnread, host_files};
@@ -59,10 +59,8 @@ fn run<'a, R: ImageFiles + Clock + Eprint + AllocGlobal, O: Sink>(
     volume: VolumeFile<'a>,
     copying: Copying<'a>,
 ) -> Result<Ending, FailedRun<'a>>
-    ensures runs { (errors : ErrorStream) → Hears errors (run_fault result)
-        → RunsCopy (streams O.contents O.failed output.old output.new errors) (host_files volume.entry.at R.File.remaining R.File.contents R.had R.stood) R.stands volume.entry.edition copying.entry (run_status result) }
-    ensures ends { (errors : ErrorStream) → Hears errors (run_fault result)
-        → Ends (streams O.contents O.failed output.old output.new errors) (run_status result) }
+    ensures runs { RunsCopy (streams O.contents O.failed output.old output.new (run_fault result)) (host_files volume.entry.at R.File.remaining R.File.contents R.had R.stood) R.stands volume.entry.edition copying.entry (run_status result) }
+    ensures ends { Ends (streams O.contents O.failed output.old output.new (run_fault result)) (run_status result) }
 {
     match copying {
         Copying::Put {
@@ -93,11 +91,9 @@ fn run_put<'a, R: ImageFiles + Clock + Eprint + AllocGlobal, O: Sink>(
     now: Moment<'a>,
     trace: bool,
 ) -> Result<Ending, FailedRun<'a>>
-    ensures runs { (errors : ErrorStream) → Hears errors (run_fault result)
-        → RunsPut (streams O.contents O.failed output.old output.new errors) (host_files volume.entry.at R.File.remaining R.File.contents R.had R.stood) R.stands volume.entry.edition directory.now
+    ensures runs { RunsPut (streams O.contents O.failed output.old output.new (run_fault result)) (host_files volume.entry.at R.File.remaining R.File.contents R.had R.stood) R.stands volume.entry.edition directory.now
         (map (λ path. name_of path.now) paths.now) keep now.entry trace (run_status result) }
-    ensures ends { (errors : ErrorStream) → Hears errors (run_fault result)
-        → Ends (streams O.contents O.failed output.old output.new errors) (run_status result) }
+    ensures ends { Ends (streams O.contents O.failed output.old output.new (run_fault result)) (run_status result) }
 {
     if let Some(word) = moment_file(host.rt, now) {
         return Err(FailedRun::from(FileFault::Moment(word)));
@@ -166,10 +162,9 @@ fn run_get<'a, R: ImageFiles + Clock + Eprint + AllocGlobal>(
     paths: &[&str],
     keeps: bool,
 ) -> Result<Ending, FailedRun<'a>>
-    ensures runs { (known : Option (List ℕ)) (failed : Bool) (errors : ErrorStream) → Hears errors (run_fault result)
-        → RunsGet (still known failed errors) (host_files volume.entry.at R.File.remaining R.File.contents R.had R.stood) volume.entry.edition (map (λ path. path.now) paths.now) (run_status result) }
-    ensures ends { (known : Option (List ℕ)) (failed : Bool) (errors : ErrorStream) → Hears errors (run_fault result)
-        → Ends (still known failed errors) (run_status result) }
+    ensures runs { (known : Option (List ℕ)) (failed : Bool)
+        → RunsGet (still known failed (run_fault result)) (host_files volume.entry.at R.File.remaining R.File.contents R.had R.stood) volume.entry.edition (map (λ path. path.now) paths.now) (run_status result) }
+    ensures ends { (known : Option (List ℕ)) (failed : Bool) → Ends (still known failed (run_fault result)) (run_status result) }
 {
     let (image, stamp) = read_stamped(host.rt, volume)?;
     match get_files(host.rt.alloc(), volume.edition, image, paths) {

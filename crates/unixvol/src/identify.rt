@@ -3,7 +3,7 @@ ghost use Rattle.std.specs.Prelude.{◌≡◌, true, List, ℕ, map, IfErr, IfOk
 ghost use Rattle.std.specs.Io.KnownBytes.{Appends};
 ghost use Rattle.std.specs.List.{flat_map};
 ghost use Rattle.std.specs.Process.{exit_status};
-ghost use Rattle.command_faults.specs.Streams.{ErrorStream, Hears, streams};
+ghost use Rattle.command_faults.specs.Streams.{streams};
 ghost use Rattle.host_files.specs.declared.image_file.Stamp.{Stamp};
 ghost use Rattle.identify_lines.specs.GuessJson.{seen_json};
 ghost use Rattle.identify_lines.specs.Lines.{seen_lines};
@@ -58,8 +58,7 @@ fn print_lines<R: ImageFiles + Eprint + AllocGlobal, O: Sink>(
     form: GuessForm,
     images: &[&str],
 ) -> Ending
-    ensures { (errors : ErrorStream) → Hears errors result.fault
-        → RunsIdentify R.File.remaining R.had R.stood (streams O.contents O.failed output.old output.new errors) form (map (λ image. image.now) images.now) result.status }
+    ensures { RunsIdentify R.File.remaining R.had R.stood (streams O.contents O.failed output.old output.new result.fault) form (map (λ image. image.now) images.now) result.status }
 {
     let Ok(()) = write_all(output, front_of(form)) else {
         return Ending::from(Fault::Output);

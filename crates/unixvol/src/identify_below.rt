@@ -2,7 +2,7 @@
 ghost use Rattle.std.specs.Prelude.{◌≡◌, ◌++◌, [], true, List, ℕ, map, IfOk, OnErr};
 ghost use Rattle.std.specs.Io.KnownBytes.{Appends};
 ghost use Rattle.std.specs.Process.{exit_status};
-ghost use Rattle.command_faults.specs.Streams.{ErrorStream, Hears, streams};
+ghost use Rattle.command_faults.specs.Streams.{streams};
 ghost use Rattle.host_files.specs.declared.folders.Found.{Found};
 ghost use Rattle.pdp_words.specs.Devices.{AppendsFront};
 ghost use Rattle.unixvol.specs.Below.{IdentifiesBelow, IsOpened, IsStart, IsStarted, IsVisit, RunsBelow, VisitsAll, listing_status};
@@ -56,8 +56,7 @@ fn print_all<R: ImageFiles + Eprint + AllocGlobal, O: Sink>(
     form: GuessForm,
     images: &[&str],
 ) -> Ending
-    ensures { (errors : ErrorStream) → Hears errors result.fault
-        → RunsBelow R.File.remaining R.had R.stood R.listed (streams O.contents O.failed output.old output.new errors) form (map (λ image. image.now) images.now) result.status }
+    ensures { RunsBelow R.File.remaining R.had R.stood R.listed (streams O.contents O.failed output.old output.new result.fault) form (map (λ image. image.now) images.now) result.status }
 {
     match start(host, images) {
         Ok(stack) => print_stack(host, output, form, stack),
@@ -108,8 +107,7 @@ fn print_stack<R: ImageFiles + Eprint + AllocGlobal, O: Sink>(
     form: GuessForm,
     stack: Vec<Found>,
 ) -> Ending
-    ensures { (errors : ErrorStream) → Hears errors result.fault
-        → VisitsAll R.File.remaining R.had R.stood R.listed (streams O.contents O.failed output.old output.new errors) form stack.items result.status }
+    ensures { VisitsAll R.File.remaining R.had R.stood R.listed (streams O.contents O.failed output.old output.new result.fault) form stack.items result.status }
 {
     let Ok(()) = write_all(output, front_of(form)) else {
         return Ending::from(Fault::Output);

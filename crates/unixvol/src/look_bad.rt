@@ -1,7 +1,7 @@
 //! Commands that show part of an image of which some blocks couldn't be read.
 ghost use Rattle.std.specs.Prelude.{IfErr, IfOk};
 ghost use Rattle.std.specs.Process.{exit_status};
-ghost use Rattle.command_faults.specs.Streams.{ErrorStream, Hears, streams};
+ghost use Rattle.command_faults.specs.Streams.{streams};
 ghost use Rattle.unixvol.specs.FileFaults.{file_status, run_fault, run_status};
 ghost use Rattle.unixvol.specs.LookBad.{IsBadRead, IsKnownRead, LooksBadToEnd, RunsLookBad};
 ghost use Rattle.unixvol.specs.Runs.{IsUnread, host_files};
@@ -55,8 +55,7 @@ fn run<'a, R: ImageFiles + AllocGlobal, O: Sink>(
     image: BadImage<'a>,
     look: BadLook<'_>,
 ) -> Result<Ending, FailedRun<'a>>
-    ensures { (errors : ErrorStream) → Hears errors (run_fault result)
-        → RunsLookBad (streams O.contents O.failed output.old output.new errors)
+    ensures { RunsLookBad (streams O.contents O.failed output.old output.new (run_fault result))
         (host_files volume.entry.at R.File.remaining R.File.contents R.had R.stood) screen volume.entry image.entry look.entry (run_status result) }
 {
     let bad = read_bad(rt, volume, image.bad)?;

@@ -2,7 +2,7 @@
 //! nothing.
 ghost use Rattle.std.specs.Prelude.{◌≡◌, ◌≤◌, IfErr, IfOk};
 ghost use Rattle.std.specs.Process.{exit_status};
-ghost use Rattle.command_faults.specs.Streams.{ErrorStream, Hears, streams};
+ghost use Rattle.command_faults.specs.Streams.{streams};
 ghost use Rattle.unixvol.specs.FileFaults.{file_status, run_fault, run_status};
 ghost use Rattle.unixvol.specs.Runs.{Ends, IsEndWithin, IsSeen, IsShownBy, IsUnread, LooksToEnd, RunsGetOne, RunsLook, highest_status, host_files};
 
@@ -103,10 +103,8 @@ fn run<'a, R: ImageFiles + AllocGlobal, O: Sink>(
     volume: VolumeFile<'a>,
     look: Look<'_>,
 ) -> Result<Ending, FailedRun<'a>>
-    ensures runs { (errors : ErrorStream) → Hears errors (run_fault result)
-        → RunsLook (streams O.contents O.failed output.old output.new errors) (host_files volume.entry.at R.File.remaining R.File.contents R.had R.stood) screen volume.entry.edition look.entry (run_status result) }
-    ensures ends { (errors : ErrorStream) → Hears errors (run_fault result)
-        → IsEndWithin (highest_status look.entry) (streams O.contents O.failed output.old output.new errors) (run_status result) }
+    ensures runs { RunsLook (streams O.contents O.failed output.old output.new (run_fault result)) (host_files volume.entry.at R.File.remaining R.File.contents R.had R.stood) screen volume.entry.edition look.entry (run_status result) }
+    ensures ends { IsEndWithin (highest_status look.entry) (streams O.contents O.failed output.old output.new (run_fault result)) (run_status result) }
 {
     let image = read_seen(rt, volume, look)?;
     Ok(perform(rt.alloc(), volume.edition, image, look, screen, output))
@@ -148,10 +146,8 @@ pub fn run_get<'a, R: ImageFiles + AllocGlobal, O: Sink>(
     volume: VolumeFile<'a>,
     path: &str,
 ) -> Result<Ending, FailedRun<'a>>
-    ensures runs { (errors : ErrorStream) → Hears errors (run_fault result)
-        → RunsGetOne (streams O.contents O.failed output.old output.new errors) (host_files volume.entry.at R.File.remaining R.File.contents R.had R.stood) volume.entry.edition path.now (run_status result) }
-    ensures ends { (errors : ErrorStream) → Hears errors (run_fault result)
-        → Ends (streams O.contents O.failed output.old output.new errors) (run_status result) }
+    ensures runs { RunsGetOne (streams O.contents O.failed output.old output.new (run_fault result)) (host_files volume.entry.at R.File.remaining R.File.contents R.had R.stood) volume.entry.edition path.now (run_status result) }
+    ensures ends { Ends (streams O.contents O.failed output.old output.new (run_fault result)) (run_status result) }
 {
     let image = read_volume(rt, volume)?;
     Ok(show_file(rt.alloc(), volume.edition, image, path, output))

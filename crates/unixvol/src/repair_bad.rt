@@ -1,6 +1,6 @@
 //! `repair` of an image of which some blocks couldn't be read.
 ghost use Rattle.std.specs.Process.{exit_status};
-ghost use Rattle.command_faults.specs.Streams.{ErrorStream, Hears, streams};
+ghost use Rattle.command_faults.specs.Streams.{streams};
 ghost use Rattle.host_files.specs.Save.{IsTaken};
 ghost use Rattle.unixvol.specs.FileFaults.{run_fault, run_status};
 ghost use Rattle.unixvol.specs.RepairBad.{RepairsBadToEnd, RepairsRescued, RunsRepairBad, SavesRescued};
@@ -62,8 +62,7 @@ fn run<'a, R: ImageFiles + Clock + Eprint + AllocGlobal, O: Sink>(
     copy: Option<MadeFile<'a>>,
     repairing: Repairing,
 ) -> Result<Ending, FailedRun<'a>>
-    ensures { (errors : ErrorStream) → Hears errors (run_fault result)
-        → RunsRepairBad (streams O.contents O.failed output.old output.new errors)
+    ensures { RunsRepairBad (streams O.contents O.failed output.old output.new (run_fault result))
         (host_files volume.entry.at R.File.remaining R.File.contents R.had R.stood) volume.entry image.entry copy.entry repairing (run_status result) }
 {
     let bad = read_bad(host.rt, volume, image.bad)?;
@@ -84,8 +83,7 @@ fn repair_read<'a, R: ImageFiles + Clock + Eprint + AllocGlobal, O: Sink>(
     copy: Option<MadeFile<'a>>,
     repairing: Repairing,
 ) -> Result<Ending, FailedRun<'a>>
-    ensures { (errors : ErrorStream) → Hears errors (run_fault result)
-        → RepairsRescued (streams O.contents O.failed output.old output.new errors)
+    ensures { RepairsRescued (streams O.contents O.failed output.old output.new (run_fault result))
         (host_files volume.entry.at R.File.remaining R.File.contents R.had R.stood) volume.entry read.image read.lost.items copy.entry repairing (run_status result) }
 {
     let repaired = match repair_rescued(host.rt.alloc(), volume.edition, read, repairing) {
@@ -111,8 +109,7 @@ fn save_rescued<'a, R: ImageFiles + Clock + Eprint + AllocGlobal, O: Sink>(
     old: Stamp,
     repaired: RescuedVolume,
 ) -> Result<Ending, FailedRun<'a>>
-    ensures { (errors : ErrorStream) → Hears errors (run_fault result)
-        → SavesRescued (streams O.contents O.failed output.old output.new errors) (IsTaken R.File.contents) R.stood repaired.made.bytes.items
+    ensures { SavesRescued (streams O.contents O.failed output.old output.new (run_fault result)) (IsTaken R.File.contents) R.stood repaired.made.bytes.items
         repaired.made.report.items repaired.losses.items (run_status result) }
 {
     expect_new(host.rt, copy)?;

@@ -1,6 +1,6 @@
 //! `resize`: opening and saving its file.
 ghost use Rattle.std.specs.Prelude.{Bool, IfErr, IfSome, IsSome, List, OnOk, Option, ℕ};
-ghost use Rattle.command_faults.specs.Streams.{ErrorStream, Hears, still};
+ghost use Rattle.command_faults.specs.Streams.{still};
 ghost use Rattle.unixvol.specs.FileFaults.{file_status, run_fault, run_status};
 ghost use Rattle.unixvol.specs.Runs.{Ends, IsStatusOfFileOrMemory, RunsResize, SavesResized, host_files};
 
@@ -24,10 +24,9 @@ pub fn run_resize<'a, R: ImageFiles + Clock + Eprint + AllocGlobal>(
     blocks: u32,
     is_trial: bool,
 ) -> Result<Ending, FailedRun<'a>>
-    ensures runs { (known : Option (List ℕ)) (failed : Bool) (errors : ErrorStream) → Hears errors (run_fault result)
-        → RunsResize (still known failed errors) (host_files volume.entry.at R.File.remaining R.File.contents R.had R.stood) volume.entry blocks is_trial (run_status result) }
-    ensures ends { (known : Option (List ℕ)) (failed : Bool) (errors : ErrorStream) → Hears errors (run_fault result)
-        → Ends (still known failed errors) (run_status result) }
+    ensures runs { (known : Option (List ℕ)) (failed : Bool)
+        → RunsResize (still known failed (run_fault result)) (host_files volume.entry.at R.File.remaining R.File.contents R.had R.stood) volume.entry blocks is_trial (run_status result) }
+    ensures ends { (known : Option (List ℕ)) (failed : Bool) → Ends (still known failed (run_fault result)) (run_status result) }
 {
     // The image's file stays open, and so locked, until the result is saved.
     let (image, stamp, _locked) = read_image(host, volume)?;

@@ -1,7 +1,7 @@
 //! Saves the result of a command in its file.
 ghost use Rattle.std.specs.Prelude.{◌≡◌, ◌≢◌, IfErr, IfSome, IsSome, OnOk};
 ghost use Rattle.command_faults.specs.Faults.{line_after};
-ghost use Rattle.command_faults.specs.Streams.{ErrorStream, Hears, streams};
+ghost use Rattle.command_faults.specs.Streams.{streams};
 ghost use Rattle.unixvol.specs.FileFaults.{file_status, run_fault, run_status, saved_status};
 ghost use Rattle.unixvol.specs.Runs.{IsStatusOfFileOrMemory, IsMadeAt, IsSavedAs, IsStored, EndsPlayed, host_files, made_in, new_place_at};
 ghost use Rattle.unixvol.specs.Traces.{EndsTraced, IsQuiet, PrintsText, PrintsTrace};
@@ -57,9 +57,8 @@ pub fn save_traced<'a, R: ImageFiles + AllocGlobal, O: Sink>(
     outcome: Result<Remarked, Fault>,
     output: &mut O,
 ) -> Result<Ending, FailedRun<'a>>
-    ensures { (errors : ErrorStream) → Hears errors (run_fault result)
-        → EndsTraced (λ bytes. IsStored volume.entry.at bytes R.File.remaining R.File.contents R.had × R.stood read) outcome
-        (streams O.contents O.failed output.old output.new errors) (run_status result) }
+    ensures { EndsTraced (λ bytes. IsStored volume.entry.at bytes R.File.remaining R.File.contents R.had × R.stood read) outcome
+        (streams O.contents O.failed output.old output.new (run_fault result)) (run_status result) }
 {
     let answer = conclude(outcome);
     match save_answer(rt, volume, read, &answer) {
@@ -74,10 +73,10 @@ pub fn save_traced<'a, R: ImageFiles + AllocGlobal, O: Sink>(
 /// Prints the trace of an answer whose bytes, if it has any, were saved, if it has one, and returns the result of the run.
 #[tactic(auto, using(crate::proofs::Traced::kept_same))]
 fn print_trace<O: Sink>(answer: Answer, output: &mut O) -> Ending
-    ensures unsaved { answer.status ≢ 0 → (errors : ErrorStream) → Hears errors result.fault
-        → IsQuiet answer.status (line_after answer.fault) (streams O.contents O.failed output.old output.new errors) result.status }
-    ensures saved { answer.status ≡ 0 → (errors : ErrorStream) → Hears errors result.fault
-        → PrintsTrace answer.trace (line_after answer.fault) (streams O.contents O.failed output.old output.new errors) result.status }
+    ensures unsaved { answer.status ≢ 0
+        → IsQuiet answer.status (line_after answer.fault) (streams O.contents O.failed output.old output.new result.fault) result.status }
+    ensures saved { answer.status ≡ 0
+        → PrintsTrace answer.trace (line_after answer.fault) (streams O.contents O.failed output.old output.new result.fault) result.status }
 {
     let Answer {
         status,
@@ -96,8 +95,7 @@ fn print_trace<O: Sink>(answer: Answer, output: &mut O) -> Ending
 
 /// Prints a text, and returns the result of a run with these lines, if any; or that standard output failed.
 fn print_text<O: Sink>(text: &[u8], fault: Option<Fault>, output: &mut O) -> Ending
-    ensures { (errors : ErrorStream) → Hears errors result.fault
-        → PrintsText text.now (line_after fault) (streams O.contents O.failed output.old output.new errors) result.status }
+    ensures { PrintsText text.now (line_after fault) (streams O.contents O.failed output.old output.new result.fault) result.status }
 {
     match write_all(output, text) {
         Ok(()) => Ending {

@@ -2,7 +2,7 @@
 ghost use Rattle.std.specs.Prelude.{◌≤◌, length};
 ghost use Rattle.std.specs.Process.{exit_status};
 ghost use Rattle.command_words.specs.Invocations.{IsWorkable};
-ghost use Rattle.command_faults.specs.Streams.{ErrorStream, Hears, streams};
+ghost use Rattle.command_faults.specs.Streams.{streams};
 ghost use Rattle.unixvol.specs.FileFaults.{run_fault, run_status};
 ghost use Rattle.unixvol.specs.Runs.{IsEnd, RunsCheck, RunsPlay, RunsWork, WorksToEnd, host_files};
 
@@ -61,10 +61,8 @@ fn run<'a, R: ImageFiles + Clock + Eprint + AllocGlobal + Threads + Wait + Sync,
     work: &Work<'a>,
 ) -> Result<Ending, FailedRun<'a>>
     requires { IsWorkable work.now }
-    ensures runs { (errors : ErrorStream) → Hears errors (run_fault result)
-        → RunsWork (streams O.contents O.failed output.old output.new errors) (host_files volume.entry.at R.File.remaining R.File.contents R.had R.stood) screen volume.entry.edition work.now (run_status result) }
-    ensures ends { (errors : ErrorStream) → Hears errors (run_fault result)
-        → IsEnd (streams O.contents O.failed output.old output.new errors) (run_status result) }
+    ensures runs { RunsWork (streams O.contents O.failed output.old output.new (run_fault result)) (host_files volume.entry.at R.File.remaining R.File.contents R.had R.stood) screen volume.entry.edition work.now (run_status result) }
+    ensures ends { IsEnd (streams O.contents O.failed output.old output.new (run_fault result)) (run_status result) }
 {
     match work {
         Work::Check {
@@ -92,8 +90,7 @@ fn run_check<'a, R: ImageFiles + AllocGlobal + Threads + Wait + Sync, O: Sink>(
 ) -> Result<Ending, FailedRun<'a>>
     requires first { 1 ≤ workers }
     requires last { workers ≤ MOST_WORKERS }
-    ensures { (errors : ErrorStream) → Hears errors (run_fault result)
-        → RunsCheck (streams O.contents O.failed output.old output.new errors) (host_files volume.entry.at R.File.remaining R.File.contents R.had R.stood) screen volume.entry.edition checker form (run_status result) }
+    ensures { RunsCheck (streams O.contents O.failed output.old output.new (run_fault result)) (host_files volume.entry.at R.File.remaining R.File.contents R.had R.stood) screen volume.entry.edition checker form (run_status result) }
 {
     let image = read_volume(rt, volume)?;
     Ok(checkers::perform(
@@ -121,8 +118,7 @@ fn run_play<'a, R: ImageFiles + Clock + Eprint + AllocGlobal + Threads + Wait + 
 ) -> Result<Ending, FailedRun<'a>>
     requires first { 1 ≤ length scripts.now }
     requires last { length scripts.now ≤ 64 }
-    ensures { (errors : ErrorStream) → Hears errors (run_fault result)
-        → RunsPlay (streams O.contents O.failed output.old output.new errors) (host_files volume.entry.at R.File.remaining R.File.contents R.had R.stood) volume.entry.edition (length scripts.now) journal form (run_status result) }
+    ensures { RunsPlay (streams O.contents O.failed output.old output.new (run_fault result)) (host_files volume.entry.at R.File.remaining R.File.contents R.had R.stood) volume.entry.edition (length scripts.now) journal form (run_status result) }
 {
     expect_volume(host.rt, volume)?;
     let files = read_scripts(host.rt, scripts)?;

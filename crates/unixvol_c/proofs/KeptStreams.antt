@@ -1,28 +1,26 @@
 -- What a command showed on two sinks in memory is kept, and handed out.
 use Rattle.std.proofs.Common.{◌≡◌, ◌∙◌, ℕ, ℤ, List, [], Option, Some, Bool, false, Result, Ok, Err, IfOk}
-use Rattle.command_faults.specs.Streams.{Streams, says}
+use Rattle.command_faults.specs.Streams.{Gets, Streams}
 use Rattle.unixvol_c.specs.Kept.{HandsOut, HasBoth, IsKept, IsPlaced, kept_streams}
 use Rattle.unixvol_c.specs.declared.kept.Kept.{Kept}
 use Rattle.unixvol_c.specs.declared.structs.Seen.{Seen}
 
--- both streams, from the contents of two sinks and whether they failed
-abbrev pub sinks : Option (List ℕ) → Option (List ℕ) → Bool → Bool → Option (List ℕ) → Option (List ℕ) → Bool → Streams
-sinks old new had failed before after broken =
-    record { old = old; new = new; had_failed = had; failed = failed; said = says (record { old = before; new = after; failed = broken }) }
-
--- what is shown on two sinks that were empty, and neither of which failed, is kept
+-- what is shown on a sink that was empty, with lines that were written to another, is kept, if neither failed
 pub kept_shown : {E : Type 0} (shows : Streams → ℕ → Type 0) (old new : Option (List ℕ)) (had failed : Bool) (before after : Option (List ℕ)) (broken : Bool)
-    (status : ℕ) (result : Result Kept E) → old ≡ Some [] → had ≡ false → before ≡ Some []
+    (told : List ℕ) (status : ℕ) (result : Result Kept E) → old ≡ Some [] → had ≡ false → before ≡ Some []
     → IfOk result (λ held. (failed ≡ false) × (broken ≡ false)) → IfOk result (HasBoth new after) → IfOk result (λ held. held.status ≡ status)
-    → shows (sinks old new had failed before after broken) status → IfOk result (IsKept shows)
-kept_shown shows old new had failed before after broken status (Err fault) empty fresh quiet works both code shown = tt
-kept_shown shows old new had failed before after broken status (Ok held) empty fresh quiet works both code shown = record {
-  text = both.text;
-  lines = both.lines;
-  shown = rw code (rw (empty, fresh, quiet, works.0, works.1, both.printed, both.heard) at shown);
-  bytes = both.bytes;
-  sizes = both.sizes;
-}
+    → Gets broken before after told → shows (record { old = old; new = new; had_failed = had; failed = failed; lines = told }) status
+    → IfOk result (IsKept shows)
+kept_shown shows old new had failed before after broken told status (Err fault) empty fresh quiet works both code gets shown = tt
+kept_shown shows old new had failed before after broken told status (Ok held) empty fresh quiet works both code gets shown =
+    let lines : both.lines ≡ told = rw (quiet, both.heard) at (gets.0 works.1) in
+    record {
+      text = both.text;
+      lines = both.lines;
+      shown = rw (code, lines) (rw (empty, fresh, works.0, both.printed) at shown);
+      bytes = both.bytes;
+      sizes = both.sizes;
+    }
 
 -- what is kept as a command shows it is kept as another does that shows the same
 pub kept_as : {E : Type 0} (given wanted : Streams → ℕ → Type 0) (result : Result Kept E)

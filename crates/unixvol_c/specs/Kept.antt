@@ -1,19 +1,13 @@
 -- What a command printed, kept in memory.
 use Rattle.std.specs.Prelude.{◌≡◌, ◌<◌, ◌≤◌, ℕ, ℤ, false, List, [], ◌++◌, length, take, drop, Option, Some}
-use Rattle.command_faults.specs.Streams.{Streams, says}
+use Rattle.command_faults.specs.Streams.{Streams}
 use Rattle.unixvol_c.specs.declared.kept.Kept.{Kept}
 use Rattle.unixvol_c.specs.declared.structs.Seen.{Seen}
 use Rattle.unixvol_c.specs.declared.TheConstants.{DONE, NO_ROOM}
 
 -- both streams of a command that nothing failed on: the text that was printed, and the lines on standard error (this project)
 abbrev pub kept_streams : List ℕ → List ℕ → Streams
-kept_streams text lines = record {
-  old = Some [];
-  new = Some text;
-  had_failed = false;
-  failed = false;
-  said = says (record { old = Some []; new = Some lines; failed = false });
-}
+kept_streams text lines = record { old = Some []; new = Some text; had_failed = false; failed = false; lines = lines }
 
 -- the contents of two streams are kept, one after the other (this project)
 pub record HasBoth (output errors : Option (List ℕ)) (kept : Kept) : Type 0 where

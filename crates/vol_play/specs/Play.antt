@@ -74,12 +74,12 @@ IsSilent streams = Keeps streams.old streams.new × (streams.failed ≡ streams.
 
 -- a line of a script can't be read, or memory for the scripts ran out (this project)
 abbrev pub StopsUnread : List (Vec ℕ Global) → Streams → Answer → Type 0
-StopsUnread scripts streams answer = IsSilent streams × ((fault : ScriptsFault) × ReadsScripts scripts (Err fault) × AnswersFault fault streams.said answer)
+StopsUnread scripts streams answer = IsSilent streams × ((fault : ScriptsFault) × ReadsScripts scripts (Err fault) × AnswersFault fault streams.lines answer)
 
 -- no step is played, and the result has the status and the line of the reason (this project)
 abbrev pub StopsUnplayed : Edition → List ℕ → Streams → Answer → Type 0
 StopsUnplayed edition image streams answer =
-    IsSilent streams × ((fault : Fault) × IsUnplayed edition image fault × SavesNothing answer (fault_status fault) (streams.said (fault_line fault)))
+    IsSilent streams × ((fault : Fault) × IsUnplayed edition image fault × SavesNothing answer (fault_status fault) streams.lines (fault_line fault))
 
 -- the text is the trace of a volume, if it is wanted; otherwise there is none (this project)
 abbrev pub IsTraceIf : Bool → Mounted → List ℕ → Type 0
@@ -91,14 +91,14 @@ IsTraceIf false volume text = text ≡ []
 abbrev pub EndsLines : Mounted → Bool → Bool → Bool → List (Vec Played Global) → Streams → Answer → Type 0
 EndsLines last cuts journal trace played streams answer =
     ((text : List ℕ) × IsTraceIf trace last text
-    × Finishes last cuts played (PrintsPlay last played (play_text last cuts journal text played) streams.old streams.new streams.had_failed streams.failed) streams.said answer)
-    ⊎ ((trace ≡ true) × Finishes last cuts played (λ printed. (printed ≡ Err no_memory) × IsSilent streams) streams.said answer)
+    × Finishes last cuts played (PrintsPlay last played (play_text last cuts journal text played) streams.old streams.new streams.had_failed streams.failed) streams.lines answer)
+    ⊎ ((trace ≡ true) × Finishes last cuts played (λ printed. (printed ≡ Err no_memory) × IsSilent streams) streams.lines answer)
 
 -- a play ends in a form: as lines, with the trace if it is wanted; or with its report as JSON (this project)
 abbrev pub EndsPlay : Mounted → Bool → Bool → PlayForm → List (Vec Played Global) → Streams → Answer → Type 0
 EndsPlay last cuts journal (forms.Lines trace) played streams answer = EndsLines last cuts journal trace played streams answer
 EndsPlay last cuts journal forms.Json played streams answer =
-    Finishes last cuts played (PrintsPlay last played (play_json last cuts journal played) streams.old streams.new streams.had_failed streams.failed) streams.said answer
+    Finishes last cuts played (PrintsPlay last played (play_json last cuts journal played) streams.old streams.new streams.had_failed streams.failed) streams.lines answer
 
 -- scripts are played, and the results of their steps are printed in a form, with the journal and the trace if these are wanted (this project)
 abbrev pub PlaysAll : Edition → List ℕ → Bool → PlayForm → List Script → Streams → Answer → Type 0

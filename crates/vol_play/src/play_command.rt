@@ -1,7 +1,7 @@
 //! The command `play`: from the bytes of an image and of scripts to the report, the status and the bytes to save.
 ghost use Rattle.std.specs.Prelude.{◌≡◌, ◌≤◌, IfOk, IfErr, count_by, length};
 ghost use Rattle.std.specs.List.{list_any};
-ghost use Rattle.command_faults.specs.Streams.{heard, ErrorStream, Hears, streams};
+ghost use Rattle.command_faults.specs.Streams.{Hears, heard, streams};
 ghost use Rattle.vol_scripts.specs.Scripts.{ReadsScripts};
 ghost use Rattle.vol_play.specs.Players.{is_view};
 ghost use Rattle.vol_play.specs.Play.{PlaysVolume, IsPlayed, IsUnplayed, any_cut, script_cuts, is_cut};
@@ -36,7 +36,8 @@ pub fn play<R: Threads + Wait + Sync, G: Gate, O: Sink, E: Sink>(
 ) -> Answer
     requires first { 1 ≤ length scripts.items }
     requires last { length scripts.items ≤ MOST_SESSIONS }
-    ensures { PlaysVolume edition image.items journal form scripts.items (streams O.contents O.failed output.old output.new (heard E.contents E.failed errors.old errors.new)) result }
+    ensures played { PlaysVolume edition image.items journal form scripts.items (streams O.contents O.failed output.old output.new result.fault) result }
+    ensures told { Hears (heard E.contents E.failed errors.old errors.new) result.fault }
 {
     let answer = perform(
         rt, alloc, edition, image, scripts, journal, form, gate, output,
@@ -68,8 +69,7 @@ pub fn perform<R: Threads + Wait + Sync, G: Gate, O: Sink>(
 ) -> Answer
     requires first { 1 ≤ length scripts.items }
     requires last { length scripts.items ≤ MOST_SESSIONS }
-    ensures { (errors : ErrorStream) → Hears errors result.fault
-        → PlaysVolume edition image.items journal form scripts.items (streams O.contents O.failed output.old output.new errors) result }
+    ensures { PlaysVolume edition image.items journal form scripts.items (streams O.contents O.failed output.old output.new result.fault) result }
 {
     let scripts = match read_texts(alloc, scripts) {
         Ok(scripts) => scripts,

@@ -1,6 +1,6 @@
 //! The end of a play, with the trace of its calls.
 ghost use Rattle.std.specs.Prelude.{◌≡◌, true, IfOk, OnErr};
-ghost use Rattle.command_faults.specs.Streams.{ErrorStream, Hears, streams};
+ghost use Rattle.command_faults.specs.Streams.{streams};
 ghost use Rattle.vol_play.specs.Play.{EndsLines, EndsPlay, IsTraceIf};
 
 use command_faults::{Answer, Fault};
@@ -24,8 +24,7 @@ pub(crate) fn finish_traced<O: Sink>(
     scripts: Vec<Vec<Played>>,
     output: &mut O,
 ) -> Answer
-    ensures { (errors : ErrorStream) → Hears errors result.fault → EndsPlay volume cuts journal form scripts.items
-        (streams O.contents O.failed output.old output.new errors) result }
+    ensures { EndsPlay volume cuts journal form scripts.items (streams O.contents O.failed output.old output.new result.fault) result }
 {
     match form {
         PlayForm::Lines { trace } => {
@@ -53,8 +52,7 @@ fn finish_lines<O: Sink>(
     scripts: Vec<Vec<Played>>,
     output: &mut O,
 ) -> Answer
-    ensures { (errors : ErrorStream) → Hears errors result.fault → EndsLines volume cuts journal trace scripts.items
-        (streams O.contents O.failed output.old output.new errors) result }
+    ensures { EndsLines volume cuts journal trace scripts.items (streams O.contents O.failed output.old output.new result.fault) result }
 {
     match trace_if(alloc, &volume, trace) {
         Ok(traced) => finish(

@@ -114,6 +114,6 @@ PrintsPlay volume scripts report old new had_failed failed (Err fault) =
 -- the result of a play: the bytes of the volume are to be saved; the report is printed without a line on standard error, or there is a fault, with
 -- its status and its line (this project)
 pub record Finishes (volume : Mounted) (cuts : Bool) (scripts : List (Vec Played Global)) (printed : Result ℕ Fault → Type 0)
-    (said : List ℕ → Type 0) (answer : Answer) : Type 0 where
+    (lines : List ℕ) (answer : Answer) : Type 0 where
   pub saved : IsSomeAnd answer.image (λ bytes. bytes.items ≡ volume.image)
-  pub ended : (printed (Ok answer.status) × said []) ⊎ ((fault : Fault) × printed (Err fault) × (answer.status ≡ fault_status fault) × said (fault_line fault))
+  pub ended : (printed (Ok answer.status) × (lines ≡ [])) ⊎ ((fault : Fault) × printed (Err fault) × (answer.status ≡ fault_status fault) × (lines ≡ fault_line fault))

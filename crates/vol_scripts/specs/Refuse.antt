@@ -12,11 +12,11 @@ use Rattle.vol_scripts.specs.declared.read.ScriptsFault.TheVariants as faults
 abbrev pub unread_text : ℕ → ℕ → List ℕ
 unread_text script line = codes "unixvol: script " ++ decimal script ++ codes " line " ++ decimal line ++ codes "\n"
 
--- nothing is to be saved, and the result has this status and this line (this project)
-pub record SavesNothing (answer : Answer) (status : ℕ) (said : Type 0) : Type 0 where
+-- nothing is to be saved, and the result has this status and, as its lines, this line (this project)
+pub record SavesNothing (answer : Answer) (status : ℕ) (lines line : List ℕ) : Type 0 where
   pub unsaved : answer.image ≡ None
   pub ends : answer.status ≡ status
-  pub line : said
+  pub told : lines ≡ line
 
 -- the fault of a result is this line of this script, with this flaw (this project)
 abbrev pub Blames : Answer → ℕ → ℕ → Option LineFlaw → Type 0
@@ -24,7 +24,7 @@ Blames answer script line flaw = (text : Vec ℕ Global) × (answer.fault ≡ So
 
 -- the result for a fault: the line that can't be read and its flaw, with status 2; or out of memory, with status 4, also if there is too little
 -- memory for that message (this project)
-abbrev pub AnswersFault : ScriptsFault → (List ℕ → Type 0) → Answer → Type 0
-AnswersFault (faults.Line script line flaw) said answer =
-    SavesNothing answer 2 (said (unread_text script line)) × Blames answer script line flaw ⊎ SavesNothing answer 4 (said (fault_line no_memory))
-AnswersFault faults.NoMemory said answer = SavesNothing answer 4 (said (fault_line no_memory))
+abbrev pub AnswersFault : ScriptsFault → List ℕ → Answer → Type 0
+AnswersFault (faults.Line script line flaw) lines answer =
+    SavesNothing answer 2 lines (unread_text script line) × Blames answer script line flaw ⊎ SavesNothing answer 4 lines (fault_line no_memory)
+AnswersFault faults.NoMemory lines answer = SavesNothing answer 4 lines (fault_line no_memory)

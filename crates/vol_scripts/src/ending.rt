@@ -1,8 +1,7 @@
 //! The end of a play, when its volume is no longer shared: the report, the status, and the bytes to save.
 ghost use Rattle.std.specs.Prelude.{◌≡◌, ◌++◌, IfOk, IfErr, None, OnOk, Some, count_by, length, nat_lt};
 ghost use Rattle.std.specs.String.{string_bytes};
-ghost use Rattle.command_faults.specs.Faults.{fault_status};
-ghost use Rattle.command_faults.specs.Streams.{says, ErrorStream, Hears};
+ghost use Rattle.command_faults.specs.Faults.{fault_status, line_after};
 ghost use Rattle.vol_scripts.specs.Endings.{AreConfirmed, Finishes, PrintsPlay, Reports, all_receipts, form_text, gone_of, play_json, play_text, receipts_in, script_status, scripts_status, scripts_text, step_status};
 
 use crate::form::ReportForm;
@@ -36,9 +35,9 @@ pub fn finish<O: Sink>(
     scripts: Vec<Vec<Played>>,
     output: &mut O,
 ) -> Answer
-    ensures { (errors : ErrorStream) → Hears errors result.fault → Finishes volume cuts scripts.items
+    ensures { Finishes volume cuts scripts.items
         (PrintsPlay volume scripts.items (form_text volume cuts journal form scripts.items) (O.contents output.old) (O.contents output.new) (O.failed output.old) (O.failed output.new))
-        (says errors) result }
+        (line_after result.fault) result }
 {
     let printed = print_report(alloc, &volume, cuts, journal, form, scripts, output);
     let Ending { status, fault } = ending_of(printed);

@@ -1,7 +1,7 @@
 //! The result of a play whose scripts can't be read.
 ghost use Rattle.std.specs.Prelude.{◌≡◌, IfOk};
 ghost use Rattle.std.specs.String.{string_bytes};
-ghost use Rattle.command_faults.specs.Streams.{says, ErrorStream, Hears};
+ghost use Rattle.command_faults.specs.Faults.{line_after};
 ghost use Rattle.vol_scripts.specs.Refuse.{AnswersFault, unread_text};
 
 use crate::read::ScriptsFault;
@@ -13,7 +13,7 @@ use vol_dir::Refusal;
 /// Returns the result of a play whose scripts couldn't be read. There is nothing to save; the fault is the first unreadable line, with status 2, or
 /// out of memory, with status 4.
 pub fn refuse(alloc: Global, fault: ScriptsFault) -> Answer
-    ensures { (errors : ErrorStream) → Hears errors result.fault → AnswersFault fault (says errors) result }
+    ensures { AnswersFault fault (line_after result.fault) result }
 {
     match fault {
         ScriptsFault::Line { script, line, flaw } => match unread_text(alloc, script, line) {

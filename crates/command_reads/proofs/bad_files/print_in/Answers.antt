@@ -1,20 +1,19 @@
 use Rattle.std.proofs.Common.{◌∙◌, sym}
-use Rattle.command_faults.specs.Streams.{streams}
 use Rattle.command_reads.specs.Cat.{file_of}
 use Rattle.command_reads.specs.Node.{number_of}
 use Rattle.command_reads.proofs.KnownFiles.{cat_whole, cat_with_losses}
 use Rattle.command_reads.proofs.bad_files.print_in.Goals as goal
 
 pub returns : goal.returns
-returns g c errors hears =
+returns g c =
     cat_with_losses c.args.edition c.args.image.now c.args.lost.now c.args.node c.args.damaged
-    (streams g.O.Sink.contents g.O.Sink.failed c.args.output.now c.read_known.new.output errors) c.read_known.result.status
+    _ c.read_known.result.status
     (sym c.is_empty.ensures ∙ c.if-is_empty.false)
-    (c.read_known.ensures (file_of c.args.edition c.args.image.now) errors c.body_at-found.ensures.opened hears)
+    (c.read_known.ensures (file_of c.args.edition c.args.image.now) c.body_at-found.ensures.opened)
 
 pub returns-then-is_empty : goal.returns-then-is_empty
-returns-then-is_empty g c errors hears =
+returns-then-is_empty g c =
     cat_whole c.args.edition c.args.image.now c.args.lost.now c.args.node c.args.damaged
-    (streams g.O.Sink.contents g.O.Sink.failed c.args.output.now c.print_body.new.output errors) c.print_body.result.status
+    _ c.print_body.result.status
     (sym c.is_empty.ensures ∙ c.if-is_empty.true)
-    (c.print_body.ensures c.args.edition (number_of c.args.edition c.args.image.now c.args.node) errors c.body_at-found.ensures.opened hears)
+    (c.print_body.ensures c.args.edition (number_of c.args.edition c.args.image.now c.args.node) c.body_at-found.ensures.opened)

@@ -1,8 +1,6 @@
-use Rattle.std.proofs.Common.{◌≡◌, ℕ, List, [], Option, Err, inl, inr, refl, subst}
-use Rattle.std.proofs.KnownBytes.{Appends-nil, Keeps-refl}
+use Rattle.std.proofs.Common.{ap, [], inl, inr, refl, subst}
+use Rattle.std.proofs.KnownBytes.{Appends-nil}
 use Rattle.command_faults.specs.Faults.{line_after}
-use Rattle.command_faults.specs.Streams.{Streams, streams}
-use Rattle.command_faults.specs.declared.fault.Fault.{Fault}
 use Rattle.command_reads.specs.BadFiles.{IsOpened, file_sights, place_of}
 use Rattle.command_reads.specs.Node.{number_of}
 use Rattle.command_reads.proofs.KnownFiles.{file_unreached, hidden, known_file, visible}
@@ -10,30 +8,27 @@ use Rattle.command_reads.proofs.Printed.{showing, told_only}
 use Rattle.command_reads.proofs.bad_files.read_known.Goals as goal
 
 pub returns-in-Err : goal.returns-in-Err
-returns-in-Err g c opened errors is hears =
+returns-in-Err g c opened is =
     let edition = c.args.edition in
     let image = c.args.image.now in
     let lost = c.args.lost.now in
     let place = place_of c.args.node in
     let number = number_of c.args.edition c.args.image.now c.args.node in
-    let both : Streams = streams g.O.Sink.contents g.O.Sink.failed c.args.output.now c.print.new.output errors in
     let unopened = subst (IsOpened number opened) c.in-Err.is is in
-    showing (file_sights edition image lost place number opened c.args.damaged) both _ _ _ refl
+    showing (file_sights edition image lost place number opened c.args.damaged) _ _ _ _ refl
     (file_unreached edition image lost place number opened c.args.damaged c.unreached-shown.result (c.unreached-shown.ensures.shown opened unopened)
-    (c.unreached-shown.ensures.fault opened unopened)) (c.print.ensures.printed errors hears) (c.print.ensures.told errors hears)
+    (c.unreached-shown.ensures.fault opened unopened)) c.print.ensures.printed c.print.ensures.told
 
 pub returns-in-Err-remarks_on : goal.returns-in-Err-remarks_on
-returns-in-Err-remarks_on g c opened errors is hears =
+returns-in-Err-remarks_on g c opened is =
     inr (
       _,
       inl refl,
-      told_only (streams g.O.Sink.contents g.O.Sink.failed c.args.output.now c.args.output.now errors) _ c.from.result.fault c.from.result.status
-          (Keeps-refl (g.O.Sink.contents c.args.output.now)) refl c.from.ensures hears,
+      told_only c.from.ensures,
     )
 
 pub returns-then-not-is_shown : goal.returns-then-not-is_shown
-returns-then-not-is_shown g c opened errors is hears =
-    let both : Streams = streams g.O.Sink.contents g.O.Sink.failed c.args.output.now c.args.output.now errors in
+returns-then-not-is_shown g c opened is =
     let remarks = c.in-Ok-remarks_on.remarks in
     inl (
       [],
@@ -46,13 +41,12 @@ returns-then-not-is_shown g c opened errors is hears =
         status = refl;
         whole = Appends-nil (g.O.Sink.contents c.args.output.now);
         working = refl;
-        said = subst (λ (lines : List ℕ). both.said lines) c.ending_with.ensures.line hears;
+        said = c.ending_with.ensures.line;
       }),
     )
 
 pub returns-in-Ok-show : goal.returns-in-Ok-show
-returns-in-Ok-show g c opened errors is hears =
-    let both : Streams = streams g.O.Sink.contents g.O.Sink.failed c.args.output.now c.show.new.writer errors in
+returns-in-Ok-show g c opened is =
     let remarks = c.in-Ok-remarks_on.remarks in
     inl (
       _,
@@ -65,13 +59,12 @@ returns-in-Ok-show g c opened errors is hears =
         status = refl;
         whole = c.in-Ok-show.ensures.ok;
         working = c.in-Ok-show.ensures.kept;
-        said = subst (λ (lines : List ℕ). both.said lines) c.ending_with-in-Ok-show.ensures.line hears;
+        said = c.ending_with-in-Ok-show.ensures.line;
       }),
     )
 
 pub returns-in-Err-show : goal.returns-in-Err-show
-returns-in-Err-show g c opened errors is hears =
-    let both : Streams = streams g.O.Sink.contents g.O.Sink.failed c.args.output.now c.show.new.writer errors in
+returns-in-Err-show g c opened is =
     let remarks = c.in-Ok-remarks_on.remarks in
     inl (
       _,
@@ -84,6 +77,6 @@ returns-in-Err-show g c opened errors is hears =
         status = c.from-in-Err-show.ensures.0;
         front = (c.in-Err-show.ensures.part.0, c.in-Err-show.ensures.part.2);
         broken = c.in-Err-show.ensures.fault;
-        said = subst (λ (told : Option Fault). both.said (line_after told)) c.from-in-Err-show.ensures.1 hears;
+        said = ap line_after c.from-in-Err-show.ensures.1;
       }),
     )

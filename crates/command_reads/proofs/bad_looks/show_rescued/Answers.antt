@@ -1,6 +1,5 @@
 use Rattle.std.proofs.Common.{List, Bool, subst, refl}
 use Rattle.std.specs.Prelude.{option_map}
-use Rattle.command_faults.specs.Streams.{Streams, streams}
 use Rattle.command_reads.specs.Find.{found_sights}
 use Rattle.command_reads.specs.Print.{IsSight}
 use Rattle.command_reads.specs.Sums.{sums_sights}
@@ -8,18 +7,16 @@ use Rattle.command_reads.proofs.Printed.{showing}
 use Rattle.command_reads.proofs.bad_looks.show_rescued.Goals as goal
 
 pub returns-in-Export : goal.returns-in-Export
-returns-in-Export g c errors hears = rw c.in-Export.is (c.export_read.ensures errors hears)
+returns-in-Export g c = rw c.in-Export.is c.export_read.ensures
 
 pub returns-in-Find : goal.returns-in-Find
-returns-in-Find g c errors hears =
-    let both : Streams = streams g.O.Sink.contents g.O.Sink.failed c.args.output.now c.print.new.output errors in
-    rw c.in-Find.is (showing _ both _ _ _ refl
+returns-in-Find g c =
+    rw c.in-Find.is (showing _ _ _ _ _ refl
     (subst (λ (marks : List Bool). IsSight (found_sights c.args.edition c.args.read.now.image marks c.in-Find.path.now (option_map (λ word. word.now) c.in-Find.name) c.in-Find.lost c.in-Find.form c.args.screen) c.find_in-shown.result) c.deref.ensures.value
-    c.find_in-shown.ensures) (c.print.ensures.printed errors hears) (c.print.ensures.told errors hears))
+    c.find_in-shown.ensures) c.print.ensures.printed c.print.ensures.told)
 
 pub returns-in-Sums : goal.returns-in-Sums
-returns-in-Sums g c errors hears =
-    let both : Streams = streams g.O.Sink.contents g.O.Sink.failed c.args.output.now c.print-in-Sums.new.output errors in
-    rw c.in-Sums.is (showing _ both _ _ _ refl
+returns-in-Sums g c =
+    rw c.in-Sums.is (showing _ _ _ _ _ refl
     (subst (λ (marks : List Bool). IsSight (sums_sights c.args.edition c.args.read.now.image marks c.in-Sums.path.now c.in-Sums.form c.in-Sums.lost) c.sums_of-shown.result) c.deref-in-Sums.ensures.value
-    c.sums_of-shown.ensures) (c.print-in-Sums.ensures.printed errors hears) (c.print-in-Sums.ensures.told errors hears))
+    c.sums_of-shown.ensures) c.print-in-Sums.ensures.printed c.print-in-Sums.ensures.told)

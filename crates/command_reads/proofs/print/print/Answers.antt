@@ -5,7 +5,7 @@ use Rattle.command_reads.specs.Print.{PrintsTelling}
 use Rattle.command_reads.proofs.print.print.Goals as goal
 
 pub returns-in-Ok-clause-printed : goal.returns-in-Ok-clause-printed
-returns-in-Ok-clause-printed g c errors hears =
-    let both : Streams = streams g.O.Sink.contents g.O.Sink.failed c.args.output.now c.print_text.new.output errors in
+returns-in-Ok-clause-printed g c =
+    let both : Streams = streams g.O.Sink.contents g.O.Sink.failed c.args.output.now c.print_text.new.output c.print_text.result.fault in
     rw c.in-Ok.is (subst (λ (text : List ℕ). PrintsTelling c.in-Ok.field-0.ending.status (line_after c.in-Ok.field-0.ending.fault) both text c.print_text.result.status)
-    c.deref.ensures.value (c.print_text.ensures errors hears))
+    c.deref.ensures.value c.print_text.ensures)

@@ -4,5 +4,5 @@ use Rattle.unixvol.proofs.FileFaults.{stopped}
 use Rattle.unixvol.proofs.commands.save_copy.Goals as goal
 
 pub returns-in_err-save_over : goal.returns-in_err-save_over
-returns-in_err-save_over g c errors hears =
-    inr (inr (stopped IsStatusOfFileOrMemory (g.O.Sink.contents c.args.output.now) (g.O.Sink.failed c.args.output.now) errors _ _ c.from_residual.ensures.1 c.in_err-save_over.ensures.fault hears))
+returns-in_err-save_over g c =
+    inr (inr (stopped IsStatusOfFileOrMemory (g.O.Sink.contents c.args.output.now) (g.O.Sink.failed c.args.output.now) _ _ c.from_residual.ensures.1 c.in_err-save_over.ensures.fault))

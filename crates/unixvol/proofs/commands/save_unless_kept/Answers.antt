@@ -4,5 +4,5 @@ use Rattle.unixvol.proofs.FileFaults.{stopped}
 use Rattle.unixvol.proofs.commands.save_unless_kept.Goals as goal
 
 pub returns-in_err-expect_new : goal.returns-in_err-expect_new
-returns-in_err-expect_new g c errors hears =
-    inr (inr (stopped IsStatusOfFileOrMemory (g.O.Sink.contents c.args.output.now) (g.O.Sink.failed c.args.output.now) errors _ _ c.from_residual.ensures.1 c.in_err-expect_new.ensures hears))
+returns-in_err-expect_new g c =
+    inr (inr (stopped IsStatusOfFileOrMemory (g.O.Sink.contents c.args.output.now) (g.O.Sink.failed c.args.output.now) _ _ c.from_residual.ensures.1 c.in_err-expect_new.ensures))

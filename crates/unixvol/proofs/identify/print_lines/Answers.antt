@@ -1,21 +1,20 @@
-use Rattle.std.proofs.Common.{◌∙◌, ◌+◌, ℕ, List, Option, arith, map, subst, sym}
+use Rattle.std.proofs.Common.{◌∙◌, ◌+◌, ℕ, List, ap, arith, map, refl, subst, sym}
 use Rattle.std.specs.Borrow.{Bor}
 use Rattle.std.specs.Io.KnownBytes.{Appends}
 use Rattle.pdp_words.specs.Devices.{AppendsFront}
 use Rattle.command_faults.specs.Faults.{line_after}
-use Rattle.command_faults.specs.Streams.{says, streams}
-use Rattle.command_faults.specs.declared.fault.Fault.{Fault}
+use Rattle.command_faults.specs.Streams.{streams}
 use Rattle.unixvol.specs.Identify.{RunsIdentify}
 use Rattle.unixvol.proofs.Identified.{ArePrinted, breaks_first, breaks_off, printed_all, printed_more, printed_none}
 use Rattle.unixvol.proofs.identify.print_lines.Goals as goal
 
 pub returns-in-Err : goal.returns-in-Err
-returns-in-Err g c errors hears =
+returns-in-Err g c =
     let cut = c.in-Err.ensures.broken in
-    let run = streams g.O.Sink.contents g.O.Sink.failed c.args.output.now c.print_line.new.output errors in
+    let run = streams g.O.Sink.contents g.O.Sink.failed c.args.output.now c.print_line.new.output c.from-in-Err.result.fault in
     subst (λ (status : ℕ). RunsIdentify g.R.File.Read.remaining g.R.ImageFiles.had g.R.ImageFiles.stood run c.args.form (map (λ (image : Bor (List ℕ)). image.now) c.args.images.now) status) (sym c.from-in-Err.ensures.0)
     (breaks_off g.R.File.Read.remaining g.R.ImageFiles.had g.R.ImageFiles.stood c.args.form c.args.images.now c.images.image-index _ run (g.O.Sink.contents c.images.output) c.images.status cut.0 cut.1 cut.2 (omega arith)
-    c.images.invariant.0 cut.3 cut.4 cut.5 (subst (λ (fault : Option Fault). says errors (line_after fault)) c.from-in-Err.ensures.1 hears))
+    c.images.invariant.0 cut.3 cut.4 cut.5 (ap line_after c.from-in-Err.ensures.1))
 
 pub images-preserved : goal.images-preserved
 images-preserved g c =
@@ -28,13 +27,13 @@ images-preserved g c =
     )
 
 pub returns-in_default : goal.returns-in_default
-returns-in_default g c errors hears =
-    let run = streams g.O.Sink.contents g.O.Sink.failed c.args.output.now c.write_all.new.sink errors in
+returns-in_default g c =
+    let run = streams g.O.Sink.contents g.O.Sink.failed c.args.output.now c.write_all.new.sink c.from.result.fault in
     let paths = map (λ (image : Bor (List ℕ)). image.now) c.args.images.now in
     subst (λ (status : ℕ). RunsIdentify g.R.File.Read.remaining g.R.ImageFiles.had g.R.ImageFiles.stood run c.args.form paths status) (sym c.from.ensures.0)
     (breaks_first g.R.File.Read.remaining g.R.ImageFiles.had g.R.ImageFiles.stood c.args.form paths run c.in_default.field-0.written
     (subst (λ (bytes : List ℕ). AppendsFront (g.O.Sink.contents c.args.output.now) (g.O.Sink.contents c.write_all.new.sink) bytes c.in_default.field-0.written) c.front_of.ensures
-    c.in_default.ensures.part) c.in_default.ensures.fault (subst (λ (fault : Option Fault). says errors (line_after fault)) c.from.ensures.1 hears))
+    c.in_default.ensures.part) c.in_default.ensures.fault (ap line_after c.from.ensures.1))
 
 pub images-init : goal.images-init
 images-init g c = (
@@ -45,7 +44,6 @@ images-init g c = (
 )
 
 pub returns : goal.returns
-returns g c errors hears =
-    let run = streams g.O.Sink.contents g.O.Sink.failed c.args.output.now c.images.output errors in
-    printed_all g.R.File.Read.remaining g.R.ImageFiles.had g.R.ImageFiles.stood c.args.form c.args.images.now c.images.image-index run c.images.status (omega arith)
-    c.images.invariant.0 c.images.invariant.1 hears
+returns g c =
+    printed_all g.R.File.Read.remaining g.R.ImageFiles.had g.R.ImageFiles.stood c.args.form c.args.images.now c.images.image-index _ c.images.status (omega arith)
+    c.images.invariant.0 c.images.invariant.1 refl

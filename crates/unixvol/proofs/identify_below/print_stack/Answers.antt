@@ -1,30 +1,29 @@
-use Rattle.std.proofs.Common.{◌∙◌, ◌+◌, ℕ, List, Option, arith, subst, sym}
+use Rattle.std.proofs.Common.{◌∙◌, ◌+◌, ℕ, List, ap, arith, subst, sym}
 use Rattle.pdp_words.specs.Devices.{AppendsFront}
 use Rattle.command_faults.specs.Faults.{line_after}
-use Rattle.command_faults.specs.Streams.{says, streams}
-use Rattle.command_faults.specs.declared.fault.Fault.{Fault}
+use Rattle.command_faults.specs.Streams.{streams}
 use Rattle.unixvol.specs.Below.{VisitsAll}
 use Rattle.unixvol.proofs.VisitedBelow.{ArePrintedBelow, breaks_first, breaks_off, visited_more}
 use Rattle.unixvol.proofs.identify_below.print_stack.Goals as goal
 
 pub returns-in_default : goal.returns-in_default
-returns-in_default g c errors hears =
-    let run = streams g.O.Sink.contents g.O.Sink.failed c.args.output.now c.write_all.new.sink errors in
+returns-in_default g c =
+    let run = streams g.O.Sink.contents g.O.Sink.failed c.args.output.now c.write_all.new.sink c.from.result.fault in
     subst (λ (status : ℕ). VisitsAll g.R.File.Read.remaining g.R.ImageFiles.had g.R.ImageFiles.stood g.R.ImageFiles.listed run c.args.form c.args.stack.items status)
     (sym c.from.ensures.0)
     (breaks_first g.R.File.Read.remaining g.R.ImageFiles.had g.R.ImageFiles.stood g.R.ImageFiles.listed c.args.form c.args.stack.items run c.in_default.field-0.written
     (subst (λ (bytes : List ℕ). AppendsFront (g.O.Sink.contents c.args.output.now) (g.O.Sink.contents c.write_all.new.sink) bytes c.in_default.field-0.written) c.front_of.ensures
-    c.in_default.ensures.part) c.in_default.ensures.fault (subst (λ (fault : Option Fault). says errors (line_after fault)) c.from.ensures.1 hears))
+    c.in_default.ensures.part) c.in_default.ensures.fault (ap line_after c.from.ensures.1))
 
 pub returns-in-Err : goal.returns-in-Err
-returns-in-Err g c errors hears =
+returns-in-Err g c =
     let cut = c.in-Err.ensures.broken in
-    let run = streams g.O.Sink.contents g.O.Sink.failed c.args.output.now c.visit.new.output errors in
+    let run = streams g.O.Sink.contents g.O.Sink.failed c.args.output.now c.visit.new.output c.from-in-Err.result.fault in
     subst (λ (status : ℕ). VisitsAll g.R.File.Read.remaining g.R.ImageFiles.had g.R.ImageFiles.stood g.R.ImageFiles.listed run c.args.form c.args.stack.items status)
     (sym c.from-in-Err.ensures.0)
     (breaks_off g.R.File.Read.remaining g.R.ImageFiles.had g.R.ImageFiles.stood g.R.ImageFiles.listed c.args.form c.args.stack.items c.visits.stack.items c.pop.new.self.items c.in-Some.found
     c.visits.visited c.visits.status cut.2 cut.1 run (g.O.Sink.contents c.visits.output) cut.0 c.visits.invariant.0 c.in-Some.ensures.items cut.3 cut.4 cut.5
-    (subst (λ (fault : Option Fault). says errors (line_after fault)) c.from-in-Err.ensures.1 hears))
+    (ap line_after c.from-in-Err.ensures.1))
 
 pub visits-preserved : goal.visits-preserved
 visits-preserved g c =

@@ -1,8 +1,6 @@
 use Rattle.std.proofs.Common.{ℕ, List, map, refl}
 use Rattle.std.specs.Borrow.{Bor}
 use Rattle.std.specs.Process.{exit_status}
-use Rattle.pdp_words.specs.Adapters.{writer_in, has_write_failed}
-use Rattle.command_faults.specs.Streams.{heard}
 use Rattle.unixvol.specs.Exits.{Exits}
 use Rattle.unixvol.specs.Below.{RunsBelow}
 use Rattle.unixvol.specs.Runs.{IsEnd}
@@ -14,10 +12,9 @@ pub returns : goal.returns
 returns g c =
     let status = c.print_all-ending.result.status in
     let paths = map (λ (image : Bor (List ℕ)). image.now) c.args.images.now in
-    let after = heard (λ sink. g.E.Write.contents (writer_in sink)) has_write_failed c.new-errors.result c.tell_fault.new.errors in
-    let runs = c.print_all-ending.ensures after c.tell_fault.ensures in
+    let runs = c.print_all-ending.ensures in
     to_end (λ streams status. RunsBelow g.R.File.Read.remaining g.R.ImageFiles.had g.R.ImageFiles.stood g.R.ImageFiles.listed streams c.args.form paths status)
-    (λ streams status. IsEnd streams status) Exits (g.O.Write.contents c.args.output) (g.E.Write.contents c.args.errors) _ _ _ _ _ _ _ status (exit_status c.from.result)
+    (λ streams status. IsEnd streams status) Exits (g.O.Write.contents c.args.output) (g.E.Write.contents c.args.errors) _ _ _ _ _ _ _ _ status (exit_status c.from.result)
     c.noted_writer-output.ensures.bytes c.new-errors.ensures.bytes c.noted_writer-output.ensures.fresh runs
     (ends_below g.R.File.Read.remaining g.R.ImageFiles.had g.R.ImageFiles.stood g.R.ImageFiles.listed c.args.form _ paths status runs)
-    (ended_printed status status c.finish_printed.result (exit_status c.from.result) refl c.from.ensures c.finish_printed.ensures)
+    c.tell_fault.ensures (ended_printed status status c.finish_printed.result (exit_status c.from.result) refl c.from.ensures c.finish_printed.ensures)

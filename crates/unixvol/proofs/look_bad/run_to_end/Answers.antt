@@ -1,6 +1,4 @@
 use Rattle.std.specs.Process.{exit_status}
-use Rattle.pdp_words.specs.Adapters.{writer_in, has_write_failed}
-use Rattle.command_faults.specs.Streams.{heard}
 use Rattle.unixvol.specs.FileFaults.{run_status}
 use Rattle.unixvol.specs.Exits.{Exits}
 use Rattle.unixvol.specs.LookBad.{RunsLookBad}
@@ -13,10 +11,9 @@ pub returns : goal.returns
 returns g c =
     let files = host_files c.args.volume.at g.R.File.Read.remaining g.R.File.Write.contents g.R.ImageFiles.had g.R.ImageFiles.stood in
     let status = run_status c.run-ended.result in
-    let after = heard (λ sink. g.E.Write.contents (writer_in sink)) has_write_failed c.new-errors.result c.tell_end-status.new.errors in
-    let runs = c.run-ended.ensures after c.tell_end-status.ensures.told in
+    let runs = c.run-ended.ensures in
     to_end (λ streams status. RunsLookBad streams files c.args.screen c.args.volume c.args.image c.args.look status)
-    (λ streams status. IsEndWithin 6 streams status) Exits (g.O.Write.contents c.args.output) (g.E.Write.contents c.args.errors) _ _ _ _ _ _ _ status (exit_status c.from.result)
+    (λ streams status. IsEndWithin 6 streams status) Exits (g.O.Write.contents c.args.output) (g.E.Write.contents c.args.errors) _ _ _ _ _ _ _ _ status (exit_status c.from.result)
     c.noted_writer-output.ensures.bytes c.new-errors.ensures.bytes c.noted_writer-output.ensures.fresh runs
     (ends_bad_look c.args.volume.at g.R.File.Read.remaining g.R.File.Write.contents g.R.ImageFiles.had g.R.ImageFiles.stood _ c.args.screen c.args.volume c.args.image c.args.look status runs)
-    (ended_printed status c.tell_end-status.result c.finish_printed.result (exit_status c.from.result) c.tell_end-status.ensures.status c.from.ensures c.finish_printed.ensures)
+    c.tell_end-status.ensures.told (ended_printed status c.tell_end-status.result c.finish_printed.result (exit_status c.from.result) c.tell_end-status.ensures.status c.from.ensures c.finish_printed.ensures)

@@ -7,22 +7,22 @@ use Rattle.unixvol.proofs.repair_bad.repair_read.Goals as goal
 
 -- the repaired copy is saved, and all that differs and all that is lost is printed
 pub returns-in-Some : goal.returns-in-Some
-returns-in-Some g c errors hears =
+returns-in-Some g c =
     let done = c.in-Ok.repaired in
     inr (
       done.made.bytes.items,
       done.made.report.items,
       done.losses.items,
       c.in-Ok.ensures.repaired,
-      rw c.in-Some.is (c.save_rescued.ensures errors hears),
+      rw c.in-Some.is c.save_rescued.ensures,
     )
 
 -- all that differs and all that is lost is printed
 pub returns-in-None : goal.returns-in-None
-returns-in-None g c errors hears =
+returns-in-None g c =
     let done = c.in-Ok.repaired in
     let losses = done.losses.items in
-    let both : Streams = streams g.O.Sink.contents g.O.Sink.failed c.args.output.now c.print_text.new.output errors in
+    let both : Streams = streams g.O.Sink.contents g.O.Sink.failed c.args.output.now c.print_text.new.output c.print_text.result.fault in
     let status = c.print_text.result.status in
     inr (
       done.made.bytes.items,
@@ -33,5 +33,5 @@ returns-in-None g c errors hears =
           (subst (λ (text : List ℕ). PrintsTelling (losses_status losses) losses both text status) c.deref.ensures.value
           (subst (λ (lines : List ℕ). PrintsTelling (losses_status losses) lines both c.deref.result.now status) c.ending_with-ending.ensures.line
           (subst (λ (n : ℕ). PrintsTelling n (line_after c.ending_with-ending.result.fault) both c.deref.result.now status) c.ending_with-ending.ensures.status
-          (c.print_text.ensures errors hears)))),
+          c.print_text.ensures))),
     )

@@ -1,7 +1,5 @@
 use Rattle.std.specs.Option.{is_some}
 use Rattle.std.specs.Process.{exit_status}
-use Rattle.pdp_words.specs.Adapters.{writer_in, has_write_failed}
-use Rattle.command_faults.specs.Streams.{heard}
 use Rattle.unixvol.specs.FileFaults.{run_status}
 use Rattle.unixvol.specs.Exits.{Exits}
 use Rattle.unixvol.specs.RepairBad.{RunsRepairBad}
@@ -14,11 +12,10 @@ pub returns : goal.returns
 returns g c =
     let files = host_files c.args.volume.at g.R.File.Read.remaining g.R.File.Write.contents g.R.ImageFiles.had g.R.ImageFiles.stood in
     let status = run_status c.run-ended.result in
-    let after = heard (λ sink. g.E.Write.contents (writer_in sink)) has_write_failed c.new-errors.result c.tell_end-status.new.errors in
-    let runs = c.run-ended.ensures after c.tell_end-status.ensures.told in
+    let runs = c.run-ended.ensures in
     to_end (λ streams status. RunsRepairBad streams files c.args.volume c.args.image c.args.copy c.args.repairing status)
     (λ streams status. IsEndWithin 6 (but_remarks (is_some c.args.copy) streams) status) Exits (g.O.Write.contents c.args.output) (g.E.Write.contents c.args.errors)
-    _ _ _ _ _ _ _ status (exit_status c.from.result) c.noted_writer-output.ensures.bytes c.new-errors.ensures.bytes c.noted_writer-output.ensures.fresh runs
+    _ _ _ _ _ _ _ _ status (exit_status c.from.result) c.noted_writer-output.ensures.bytes c.new-errors.ensures.bytes c.noted_writer-output.ensures.fresh runs
     (ends_repair_bad c.args.volume.at g.R.File.Read.remaining g.R.File.Write.contents g.R.ImageFiles.had g.R.ImageFiles.stood _ c.args.volume c.args.image
     c.args.copy c.args.repairing status runs)
-    (ended_printed status c.tell_end-status.result c.finish_printed.result (exit_status c.from.result) c.tell_end-status.ensures.status c.from.ensures c.finish_printed.ensures)
+    c.tell_end-status.ensures.told (ended_printed status c.tell_end-status.result c.finish_printed.result (exit_status c.from.result) c.tell_end-status.ensures.status c.from.ensures c.finish_printed.ensures)

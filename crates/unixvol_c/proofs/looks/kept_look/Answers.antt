@@ -6,7 +6,8 @@ use Rattle.unixvol_c.proofs.looks.kept_look.Goals as goal
 
 pub returns : goal.returns
 returns c =
-    kept_shown (λ streams status. Looks c.args.edition c.args.bytes.now Stream streams status c.args.asked) _ _ _ _ _ _ _ c.look-status.result
+    let seen = c.look-status.ensures in
+    kept_shown (λ streams status. Looks c.args.edition c.args.bytes.now Stream streams status c.args.asked) _ _ _ _ _ _ _ _ c.look-status.result
     c.keep.result (c.new-output.ensures.bytes ∙ ap Some c.new.ensures.items) c.new-output.ensures.fresh
-    (c.new-errors.ensures.bytes ∙ ap Some c.new-2.ensures.items) c.keep.ensures.working c.keep.ensures.both c.keep.ensures.status
-    (rw c.in_ok-image.ensures.items at c.look-status.ensures)
+    (c.new-errors.ensures.bytes ∙ ap Some c.new-2.ensures.items) c.keep.ensures.working c.keep.ensures.both c.keep.ensures.status seen.1
+    (rw c.in_ok-image.ensures.items at seen.2)

@@ -1,5 +1,4 @@
 use Rattle.std.proofs.Common.{◌∙◌, ap, codes, inl, inr, refl, Some}
-use Rattle.command_faults.specs.Streams.{ErrorStream}
 use Rattle.vol_listing.specs.declared.options.Screen.TheVariants.{Stream}
 use Rattle.command_reads.specs.Look.{Looks}
 use Rattle.command_terms.specs.declared.bad_looks.BadLook.TheVariants as bad_looks
@@ -16,11 +15,9 @@ returns-then-not-view c =
 
 pub returns : goal.returns
 returns c =
-    let errors : ErrorStream =
-    record { old = Some c.new-errors.result.writer.items; new = Some c.tell.new.errors.writer.items; failed = c.tell.new.errors.failed } in
-    kept_shown (RescuesAs c.args.edition c.args.bytes.now c.args.view.now c.args.path.now c.args.map.now) _ _ _ _ _ _ _ c.look_bad-ending.result.status
+    kept_shown (RescuesAs c.args.edition c.args.bytes.now c.args.view.now c.args.path.now c.args.map.now) _ _ _ _ _ _ _ _ c.look_bad-ending.result.status
     c.keep.result (c.new-output.ensures.bytes ∙ ap Some c.new.ensures.items) c.new-output.ensures.fresh
-    (c.new-errors.ensures.bytes ∙ ap Some c.new-2.ensures.items) c.keep.ensures.working c.keep.ensures.both c.keep.ensures.status
+    (c.new-errors.ensures.bytes ∙ ap Some c.new-2.ensures.items) c.keep.ensures.working c.keep.ensures.both c.keep.ensures.status c.tell.ensures
     (inr (
       c.if-not-view.false,
       (
@@ -28,6 +25,6 @@ returns c =
         bad_looks.Export c.args.path (rescue_options c.args.view.now),
         (refl, c.in_ok-from_slice.ensures.items, refl),
         (refl, refl),
-        rw c.in_ok-image.ensures.items at c.look_bad-ending.ensures errors c.tell.ensures,
+        rw c.in_ok-image.ensures.items at c.look_bad-ending.ensures,
       ),
     ))

@@ -1,4 +1,3 @@
-pub mod DifferenceItems
 pub mod DifferenceLaws
 pub mod DigitLaws
 pub mod ItemTexts

@@ -1,19 +1,18 @@
 -- No number of a field is a fraction.
-use Rattle.std.proofs.Common.{◌≡◌, ℕ, ◌+◌, ◌-◌, ◌/◌, ◌==◌, Bool, true, false, if◌then◌else◌, List, [], ◌∷◌, length, map, Option, None, Some, refl}
-use Rattle.std.specs.Prelude.{slice_index_or}
+use Rattle.std.proofs.Common.{◌≡◌, ℕ, ◌/◌, ◌==◌, Bool, true, false, if◌then◌else◌, List, [], ◌∷◌, length, map, Option, None, Some, refl}
 use Rattle.escaped_text.specs.Escape.{escaped}
 use Rattle.serde_json.specs.Data.{Data, null, string}
 use Rattle.serde_json.specs.View.{items_of}
 use Rattle.serde_json.specs.Written.{has_float, items_have_float}
 use Rattle.vol_layout.specs.declared.geometry.Geometry.{Geometry}
 use Rattle.vol_fields.specs.DiffLines.{field_bytes, former_text, is_kept}
-use Rattle.vol_fields.specs.Differences.{no_field}
 use Rattle.vol_fields.specs.Fields.{field_at}
 use Rattle.vol_fields.specs.Lines.{first_bytes, row_number}
 use Rattle.vol_fields.specs.Tables.{role_at}
 use Rattle.vol_fields.specs.Values.{number_in, value_kind}
+use Rattle.vol_fields.specs.declared.differences.Difference.{Difference}
+use Rattle.vol_fields.specs.declared.differences.Difference.TheVariants as kinds
 use Rattle.vol_fields.specs.declared.field.Field.{Field}
-use Rattle.vol_fields.specs.declared.groups.Group.{Group}
 use Rattle.vol_fields.specs.declared.names.Name.{Name}
 use Rattle.vol_fields.specs.declared.names.Name.TheVariants as names
 use Rattle.vol_fields.specs.declared.names.ValueKind.{ValueKind}
@@ -21,7 +20,7 @@ use Rattle.vol_fields.specs.declared.names.ValueKind.TheVariants as values
 use Rattle.vol_fields.specs.declared.role.Role.{Role}
 use Rattle.vol_fields.specs.declared.role.Role.TheVariants as roles
 use Rattle.vol_fields.specs.declared.rows.Row.{Row}
-use Rattle.field_json.specs.Changes.{array_data, block_data, bytes_data, change_data, field_data, fields_data, places_data}
+use Rattle.field_json.specs.Changes.{array_data, block_data, bytes_data, change_data, difference_data, field_data, places_data}
 use Rattle.field_json.specs.Meanings.{meaning_of, words_data}
 use Rattle.field_json.specs.Roles.{role_data}
 use Rattle.field_json.specs.Rows.{dump_data, row_data}
@@ -101,7 +100,7 @@ pub dump_whole : (g : Geometry) (table : List Role) (image : List ℕ) (from : �
 dump_whole g table image from rows = rw (role_whole (role_at table (from / 512)), rows_whole g table image rows) refl
 
 -- blocks whose roles changed have no fraction
-pub block_whole : (old new : List Role) (first count : ℕ) → has_float (block_data old new first count) ≡ false
+block_whole : (old new : List Role) (first count : ℕ) → has_float (block_data old new first count) ≡ false
 unfolding block_data
 block_whole old new first count = rw (role_whole (role_at old first), role_whole (role_at new first)) refl
 
@@ -142,12 +141,10 @@ array_whole : (table : List Role) (first last : Field) (count : ℕ) → has_flo
 unfolding array_data
 array_whole table first last count = rw (ino_whole first.part.name first.part.index, role_whole (role_at table (first.spot.start / 512))) refl
 
--- a group of fields has no fraction
-pub group_whole : (g : Geometry) (was : List Role) (old : List ℕ) (is : List Role) (new : List ℕ) (fields : List Field) (group : Group)
-    → has_float (fields_data g was old is new fields group) ≡ false
-group_whole g was old is new fields group =
-    let first = slice_index_or fields group.first no_field in
-    let last = slice_index_or fields group.last no_field in
-    let count = group.last - group.first + 1 in
-    either_whole (group.first == group.last) (field_data g was old is new (value_kind first.spot.name) first) (array_data is first last count)
-    (field_whole g was old is new (value_kind first.spot.name) first) (array_whole is first last count)
+-- a difference has no fraction
+pub difference_whole : (g : Geometry) (was : List Role) (old : List ℕ) (is : List Role) (new : List ℕ) (difference : Difference)
+    → has_float (difference_data g was old is new difference) ≡ false
+difference_whole g was old is new (kinds.Lengths from to) = refl
+difference_whole g was old is new (kinds.Roles first last count) = block_whole was is first count
+difference_whole g was old is new (kinds.Field field) = field_whole g was old is new (value_kind field.spot.name) field
+difference_whole g was old is new (kinds.Fields first last count) = array_whole is first last count

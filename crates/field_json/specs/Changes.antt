@@ -1,19 +1,16 @@
 -- What differs between two images, as JSON.
-use Rattle.std.specs.Prelude.{◌≡◌, ℕ, ◌+◌, ◌-◌, ◌/◌, ◌%◌, ◌==◌, min, Bool, if◌then◌else◌, List, [], ◌∷◌, ◌++◌, codes, length, map, slice_index, slice_index_or}
+use Rattle.std.specs.Prelude.{◌≡◌, ℕ, ◌+◌, ◌-◌, ◌/◌, ◌%◌, min, Bool, if◌then◌else◌, List, codes, length, map, slice_index}
 use Rattle.std.specs.List.{flat_map}
 use Rattle.serde_json.specs.Data.{Data, member, no_members, null, object, string}
 use Rattle.vol_layout.specs.declared.geometry.Geometry.{Geometry}
-use Rattle.vol_fields.specs.Changes.{ListsChanges}
 use Rattle.vol_fields.specs.DiffLines.{changed_bytes, field_bytes, former_text, is_kept}
-use Rattle.vol_fields.specs.Differences.{least, no_field}
-use Rattle.vol_fields.specs.FieldGroups.{field_joins}
+use Rattle.vol_fields.specs.Differences.{ListsDifferences}
 use Rattle.vol_fields.specs.Fields.{field_at}
-use Rattle.vol_fields.specs.Groups.{AreGroups}
-use Rattle.vol_fields.specs.RoleChanges.{block_joins, changed_blocks}
 use Rattle.vol_fields.specs.Tables.{role_at}
 use Rattle.vol_fields.specs.Values.{label, value_kind}
+use Rattle.vol_fields.specs.declared.differences.Difference.{Difference}
+use Rattle.vol_fields.specs.declared.differences.Difference.TheVariants as kinds
 use Rattle.vol_fields.specs.declared.field.Field.{Field}
-use Rattle.vol_fields.specs.declared.groups.Group.{Group}
 use Rattle.vol_fields.specs.declared.names.Name.{Name}
 use Rattle.vol_fields.specs.declared.names.ValueKind.{ValueKind}
 use Rattle.vol_fields.specs.declared.names.ValueKind.TheVariants as values
@@ -28,10 +25,6 @@ abbrev pub length_data : ℕ → ℕ → Data
 length_data old new =
     object (member (codes "line") (string (codes "length")) (member (codes "new") (count new) (member (codes "old") (count old) no_members)))
 
--- the item of two lengths, if they differ (this project)
-abbrev pub length_items : ℕ → ℕ → List Data
-length_items old new = if old == new then [] else length_data old new ∷ []
-
 -- `count` blocks from block `first` on whose roles changed alike, with the roles of the first of them (this project)
 unfoldable pub block_data : List Role → List Role → ℕ → ℕ → Data
 block_data old new first number =
@@ -40,10 +33,6 @@ block_data old new first number =
     (member (codes "line") (string (codes "role"))
     (member (codes "new") (role_data (role_at new first))
     (member (codes "old") (role_data (role_at old first)) no_members)))))
-
--- a group of blocks (this project)
-abbrev pub blocks_data : List Role → List Role → List ℕ → Group → Data
-blocks_data old new blocks group = block_data old new (slice_index blocks group.first) (group.last - group.first + 1)
 
 -- the value of a field with these bytes in the old image; null if that has another field there (this project)
 abbrev pub old_data : Bool → ValueKind → List ℕ → Data
@@ -106,48 +95,17 @@ array_data roles first last number =
     (member (codes "offset") (count (first.spot.start % 512))
     (member (codes "role") (role_data (role_at roles (first.spot.start / 512))) no_members)))))))))
 
--- a group of fields, from the first to the last of them (this project)
-abbrev pub group_data : Geometry → List Role → List ℕ → List Role → List ℕ → Field → Field → Group → Data
-group_data g table old roles new first last group =
-    if group.first == group.last then field_data g table old roles new (value_kind first.spot.name) first
-    else array_data roles first last (group.last - group.first + 1)
-
--- a group of fields (this project)
-abbrev pub fields_data : Geometry → List Role → List ℕ → List Role → List ℕ → List Field → Group → Data
-fields_data g table old roles new fields group =
-    group_data g table old roles new (slice_index_or fields group.first no_field) (slice_index_or fields group.last no_field) group
-
--- the data are the blocks whose roles differ: those of a line of the text are one item (this project)
-abbrev pub AreBlockData : List Role → List Role → Bool → List Data → Type 0
-AreBlockData old new all datas =
-    let blocks = changed_blocks old new in
-    (groups : List Group) × AreGroups (block_joins old new blocks) (least all 2) groups × (datas ≡ map (blocks_data old new blocks) groups)
-
--- the data are the fields of the new image whose bytes differ: those of a line of the text are one item (this project)
-abbrev pub AreFieldData : Geometry → List Role → List ℕ → Geometry → List Role → List ℕ → Bool → List Data → Type 0
-AreFieldData g table old h roles new all datas =
-    (fields : List Field) × ListsChanges h roles new old (min (length new) (length old)) fields
-    × ((groups : List Group) × AreGroups (field_joins fields) (least all 9) groups × (datas ≡ map (fields_data g table old roles new fields) groups))
+-- a difference between two images (this project)
+abbrev pub difference_data : Geometry → List Role → List ℕ → List Role → List ℕ → Difference → Data
+difference_data g table old roles new (kinds.Lengths was is) = length_data was is
+difference_data g table old roles new (kinds.Roles first last number) = block_data table roles first number
+difference_data g table old roles new (kinds.Field field) = field_data g table old roles new (value_kind field.spot.name) field
+difference_data g table old roles new (kinds.Fields first last number) = array_data roles first last number
 
 -- the data are the differences between two images, an item for each line of their text, in its order (this project)
 abbrev pub AreDifferences : Geometry → List Role → List ℕ → Geometry → List Role → List ℕ → Bool → List Data → Type 0
 AreDifferences g table old h roles new all datas =
-    (blocks : List Data) × AreBlockData table roles all blocks
-    × ((fields : List Data) × AreFieldData g table old h roles new all fields × (datas ≡ length_items (length old) (length new) ++ (blocks ++ fields)))
-
--- the text is that of the items of the blocks whose roles differ (RFC 8259)
-abbrev pub AreBlockItems : List Role → List Role → Bool → List ℕ → Type 0
-AreBlockItems old new all items =
-    let blocks = changed_blocks old new in
-    (groups : List Group) × AreGroups (block_joins old new blocks) (least all 2) groups
-    × (items ≡ flat_map item_text (map (blocks_data old new blocks) groups))
-
--- the text is that of the items of the fields that differ (RFC 8259)
-abbrev pub AreFieldItems : Geometry → List Role → List ℕ → Geometry → List Role → List ℕ → Bool → List ℕ → Type 0
-AreFieldItems g table old h roles new all items =
-    (fields : List Field) × ListsChanges h roles new old (min (length new) (length old)) fields
-    × ((groups : List Group) × AreGroups (field_joins fields) (least all 9) groups
-    × (items ≡ flat_map item_text (map (fields_data g table old roles new fields) groups)))
+    (found : List Difference) × ListsDifferences table old h roles new all found × (datas ≡ map (difference_data g table old roles new) found)
 
 -- the text is that of the items of the differences between two images, with a comma before each (RFC 8259)
 abbrev pub AreDifferenceItems : Geometry → List Role → List ℕ → Geometry → List Role → List ℕ → Bool → List ℕ → Type 0

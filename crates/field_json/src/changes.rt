@@ -1,27 +1,19 @@
 //! What differs between two images, as JSON.
-ghost use Rattle.std.specs.Prelude.{◌≡◌, ◌+◌, ◌-◌, ◌<◌, ◌≤◌, ◌++◌, length, map, IfOk, OnOk};
-ghost use Rattle.std.specs.List.{flat_map};
+ghost use Rattle.std.specs.Prelude.{◌≡◌, ◌+◌, ◌-◌, ◌<◌, ◌≤◌, ◌++◌, length, IfOk, OnOk};
 ghost use Rattle.serde_json.specs.View.{view};
 ghost use Rattle.vol_layout.specs.Geometry.{Fits};
-ghost use Rattle.vol_fields.specs.Groups.{AreGroupsWithin};
-ghost use Rattle.vol_fields.specs.Changes.{AreShared};
-ghost use Rattle.vol_fields.specs.Differences.{no_field};
+ghost use Rattle.vol_fields.specs.Differences.{IsShared};
 ghost use Rattle.vol_fields.specs.Values.{value_kind};
 ghost use Rattle.field_json.specs.Items.{item_text};
 ghost use Rattle.field_json.specs.Changes.{
-  AreBlockItems,
   AreDifferenceItems,
-  AreFieldItems,
   array_data,
   block_data,
-  blocks_data,
   bytes_data,
   change_data,
+  difference_data,
   field_data,
-  fields_data,
-  group_data,
   length_data,
-  length_items,
   old_data,
   places_data,
   was_data,
@@ -34,15 +26,14 @@ use pdp_words::{BLOCK, Image};
 use serde_json::{Value, json};
 use std::alloc::{AllocError, Global};
 use vol_fields::{
-    FEW, Field, Group, MANY, MappedImage, Name, Role, ValueKind, block_joins, changed_blocks,
-    changed_bytes, changed_fields, field_at, field_bytes, field_joins, former_text, groups_of,
-    is_kept, least, place_in, role_at,
+    Difference, Field, MappedImage, Name, Role, ValueKind, changed_bytes, field_at, field_bytes,
+    former_text, is_kept, list_differences, place_in, role_at,
 };
 
-/// Returns what differs between two images, an item of a list for each line of [`vol_fields::diff_text`], in their order: the text of these items, with a
-/// comma before each.
+/// Returns the differences between two images, an item of a list for each line of [`vol_fields::diff_text`], in their order: the text of these items, with
+/// a comma before each.
 ///
-/// Takes memory for the fields that differ, and for the text.
+/// Takes the memory of [`list_differences`], and memory for the text.
 pub fn difference_items(
     alloc: Global,
     old: &MappedImage<'_>,
@@ -54,39 +45,53 @@ pub fn difference_items(
     ensures { IfOk result (λ items. AreDifferenceItems old.now.geometry.now old.now.roles.now old.now.image.now new.now.geometry.now new.now.roles.now
         new.now.image.now all items.items) }
 {
-    let mut items = length_text(alloc, old.image, new.image)?;
-    let blocks = blocks_items(alloc, old.roles, new.roles, all)?;
-    let fields = fields_items(alloc, old, new, all)?;
-    push_both(&mut items, &blocks, &fields)?;
-    Ok(items)
-}
-
-/// Appends two texts.
-fn push_both(text: &mut Vec<u8>, first: &[u8], second: &[u8]) -> Result<(), AllocError>
-    ensures { OnOk result (text.new.items ≡ text.old.items ++ (first.now ++ second.now)) }
-{
-    text.extend_from_slice(first)?;
-    Ok(text.extend_from_slice(second)?)
-}
-
-/// Returns the item of the lengths of two images, if they differ.
-fn length_text(alloc: Global, old: &Image, new: &Image) -> Result<Vec<u8>, AllocError>
-    ensures { IfOk result (λ items. items.items ≡ flat_map item_text (length_items (length old.now) (length new.now))) }
-{
+    let found = list_differences(alloc, old, new, all)?;
     let mut items = Vec::new(alloc);
-    push_length(alloc, &mut items, old.len(), new.len())?;
+    for difference in &found {
+        push_difference(alloc, &mut items, old, new, *difference)?;
+    }
     Ok(items)
 }
 
-/// Appends the item of two lengths, if they differ.
-fn push_length(alloc: Global, items: &mut Vec<u8>, old: usize, new: usize) -> Result<(), AllocError>
-    ensures { OnOk result (items.new.items ≡ items.old.items ++ flat_map item_text (length_items old new)) }
+/// Appends the item of a difference.
+fn push_difference(
+    alloc: Global,
+    items: &mut Vec<u8>,
+    old: &MappedImage<'_>,
+    new: &MappedImage<'_>,
+    difference: Difference,
+) -> Result<(), AllocError>
+    requires fits { Fits old.now.geometry.now old.now.image.now }
+    requires shared { IsShared (length new.now.image.now) (length old.now.image.now) difference }
+    ensures { OnOk result (items.new.items ≡ items.old.items ++ item_text
+        (difference_data old.now.geometry.now old.now.roles.now old.now.image.now new.now.roles.now new.now.image.now difference)) }
 {
-    if old == new {
-        return Ok(());
-    }
-    let value = length_value(alloc, old, new)?;
+    let value = difference_value(alloc, old, new, difference)?;
     push_item(alloc, items, &value)
+}
+
+/// Returns a difference as a JSON value.
+fn difference_value(
+    alloc: Global,
+    old: &MappedImage<'_>,
+    new: &MappedImage<'_>,
+    difference: Difference,
+) -> Result<Value, AllocError>
+    requires fits { Fits old.now.geometry.now old.now.image.now }
+    requires shared { IsShared (length new.now.image.now) (length old.now.image.now) difference }
+    ensures { IfOk result (λ value. view value
+        ≡ difference_data old.now.geometry.now old.now.roles.now old.now.image.now new.now.roles.now new.now.image.now difference) }
+{
+    match difference {
+        Difference::Lengths { old, new } => length_value(alloc, old, new),
+        Difference::Roles { first, count, .. } => {
+            block_value(alloc, old.roles, new.roles, first, count)
+        }
+        Difference::Field(field) => field_value(alloc, old, new, &field),
+        Difference::Fields { first, last, count } => {
+            array_value(alloc, new.roles, &first, &last, count)
+        }
+    }
 }
 
 /// Returns two lengths as a JSON value.
@@ -94,51 +99,6 @@ fn length_value(alloc: Global, old: usize, new: usize) -> Result<Value, AllocErr
     ensures { IfOk result (λ value. view value ≡ length_data old new) }
 {
     json!(in alloc; {"line": "length", "new": new, "old": old})
-}
-
-/// Returns the items of the blocks whose roles differ.
-fn blocks_items(alloc: Global, old: &[Role], new: &[Role], all: bool) -> Result<Vec<u8>, AllocError>
-    ensures { IfOk result (λ items. AreBlockItems old.now new.now all items.items) }
-{
-    let blocks = changed_blocks(alloc, old, new)?;
-    let joins = block_joins(alloc, old, new, &blocks)?;
-    let groups = groups_of(alloc, &joins, least(all, FEW))?;
-    block_groups(alloc, old, new, &blocks, &groups)
-}
-
-/// Returns the items of groups of blocks.
-fn block_groups(
-    alloc: Global,
-    old: &[Role],
-    new: &[Role],
-    blocks: &[usize],
-    groups: &[Group],
-) -> Result<Vec<u8>, AllocError>
-    requires { AreGroupsWithin (length blocks.now) groups.now }
-    ensures { IfOk result (λ items. items.items ≡ flat_map item_text (map (blocks_data old.now new.now blocks.now) groups.now)) }
-{
-    let mut items = Vec::new(alloc);
-    for group in groups {
-        let first = blocks[group.first];
-        let count = group.last - group.first + 1;
-        push_block(alloc, &mut items, old, new, first, count)?;
-    }
-    Ok(items)
-}
-
-/// Appends the item of `count` blocks whose roles changed alike, from block `first` on.
-fn push_block(
-    alloc: Global,
-    items: &mut Vec<u8>,
-    old: &[Role],
-    new: &[Role],
-    first: usize,
-    count: usize,
-) -> Result<(), AllocError>
-    ensures { OnOk result (items.new.items ≡ items.old.items ++ item_text (block_data old.now new.now first count)) }
-{
-    let value = block_value(alloc, old, new, first, count)?;
-    push_item(alloc, items, &value)
 }
 
 /// Returns blocks whose roles changed alike as a JSON value, with the roles of the first of them.
@@ -155,89 +115,6 @@ fn block_value(
     let was = role_value(alloc, role_at(old, first))?;
     let is = role_value(alloc, role_at(new, first))?;
     json!(in alloc; {"block": first, "count": count, "line": "role", "new": is, "old": was})
-}
-
-/// Returns the items of the fields whose bytes differ.
-fn fields_items(
-    alloc: Global,
-    old: &MappedImage<'_>,
-    new: &MappedImage<'_>,
-    all: bool,
-) -> Result<Vec<u8>, AllocError>
-    requires old { Fits old.now.geometry.now old.now.image.now }
-    requires new { Fits new.now.geometry.now new.now.image.now }
-    ensures { IfOk result (λ items. AreFieldItems old.now.geometry.now old.now.roles.now old.now.image.now new.now.geometry.now new.now.roles.now
-        new.now.image.now all items.items) }
-{
-    let fields = changed_fields(alloc, new.image, old.image, new.geometry, new.roles)?;
-    let joins = field_joins(alloc, &fields)?;
-    let groups = groups_of(alloc, &joins, least(all, MANY))?;
-    field_groups(alloc, old, new, &fields, &groups)
-}
-
-/// Returns the items of groups of fields.
-fn field_groups(
-    alloc: Global,
-    old: &MappedImage<'_>,
-    new: &MappedImage<'_>,
-    fields: &[Field],
-    groups: &[Group],
-) -> Result<Vec<u8>, AllocError>
-    requires old { Fits old.now.geometry.now old.now.image.now }
-    requires shared { AreShared (length new.now.image.now) (length old.now.image.now) fields.now }
-    requires within { AreGroupsWithin (length fields.now) groups.now }
-    ensures { IfOk result (λ items. items.items ≡ flat_map item_text (map
-        (fields_data old.now.geometry.now old.now.roles.now old.now.image.now new.now.roles.now new.now.image.now fields.now) groups.now)) }
-{
-    let mut items = Vec::new(alloc);
-    for group in groups {
-        push_group(alloc, &mut items, old, new, fields, *group)?;
-    }
-    Ok(items)
-}
-
-/// Appends the item of a group of fields.
-fn push_group(
-    alloc: Global,
-    items: &mut Vec<u8>,
-    old: &MappedImage<'_>,
-    new: &MappedImage<'_>,
-    fields: &[Field],
-    group: Group,
-) -> Result<(), AllocError>
-    requires old { Fits old.now.geometry.now old.now.image.now }
-    requires shared { AreShared (length new.now.image.now) (length old.now.image.now) fields.now }
-    requires order { group.first ≤ group.last }
-    requires within { group.last < length fields.now }
-    ensures { OnOk result (items.new.items ≡ items.old.items ++ item_text
-        (fields_data old.now.geometry.now old.now.roles.now old.now.image.now new.now.roles.now new.now.image.now fields.now group)) }
-{
-    let value = group_value(alloc, old, new, fields, group)?;
-    push_item(alloc, items, &value)
-}
-
-/// Returns a group of fields as a JSON value.
-fn group_value(
-    alloc: Global,
-    old: &MappedImage<'_>,
-    new: &MappedImage<'_>,
-    fields: &[Field],
-    group: Group,
-) -> Result<Value, AllocError>
-    requires old { Fits old.now.geometry.now old.now.image.now }
-    requires shared { AreShared (length new.now.image.now) (length old.now.image.now) fields.now }
-    requires order { group.first ≤ group.last }
-    requires within { group.last < length fields.now }
-    ensures { IfOk result (λ value. view value
-        ≡ fields_data old.now.geometry.now old.now.roles.now old.now.image.now new.now.roles.now new.now.image.now fields.now group) }
-{
-    let first = fields[group.first];
-    if group.first == group.last {
-        return field_value(alloc, old, new, &first);
-    }
-    let last = fields[group.last];
-    let count = group.last - group.first + 1;
-    array_value(alloc, new.roles, &first, &last, count)
 }
 
 /// Returns `count` fields of an array that differ as a JSON value, from the first to the last of them.

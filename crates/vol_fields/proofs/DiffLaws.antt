@@ -1,21 +1,23 @@
 -- Lemmas on the differences between two images.
-use Rattle.std.proofs.Common.{◌≡◌, ℕ, ◌+◌, ◌-◌, ◌<◌, ◌≤◌, ◌∙◌, ◌&&◌, not, Bool, true, false, if◌then◌else◌, eqb, min, List, [], ◌∷◌, ◌++◌, length, get_or, inl, inr, refl, sym, ap, arith}
+use Rattle.std.proofs.Common.{◌≡◌, ℕ, ◌+◌, ◌<◌, ◌≤◌, ◌∙◌, ◌&&◌, not, Bool, true, false, if◌then◌else◌, eqb, min, List, [], ◌∷◌, ◌++◌, length, map, get_or, inl, inr, refl, sym, ap, arith}
 use Rattle.std.specs.List.{Contains, filter, flat_map}
 use Rattle.std.proofs.lemmas.Bool.{cases_eq, eq-eqb, eqb-true}
 use Rattle.std.proofs.lemmas.Grind.{same_number_lists}
 use Rattle.std.proofs.lemmas.List.{get_or_default}
 use Rattle.std.proofs.lemmas.List.Elements.{Contains-append_left, Contains-push}
 use Rattle.std.proofs.lemmas.List.FromFn.{length-map-range_with_len}
-use Rattle.std.specs.Prelude.{codes, decimal, slice_index_or}
+use Rattle.std.specs.Prelude.{codes}
 use Rattle.vol_layout.specs.declared.geometry.Geometry.{Geometry}
 use Rattle.vol_fields.specs.Changes.{Differs, ListsChanges}
-use Rattle.vol_fields.specs.DiffLines.{array_line, field_line, length_line, named_part, part_text}
-use Rattle.vol_fields.specs.Differences.{IsBlocksText, IsDiffText, IsFieldsText, blocks_line, fields_line, least, no_field}
+use Rattle.vol_fields.specs.DiffLines.{array_line, block_line, blocks_text, difference_line, field_line, named_part, part_text}
+use Rattle.vol_fields.specs.Differences.{AreFieldDifferences, AreRoleDifferences, IsDiffText, ListsDifferences, field_difference, least, length_differences, role_difference}
 use Rattle.vol_fields.specs.FieldGroups.{field_joins, is_field_joined}
 use Rattle.vol_fields.specs.Fields.{field_at}
 use Rattle.vol_fields.specs.Groups.{AreGroups}
 use Rattle.vol_fields.specs.RoleChanges.{block_joins, changed_blocks, is_block_joined, is_changed, is_moved}
 use Rattle.vol_fields.specs.Tables.{role_at}
+use Rattle.vol_fields.specs.declared.differences.Difference.{Difference}
+use Rattle.vol_fields.specs.declared.differences.Difference.TheVariants as kinds
 use Rattle.vol_fields.specs.declared.field.Field.{Field}
 use Rattle.vol_fields.specs.declared.groups.Group.{Group}
 use Rattle.vol_fields.specs.declared.role.Role.{Role}
@@ -57,12 +59,12 @@ pub fields_len : (fields : List Field) → length (field_joins fields) ≡ lengt
 unfolding field_joins
 fields_len fields = length-map-range_with_len (is_field_joined fields) 0 (length fields)
 
--- so their text is empty
-no_block_lines : (table : List Role) (all : Bool) (text : List ℕ) → IsBlocksText table table all text → text ≡ []
-no_block_lines table all text made =
+-- so none is listed
+no_roles : (table : List Role) (all : Bool) (found : List Difference) → AreRoleDifferences table table all found → found ≡ []
+no_roles table all found made =
     let blocks = changed_blocks table table in
     let none : length (block_joins table table blocks) ≡ 0 = blocks_len table table blocks ∙ ap length (no_blocks table) in
-    made.2 ∙ ap (flat_map (blocks_line table table blocks)) (no_groups (block_joins table table blocks) (least all 2) made.0 none made.1)
+    made.2 ∙ ap (map (role_difference blocks)) (no_groups (block_joins table table blocks) (least all 2) made.0 none made.1)
 
 -- equal images have no fields that differ
 no_changes : (h : Geometry) (table : List Role) (image : List ℕ) (to : ℕ) (fields : List Field) → ListsChanges h table image image to fields → fields ≡ []
@@ -70,61 +72,68 @@ no_changes h table image to [] lists = refl
 no_changes h table image to (f ∷ more) lists =
     let was = lists.only f (Contains-append_left (f ∷ []) more f (Contains-push [] f)) in absurd (was.2 refl)
 
--- so their text is empty
-no_field_lines : (g h : Geometry) (table : List Role) (image : List ℕ) (all : Bool) (text : List ℕ) → IsFieldsText g table image h table image all text
-    → text ≡ []
-no_field_lines g h table image all text made =
+-- so none is listed
+no_fields : (h : Geometry) (table : List Role) (image : List ℕ) (all : Bool) (found : List Difference) → AreFieldDifferences image h table image all found
+    → found ≡ []
+no_fields h table image all found made =
     let fields = made.0 in
     let none : length (field_joins fields) ≡ 0 = fields_len fields ∙ ap length (no_changes h table image (min (length image) (length image)) fields made.1) in
-    made.2.2 ∙ ap (flat_map (fields_line g table image table image fields)) (no_groups (field_joins fields) (least all 9) made.2.0 none made.2.1)
+    made.2.2 ∙ ap (map (field_difference fields)) (no_groups (field_joins fields) (least all 9) made.2.0 none made.2.1)
 
--- equal lengths have no line
-no_length_line : (n : ℕ) → length_line n n ≡ []
-no_length_line n = ap (λ t. if t then [] else codes "image: " ++ (decimal n ++ (codes " -> " ++ (decimal n ++ codes " bytes\n")))) (eq-eqb n n refl)
+-- equal images have no differences
+pub no_differences : (h : Geometry) (table : List Role) (image : List ℕ) (all : Bool) (found : List Difference)
+    → ListsDifferences table image h table image all found → found ≡ []
+unfolding ListsDifferences
+no_differences h table image all found made =
+    made.2.2
+    ∙ (ap (λ same. (if same then [] else kinds.Lengths (length image) (length image) ∷ []) ++ (made.0 ++ made.2.0)) (eq-eqb (length image) (length image) refl)
+    ∙ (ap (λ blocks. blocks ++ made.2.0) (no_roles table all made.0 made.1) ∙ no_fields h table image all made.2.0 made.2.1))
 
--- the differences of equal images have no line
+-- so they have no text
 pub equal_is_silent : (g h : Geometry) (table : List Role) (image : List ℕ) (all : Bool) (text : List ℕ) → IsDiffText g table image h table image all text
     → text ≡ []
 equal_is_silent g h table image all text made =
-    made.2.2 ∙ (ap (λ line. line ++ (made.0 ++ made.2.0)) (no_length_line (length image))
-    ∙ (ap (λ blocks. blocks ++ made.2.0) (no_block_lines table all made.0 made.1) ∙ no_field_lines g h table image all made.2.0 made.2.1))
+    made.2 ∙ ap (flat_map (difference_line g table image table image)) (no_differences h table image all made.0 made.1)
 
 -- parts of an empty list are empty
-last_empty : (front rest : List ℕ) → front ++ rest ≡ [] → rest ≡ []
+last_empty : {X : Type 0} (front rest : List X) → front ++ rest ≡ [] → rest ≡ []
 last_empty [] rest none = none
 last_empty (x ∷ more) rest none = cc
 
-first_empty : (front rest : List ℕ) → front ++ rest ≡ [] → front ≡ []
+first_empty : {X : Type 0} (front rest : List X) → front ++ rest ≡ [] → front ≡ []
 first_empty [] rest none = refl
 first_empty (x ∷ more) rest none = cc
 
--- different lengths have a line
-length_told : (old new : ℕ) → length_line old new ≡ [] → old ≡ new
-length_told old new none = elim (eqb old new) as (λ t. eqb old new ≡ t
-    → (if t then [] else codes "image: " ++ (decimal old ++ (codes " -> " ++ (decimal new ++ codes " bytes\n")))) ≡ [] → old ≡ new) [
-      | true ↦ λ same empty. eqb-true old new same
-      | false ↦ λ other empty. cc
-    ] refl none
+-- nothing is made of an empty list only
+pub map_empty : {X Y : Type 0} (f : X → Y) (xs : List X) → map f xs ≡ [] → xs ≡ []
+map_empty f [] none = refl
+map_empty f (x ∷ xs) none = cc
 
--- each group of fields has a line
-fields_told : (g : Geometry) (table : List Role) (old : List ℕ) (roles : List Role) (new : List ℕ) (fields : List Field) (group : Group)
-    → fields_line g table old roles new fields group ≡ [] → ⊥
-unfolding field_line array_line
-fields_told g table old roles new fields group none =
-    let first = slice_index_or fields group.first no_field in
-    let last = slice_index_or fields group.last no_field in
-    elim (eqb group.first group.last) as (λ t. (if t then field_line g table old roles new first else array_line roles first last (group.last - group.first + 1)) ≡ []
-    → ⊥) [
-      | true ↦ λ empty. let end : codes "\n" ≡ [] = last_empty _ (codes "\n") (last_empty (named_part roles first) _ empty) in cc
-      | false ↦ λ empty. let end : codes " " ++ _ ≡ [] = last_empty (part_text roles first.part.name first.part) _ empty in cc
-    ] none
+-- each difference has a line
+line_told : (g : Geometry) (table : List Role) (old : List ℕ) (roles : List Role) (new : List ℕ) (difference : Difference)
+    → difference_line g table old roles new difference ≡ [] → ⊥
+unfolding block_line field_line array_line
+line_told g table old roles new (kinds.Lengths was is) none = cc
+line_told g table old roles new (kinds.Roles first last count) none =
+    let end : codes ": " ++ _ ≡ [] = last_empty (blocks_text first last) _ none in cc
+line_told g table old roles new (kinds.Field field) none =
+    let end : codes "\n" ≡ [] = last_empty _ (codes "\n") (last_empty (named_part roles field) _ none) in cc
+line_told g table old roles new (kinds.Fields first last count) none =
+    let end : codes " " ++ _ ≡ [] = last_empty (part_text roles first.part.name first.part) _ none in cc
 
--- no text, no groups
-groups_told : (g : Geometry) (table : List Role) (old : List ℕ) (roles : List Role) (new : List ℕ) (fields : List Field) (groups : List Group)
-    → flat_map (fields_line g table old roles new fields) groups ≡ [] → groups ≡ []
-groups_told g table old roles new fields [] none = refl
-groups_told g table old roles new fields (group ∷ more) none =
-    absurd (fields_told g table old roles new fields group (first_empty (fields_line g table old roles new fields group) _ none))
+-- no text, no differences
+lines_told : (g : Geometry) (table : List Role) (old : List ℕ) (roles : List Role) (new : List ℕ) (found : List Difference)
+    → flat_map (difference_line g table old roles new) found ≡ [] → found ≡ []
+lines_told g table old roles new [] none = refl
+lines_told g table old roles new (difference ∷ more) none =
+    absurd (line_told g table old roles new difference (first_empty (difference_line g table old roles new difference) _ none))
+
+-- different lengths are listed
+lengths_told : (old new : ℕ) → length_differences old new ≡ [] → old ≡ new
+lengths_told old new none = elim (eqb old new) as (λ t. eqb old new ≡ t → (if t then [] else kinds.Lengths old new ∷ []) ≡ [] → old ≡ new) [
+  | true ↦ λ same empty. eqb-true old new same
+  | false ↦ λ other empty. cc
+] refl none
 
 -- a list without fields lists no change
 none_differ : (h : Geometry) (roles : List Role) (new old : List ℕ) (to : ℕ) (fields : List Field) → length fields ≡ 0
@@ -134,18 +143,26 @@ none_differ h roles new old to fields none lists n below = elim (cases_eq (get_o
   | inr other ↦ let has = lists.all n below other in absurd (omega (arith, none, has.1))
 ]
 
+-- images without differences are equal
+pub none_is_equal : (h : Geometry) (table roles : List Role) (old new : List ℕ) (all : Bool) (found : List Difference)
+    → ListsDifferences table old h roles new all found → found ≡ [] → old ≡ new
+unfolding ListsDifferences
+none_is_equal h table roles old new all found made none =
+    let lengths = length_differences (length old) (length new) in
+    let whole : lengths ++ (made.0 ++ made.2.0) ≡ [] = sym made.2.2 ∙ none in
+    let len : length old ≡ length new = lengths_told (length old) (length new) (first_empty lengths (made.0 ++ made.2.0) whole) in
+    let listed = made.2.1 in
+    let groups : listed.2.0 ≡ [] = map_empty (field_difference listed.0) listed.2.0
+    (sym listed.2.2 ∙ last_empty made.0 made.2.0 (last_empty lengths (made.0 ++ made.2.0) whole)) in
+    let entries : length listed.0 ≡ 0 = sym (fields_len listed.0) ∙ no_entries (field_joins listed.0) (least all 9) listed.2.0 groups listed.2.1 in
+    same_number_lists old new len
+    (λ k low. sym (none_differ h roles new old (min (length new) (length old)) listed.0 entries listed.1 k (omega (arith, len, low))))
+
 -- images whose differences have no line are equal
 pub silent_is_equal : (g h : Geometry) (table roles : List Role) (old new : List ℕ) (all : Bool) (text : List ℕ)
     → IsDiffText g table old h roles new all text → text ≡ [] → old ≡ new
 silent_is_equal g h table roles old new all text made empty =
-    let whole : length_line (length old) (length new) ++ (made.0 ++ made.2.0) ≡ [] = sym made.2.2 ∙ empty in
-    let len : length old ≡ length new = length_told (length old) (length new) (first_empty (length_line (length old) (length new)) (made.0 ++ made.2.0) whole) in
-    let silent : made.2.0 ≡ [] = last_empty made.0 made.2.0 (last_empty (length_line (length old) (length new)) (made.0 ++ made.2.0) whole) in
-    let listed = made.2.1 in
-    let groups : listed.2.0 ≡ [] = groups_told g table old roles new listed.0 listed.2.0 (sym listed.2.2 ∙ silent) in
-    let none : length listed.0 ≡ 0 = sym (fields_len listed.0) ∙ no_entries (field_joins listed.0) (least all 9) listed.2.0 groups listed.2.1 in
-    same_number_lists old new len
-    (λ k low. sym (none_differ h roles new old (min (length new) (length old)) listed.0 none listed.1 k (omega (arith, len, low))))
+    none_is_equal h table roles old new all made.0 made.1 (lines_told g table old roles new made.0 (sym made.2 ∙ empty))
 
 -- a byte that differs is in a field of a group
 pub byte_told : (h : Geometry) (roles : List Role) (old new : List ℕ) (least : ℕ) (fields : List Field) (groups : List Group)

@@ -10,6 +10,8 @@ use Rattle.vol_fields.specs.Lines.{fields_name}
 use Rattle.vol_fields.specs.RoleChanges.{is_moved}
 use Rattle.vol_fields.specs.Tables.{role_at}
 use Rattle.vol_fields.specs.Values.{label, number_in, role_text, shown_name, value_kind}
+use Rattle.vol_fields.specs.declared.differences.Difference.{Difference}
+use Rattle.vol_fields.specs.declared.differences.Difference.TheVariants as kinds
 use Rattle.vol_fields.specs.declared.field.Field.{Field}
 use Rattle.vol_fields.specs.declared.names.Name.{Name}
 use Rattle.vol_fields.specs.declared.names.Name.TheVariants as names
@@ -19,10 +21,9 @@ use Rattle.vol_fields.specs.declared.role.Role.{Role}
 use Rattle.vol_fields.specs.declared.role.Role.TheVariants as roles
 use Rattle.vol_fields.specs.declared.runs.Spot.{Spot}
 
--- the line of two lengths, if they differ (this project)
+-- the line of two lengths (this project)
 abbrev pub length_line : ℕ → ℕ → List ℕ
-length_line old new =
-    if old == new then [] else codes "image: " ++ (decimal old ++ (codes " -> " ++ (decimal new ++ codes " bytes\n")))
+length_line old new = codes "image: " ++ (decimal old ++ (codes " -> " ++ (decimal new ++ codes " bytes\n")))
 
 -- the blocks from `first` to `last` (this project)
 abbrev pub blocks_text : ℕ → ℕ → List ℕ
@@ -141,3 +142,10 @@ unfoldable pub array_line : List Role → Field → Field → ℕ → List ℕ
 array_line roles first last count =
     part_text roles first.part.name first.part ++ (codes " " ++ (label first.spot.name ++ (codes "[" ++ (decimal first.spot.index ++ (codes ".."
     ++ (decimal last.spot.index ++ (codes "]: " ++ (decimal count ++ codes " differ\n"))))))))
+
+-- the line of a difference (this project)
+abbrev pub difference_line : Geometry → List Role → List ℕ → List Role → List ℕ → Difference → List ℕ
+difference_line g table old roles new (kinds.Lengths was is) = length_line was is
+difference_line g table old roles new (kinds.Roles first last count) = block_line table roles first last
+difference_line g table old roles new (kinds.Field field) = field_line g table old roles new field
+difference_line g table old roles new (kinds.Fields first last count) = array_line roles first last count

@@ -1,7 +1,8 @@
-//! The lines of the differences between two images.
+//! The text of the differences between two images.
 ghost use Rattle.std.specs.Prelude.{◌≡◌, ◌+◌, ◌-◌, ◌<◌, ◌≤◌, ◌++◌, length, slice_index, OnOk, IfOk};
 ghost use Rattle.std.specs.String.{string_bytes};
 ghost use Rattle.vol_layout.specs.Geometry.{Fits};
+ghost use Rattle.vol_fields.specs.Differences.{IsDiffText, IsShared};
 ghost use Rattle.vol_fields.specs.Values.{value_kind};
 ghost use Rattle.vol_fields.specs.DiffLines.{
   after_part,
@@ -13,6 +14,7 @@ ghost use Rattle.vol_fields.specs.DiffLines.{
   change_text,
   changed_bytes,
   count_text,
+  difference_line,
   field_bytes,
   field_line,
   former_text,
@@ -27,6 +29,7 @@ ghost use Rattle.vol_fields.specs.DiffLines.{
   plain_value,
 };
 
+use crate::differences::{Difference, MappedImage, list_differences};
 use crate::field::{Field, field_at, role_at};
 use crate::field_groups::is_same_field;
 use crate::lines::fields_name;
@@ -38,21 +41,54 @@ use crate::values::{number_in, shown_name};
 use escaped_text::push_escaped;
 use pdp_words::{BLOCK, Image};
 use std::alloc::{AllocError, Global};
-use vol_layout::Geometry;
 
-/// An image with its geometry and the role of each block.
-#[derive(Clone, Copy)]
-pub struct MappedImage<'a> {
-    /// The bytes.
-    pub image: &'a Image,
-    /// The sizes of the volume.
-    pub geometry: &'a Geometry,
-    /// The role of each block.
-    pub roles: &'a [Role],
+/// Returns the differences between two images, a line for each.
+pub fn diff_text(
+    alloc: Global,
+    old: &MappedImage<'_>,
+    new: &MappedImage<'_>,
+    all: bool,
+) -> Result<Vec<u8>, AllocError>
+    requires old { Fits old.now.geometry.now old.now.image.now }
+    requires new { Fits new.now.geometry.now new.now.image.now }
+    ensures { IfOk result (λ text. IsDiffText old.now.geometry.now old.now.roles.now old.now.image.now new.now.geometry.now new.now.roles.now
+        new.now.image.now all text.items) }
+{
+    let found = list_differences(alloc, old, new, all)?;
+    let mut text = Vec::new(alloc);
+    for difference in &found {
+        push_line(alloc, &mut text, old, new, *difference)?;
+    }
+    Ok(text)
 }
 
-/// Appends the line of two lengths, if they differ.
-pub(crate) fn push_length_line(
+/// Appends the line of a difference.
+fn push_line(
+    alloc: Global,
+    text: &mut Vec<u8>,
+    old: &MappedImage<'_>,
+    new: &MappedImage<'_>,
+    difference: Difference,
+) -> Result<(), AllocError>
+    requires fits { Fits old.now.geometry.now old.now.image.now }
+    requires shared { IsShared (length new.now.image.now) (length old.now.image.now) difference }
+    ensures { OnOk result (text.new.items ≡ text.old.items
+        ++ difference_line old.now.geometry.now old.now.roles.now old.now.image.now new.now.roles.now new.now.image.now difference) }
+{
+    match difference {
+        Difference::Lengths { old, new } => push_length_line(alloc, text, old, new),
+        Difference::Roles { first, last, .. } => {
+            push_block_line(alloc, text, old.roles, new.roles, first, last)
+        }
+        Difference::Field(field) => push_field_line(alloc, text, old, new, &field),
+        Difference::Fields { first, last, count } => {
+            push_array_line(alloc, text, new.roles, &first, &last, count)
+        }
+    }
+}
+
+/// Appends the line of two lengths.
+fn push_length_line(
     alloc: Global,
     text: &mut Vec<u8>,
     old: usize,
@@ -60,16 +96,13 @@ pub(crate) fn push_length_line(
 ) -> Result<(), AllocError>
     ensures { OnOk result (text.new.items ≡ text.old.items ++ length_line old new) }
 {
-    if old == new {
-        return Ok(());
-    }
     let line = format!(in alloc; "image: {old} -> {new} bytes\n")?;
     Ok(text.extend_from_slice(line.as_bytes())?)
 }
 
 /// Appends the line of blocks whose roles changed alike, with the roles of the first of them.
 #[tactic(auto, unfolding(crate::specs::DiffLines::block_line))]
-pub(crate) fn push_block_line(
+fn push_block_line(
     alloc: Global,
     text: &mut Vec<u8>,
     old: &[Role],
@@ -100,7 +133,7 @@ fn blocks_text(alloc: Global, first: usize, last: usize) -> Result<String, Alloc
 
 /// Appends the line of a field of the new image whose bytes differ.
 #[tactic(auto, unfolding(crate::specs::DiffLines::field_line))]
-pub(crate) fn push_field_line(
+fn push_field_line(
     alloc: Global,
     text: &mut Vec<u8>,
     old: &MappedImage<'_>,
@@ -120,7 +153,7 @@ pub(crate) fn push_field_line(
 
 /// Appends the line of `count` fields of an array of the new image that differ, from the first to the last of them.
 #[tactic(auto, unfolding(crate::specs::DiffLines::array_line))]
-pub(crate) fn push_array_line(
+fn push_array_line(
     alloc: Global,
     text: &mut Vec<u8>,
     roles: &[Role],

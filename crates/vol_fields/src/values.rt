@@ -1,5 +1,5 @@
 //! The values of fields, and what they mean.
-ghost use Rattle.std.specs.Prelude.{◌≡◌, ◌+◌, ◌<◌, ◌≤◌, ◌++◌, ◌==◌, decimal, OnOk, Some};
+ghost use Rattle.std.specs.Prelude.{◌≡◌, ◌+◌, ◌<◌, ◌≤◌, ◌++◌, ◌==◌, decimal, IfOk, OnOk, Some};
 ghost use Rattle.std.specs.List.{list_all, position};
 ghost use Rattle.std.specs.String.{string_bytes};
 ghost use Rattle.vol_layout.specs.Geometry.{Fits};
@@ -121,11 +121,7 @@ fn push_pointer(
     requires { Fits geometry.now image.now }
     ensures { OnOk result (text.new.items ≡ text.old.items ++ with_meaning (decimal n) (pointer_meaning geometry.now roles.now image.now part n)) }
 {
-    if n == 0 || is_device(image, geometry, part) {
-        return push_decimal(alloc, text, n, "");
-    }
-    let role = role_at(roles, n as usize);
-    let meaning = format!(in alloc; "{role}")?;
+    let meaning = pointer_meaning(alloc, image, geometry, roles, part, n)?;
     push_decimal(alloc, text, n, meaning.as_str())
 }
 
@@ -150,8 +146,27 @@ fn push_with_meaning(text: &mut Vec<u8>, value: &[u8], meaning: &[u8]) -> Result
     Ok(())
 }
 
+/// Returns the meaning of a block number in a part: the role of the block. An address of a special file has none.
+pub fn pointer_meaning(
+    alloc: Global,
+    image: &Image,
+    geometry: &Geometry,
+    roles: &[Role],
+    part: Spot,
+    n: u32,
+) -> Result<String, AllocError>
+    requires { Fits geometry.now image.now }
+    ensures { IfOk result (λ text. string_bytes text ≡ pointer_meaning geometry.now roles.now image.now part n) }
+{
+    if n == 0 || is_device(image, geometry, part) {
+        return Ok(String::new(alloc));
+    }
+    let role = role_at(roles, n as usize);
+    format!(in alloc; "{role}")
+}
+
 /// Returns the meaning of an i-number: the kind of the i-node.
-fn inode_meaning(image: &Image, geometry: &Geometry, n: u32) -> &'static str
+pub fn inode_meaning(image: &Image, geometry: &Geometry, n: u32) -> &'static str
     requires { Fits geometry.now image.now }
     ensures { result.now ≡ inode_meaning geometry.now image.now n }
 {

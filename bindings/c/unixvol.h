@@ -129,8 +129,8 @@ enum unixvol_look_kind {
     UNIXVOL_LOOK_SVG = 10,  /* the same as a picture, in SVG */
     UNIXVOL_LOOK_SLOTS = 11, /* the slots of a directory, and the names that empty ones keep: ls --slots */
     UNIXVOL_LOOK_LIST = 12, /* the names in a directory, with attributes: ls -l */
-    UNIXVOL_LOOK_DUMP = 13, /* the bytes of the block `block`, field by field; text only */
-    UNIXVOL_LOOK_DUMP_NODE = 14 /* the bytes of an i-node, which is named as for UNIXVOL_LOOK_INODE; text only */
+    UNIXVOL_LOOK_DUMP = 13, /* the bytes of the block `block`, field by field */
+    UNIXVOL_LOOK_DUMP_NODE = 14 /* the bytes of an i-node, which is named as for UNIXVOL_LOOK_INODE */
 };
 
 /* A look. All that isn't said is 0 or false. */
@@ -142,12 +142,16 @@ typedef struct unixvol_view {
     bool lost;    /* true for i-nodes without an entry too, in UNIXVOL_LOOK_FIND and UNIXVOL_LOOK_SUMS */
 } unixvol_view;
 
-/* How unixvol_compare compares: diff, diff --times, diff --fields, diff --fields --all. */
+/* How unixvol_compare compares: diff, diff --times, diff --fields, diff --fields --all; and the same with --json. */
 enum unixvol_comparison {
     UNIXVOL_BY_TREE = 1,
     UNIXVOL_BY_ALL_TIMES = 2,
     UNIXVOL_BY_FIELDS = 3,
-    UNIXVOL_BY_ALL_FIELDS = 4
+    UNIXVOL_BY_ALL_FIELDS = 4,
+    UNIXVOL_BY_TREE_JSON = 5,
+    UNIXVOL_BY_ALL_TIMES_JSON = 6,
+    UNIXVOL_BY_FIELDS_JSON = 7,
+    UNIXVOL_BY_ALL_FIELDS_JSON = 8
 };
 
 /* What unixvol_rescue takes. */

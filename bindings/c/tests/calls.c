@@ -283,7 +283,7 @@ static void test_looks(void)
     looks("block --json", image, SIZE, block, "",
           "{\"block\":16,\"format\":1,\"uses\":[{\"ino\":95,\"level\":0,\"logical\":0,\"use\":\"i-node\"}]}\n", "", 0);
     unixvol_view check = {.kind = UNIXVOL_LOOK_CHECK};
-    char into[1024];
+    char into[4096];
     unixvol_seen seen;
     has("check", UNIXVOL_NO_ROOM, unixvol_look(7, image, SIZE, &check, "", 0, "", 0, into, 9, &seen));
     has("bytes of no lines", 0, (long)seen.lines);
@@ -302,7 +302,17 @@ static void test_looks(void)
     same("the last of them", "D /motd\n", into + seen.text - 8, 8);
     has("compare with itself", UNIXVOL_DONE, unixvol_compare(7, image, SIZE, image, SIZE, UNIXVOL_BY_FIELDS, NULL, 0, &seen));
     has("nothing", 0, (long)(seen.text + seen.lines + seen.status));
-    has("no such comparison", UNIXVOL_NO_LOOK, unixvol_compare(7, image, SIZE, image, SIZE, 5, NULL, 0, &seen));
+    const char gone[] = ",\"uid\":0},\"path\":\"/motd\"}]}\n";
+    has("compare as JSON", UNIXVOL_DONE, unixvol_compare(7, image, SIZE, after, SIZE, UNIXVOL_BY_TREE_JSON, into, sizeof into, &seen));
+    has("they differ", 1, seen.status);
+    same("the last of them", gone, into + seen.text - (sizeof gone - 1), sizeof gone - 1);
+    has("compare as JSON with itself", UNIXVOL_DONE,
+        unixvol_compare(7, image, SIZE, image, SIZE, UNIXVOL_BY_ALL_FIELDS_JSON, into, sizeof into, &seen));
+    same("nothing", "{\"format\":1,\"lines\":[]}\n", into, seen.text);
+    unixvol_view dump = {.kind = UNIXVOL_LOOK_DUMP_NODE, .inode = 95, .json = true};
+    has("dump as JSON", UNIXVOL_DONE, unixvol_look(7, image, SIZE, &dump, "", 0, "", 0, into, sizeof into, &seen));
+    same("its beginning", "{\"block\":", into, 9);
+    has("no such comparison", UNIXVOL_NO_LOOK, unixvol_compare(7, image, SIZE, image, SIZE, 9, NULL, 0, &seen));
 }
 
 static void test_damage(void)

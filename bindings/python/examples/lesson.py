@@ -7,6 +7,7 @@ cell by cell in an editor that knows `# %%`, or in a notebook (`jupytext --to no
 
 # %% A new volume: 400 blocks, ten of them the i-list
 from datetime import datetime, timezone
+from textwrap import indent
 
 import unixvol
 
@@ -65,8 +66,7 @@ print_inode("/tale")
 before = look()
 tale.unlink()
 print("What the last removal changes, field by field:")
-for line in before.diff(look(), "fields"):
-    print(f"    {line}")
+print(indent(str(before.diff(look(), "fields")), "    "), end="")
 print("The slots of the root keep the names:", [(slot.ino, slot.name) for slot in look().slots("/")])
 
 # %% What is refused changes nothing

@@ -39,9 +39,20 @@ LOOKS: list[tuple[str, str, View, str, str]] = [
     ("dump", "1", View(kind=Look.DUMP, block=1), "", ""),
     ("dump -i", "/", View(kind=Look.DUMP_NODE), "/", ""),
     ("dump -i", "2", View(kind=Look.DUMP_NODE, inode=2), "", ""),
+    ("dump --json", "1", View(kind=Look.DUMP, block=1, json=True), "", ""),
+    ("dump --json -i", "/", View(kind=Look.DUMP_NODE, json=True), "/", ""),
 ]
 
-COMPARISONS = {"diff": By.TREE, "diff --times": By.ALL_TIMES, "diff --fields": By.FIELDS, "diff --fields --all": By.ALL_FIELDS}
+COMPARISONS = {
+    "diff": By.TREE,
+    "diff --times": By.ALL_TIMES,
+    "diff --fields": By.FIELDS,
+    "diff --fields --all": By.ALL_FIELDS,
+    "diff --json": By.TREE_JSON,
+    "diff --times --json": By.ALL_TIMES_JSON,
+    "diff --fields --json": By.FIELDS_JSON,
+    "diff --fields --all --json": By.ALL_FIELDS_JSON,
+}
 
 RESCUES = {
     "export --status --cut": RescueView(),

@@ -112,18 +112,58 @@ class Looks(unittest.TestCase):
         self.assertEqual(unixvol.look(bytes(self.image), 6).check().other_edition, 7)
 
     def test_dump(self):
-        self.assertIn("isize             14\n", self.image.dump(1))
-        self.assertEqual(self.image.dump_inode(95), self.image.dump_inode("/etc/motd"))
+        found = self.image.dump(1)
+        self.assertEqual((found.block, found.role, bytes(found)), (1, unixvol.Use("system"), bytes(self.image)[512:1024]))
+        self.assertEqual(found.rows[0], unixvol.Row(1, "isize", "0e00", 0, None, None, 0, 14))
+        self.assertIn("isize             14\n", str(found))
+        found = self.image.dump_inode(95)
+        self.assertEqual(found, self.image.dump_inode(Path("/etc/motd")))
+        self.assertEqual((found.rows[0].ino, found.rows[0].value, found.rows[0].meaning), (95, "0100644", "-rw-r--r--"))
+        role = unixvol.Use("directory", ino=2, level=0, logical=0)
+        found = self.image.dump(self.image.inode("/").addr[0])
+        self.assertEqual((found.role, [row.value for row in found if row.field == "name"]), (role, [".", "..", "etc"]))
+        with self.assertRaises(unixvol.NoEntry):
+            self.image.dump_inode("/none")
 
     def test_diff(self):
         with made() as volume:
             (volume / "etc/motd").chmod(0o600)
             after = unixvol.look(bytes(volume), 7)
         found = self.image.diff(after)
-        self.assertEqual((found.entries, found.lines, found.status), (("M /etc/motd mode 0644 -> 0600",), (), 1))
+        self.assertEqual((len(found), found.lines, found.status, str(found)), (1, (), 1, "M /etc/motd mode 0644 -> 0600\n"))
+        self.assertEqual((found[0].line, found[0].path, found[0].first_byte), ("changed", "/etc/motd", None))
+        self.assertEqual((found[0].old.permissions, found[0].new.permissions, found[0].new.ctime), ("0644", "0600", None))
+        self.assertEqual(self.image.diff(after, "times")[0].new.ctime, after.inode(95).ctime)
         found = self.image.diff(bytes(after), "fields")
-        self.assertEqual(found.entries, ("i-node 95 mode 0100644 -> 0100600",))
+        place = 1024 + 64 * 94
+        wanted = unixvol.FieldDifference(
+            "field",
+            block=place // 512,
+            field="mode",
+            index=0,
+            ino=95,
+            offset=place % 512,
+            role=unixvol.Use("system"),
+            old="0100644",
+            new="0100600",
+        )
+        self.assertEqual((found.entries, str(found)), ((wanted,), "i-node 95 mode 0100644 -> 0100600\n"))
         self.assertEqual(self.image.diff(self.image, "all fields").status, 0)
+
+    def test_kinds_of_differences(self):
+        with made() as volume:
+            (volume / "etc/motd").unlink()
+            (volume / "a\\b").write_bytes(b"x" * 512)
+            after = unixvol.look(bytes(volume), 7)
+        found = self.image.diff(after)
+        self.assertEqual([(it.line, it.path) for it in found], [("added", "/a\\b"), ("gone", "/etc/motd")])
+        self.assertEqual((found[0].old, found[0].new.size, found[1].new, found[1].old.size), (None, 512, None, 8))
+        found = self.image.diff(after, "fields")
+        self.assertEqual({it.line for it in found} - {"role", "field", "fields", "bytes", "length"}, set())
+        self.assertIn(("name", "a\\b"), [(it.field, it.new) for it in found])
+        self.assertEqual(len(found), len(str(found).splitlines()))
+        longer = self.image.diff(bytes(self.image) + bytes(512), "fields")
+        self.assertEqual([(it.line, it.old, it.new) for it in longer], [("length", 204800, 205312)])
 
     def test_what_is_not_shown(self):
         with self.assertRaises(unixvol.NoEntry) as caught:

@@ -114,6 +114,10 @@ class By(IntEnum):
     ALL_TIMES = 2
     FIELDS = 3
     ALL_FIELDS = 4
+    TREE_JSON = 5
+    ALL_TIMES_JSON = 6
+    FIELDS_JSON = 7
+    ALL_FIELDS_JSON = 8
 
 
 _handle = POINTER(Handle)

@@ -9,18 +9,23 @@ import os
 import tarfile
 from collections.abc import Callable
 from dataclasses import dataclass
-from typing import Any, Literal, NamedTuple
+from typing import Any, Literal, NamedTuple, overload
 
 from ._faults import check, check_lines
 from ._library import By, Look, Moment, Repaired, RescueView, Seen, View, function, room, seconds, word
 from ._values import (
     BlockMap,
+    Differences,
+    Dump,
+    FieldDifference,
     Findings,
     FoundPath,
     FreeChain,
     Inode,
     Listing,
     Member,
+    PathDifference,
+    Row,
     Run,
     Slot,
     Space,
@@ -41,9 +46,16 @@ LINE_ROOM = 1 << 10
 # An i-number, or a path.
 Node = int | str | os.PathLike[str]
 
-Difference = Literal["tree", "times", "fields", "all fields"]
+ByTree = Literal["tree", "times"]
+ByFields = Literal["fields", "all fields"]
 
-_WAYS = {"tree": By.TREE, "times": By.ALL_TIMES, "fields": By.FIELDS, "all fields": By.ALL_FIELDS}
+# How images are compared: the numbers for text and for JSON, and what an entry is.
+_WAYS: dict[str, tuple[By, By, type[Any]]] = {
+    "tree": (By.TREE, By.TREE_JSON, PathDifference),
+    "times": (By.ALL_TIMES, By.ALL_TIMES_JSON, PathDifference),
+    "fields": (By.FIELDS, By.FIELDS_JSON, FieldDifference),
+    "all fields": (By.ALL_FIELDS, By.ALL_FIELDS_JSON, FieldDifference),
+}
 
 
 class Shown(NamedTuple):
@@ -124,27 +136,41 @@ class Image:
         """What is found of each of the twelve rules."""
         return value(Findings, self._json(Look.CHECK))
 
-    def dump(self, block: int) -> str:
-        """The bytes of a block, a line for each field: its offset, bytes, name, value and meaning."""
-        return self._shown(View(kind=Look.DUMP, block=word(block, 32, "block"))).text.decode()
+    def dump(self, block: int) -> Dump:
+        """The bytes of a block, field by field."""
+        return self._dump(Look.DUMP, block=word(block, 32, "block"))
 
-    def dump_inode(self, node: Node) -> str:
+    def dump_inode(self, node: Node) -> Dump:
         """The bytes of an i-node, as those of a block; by its number or a path."""
-        named = _node(node)
-        path = named.pop("path", "")
-        return self._shown(View(kind=Look.DUMP_NODE, **named), path).text.decode()
+        return self._dump(Look.DUMP_NODE, **_node(node))
 
-    def diff(self, other: Image | bytes, by: Difference = "tree") -> Listing[str]:
-        """The lines in which another image differs from this one: by their trees, also all `times`, by their `fields`, or by
-        `all fields` without folding those of an array into a line. No lines and status 0 if they don't differ, else 1."""
-        new = bytes(other)
+    @overload
+    def diff(self, other: Image | bytes, by: ByTree = "tree") -> Differences[PathDifference]: ...
+
+    @overload
+    def diff(self, other: Image | bytes, by: ByFields) -> Differences[FieldDifference]: ...
+
+    def diff(self, other: Image | bytes, by: ByTree | ByFields = "tree") -> Differences[Any]:
+        """What differs in another image from this one: by their trees, also all `times`, by their `fields`, or by `all fields`
+        without folding those of an array into an entry. No entries and status 0 if they don't differ, else 1."""
+        new, (as_text, as_json, kind) = bytes(other), _WAYS[by]
+        shown = self._compared(new, as_json)
+        entries = values(kind, json.loads(shown.text)["lines"])
+        lines = tuple(shown.lines.splitlines())
+        return Differences(entries, lines, shown.status, lambda: os.fsdecode(self._compared(new, as_text).text))
+
+    def _compared(self, new: bytes, by: By) -> Shown:
+        data = self.data
 
         def call(into: Any, count: int, seen: Seen) -> int:
-            data = self.data
-            return function("compare")(_edition(self.edition), data, len(data), new, len(new), _WAYS[by], into, count, seen)
+            return function("compare")(_edition(self.edition), data, len(data), new, len(new), by, into, count, seen)
 
-        shown = _told(call)
-        return shown.listing(tuple(os.fsdecode(shown.text).splitlines()))
+        return _told(call)
+
+    def _dump(self, kind: Look, path: str = "", **named: Any) -> Dump:
+        found = self._json(kind, path, **named)
+        printed = lambda: os.fsdecode(self._shown(View(kind=kind, **named), path).text)
+        return Dump(found["block"], value(Use, found["role"]), values(Row, found["rows"]), printed)
 
     def _svg(self, path: str) -> str:
         return self._shown(View(kind=Look.SVG), path).text.decode()

@@ -121,6 +121,48 @@ class Use:
 
 
 @dataclass(frozen=True)
+class Row:
+    """A row of a dump: `count` fields of one name, from that with this `index` on, with their bytes as digits, the first one's
+    value, and what that means. A mode is text in octal; bytes without a value have None."""
+
+    count: int
+    field: str
+    hex: str
+    index: int
+    ino: int | None
+    meaning: str | None
+    offset: int
+    value: int | str | None
+
+    def __bytes__(self) -> bytes:
+        """All bytes of the row."""
+        return bytes.fromhex(self.hex)
+
+
+@dataclass(frozen=True)
+class Dump:
+    """The bytes of a block or an i-node, field by field. As text it is the lines that `dump` prints."""
+
+    block: int
+    role: Use
+    rows: tuple[Row, ...]
+    _print: Callable[[], str] = field(repr=False, compare=False)
+
+    def __iter__(self) -> Iterator[Row]:
+        return iter(self.rows)
+
+    def __len__(self) -> int:
+        return len(self.rows)
+
+    def __bytes__(self) -> bytes:
+        """The bytes that are dumped."""
+        return b"".join(map(bytes, self.rows))
+
+    def __str__(self) -> str:
+        return self._print()
+
+
+@dataclass(frozen=True)
 class FoundPath:
     """A path below a directory, and its i-number."""
 
@@ -251,10 +293,82 @@ class Listing(Generic[T]):
         return self.entries[index]
 
 
+@dataclass(frozen=True)
+class Differences(Listing[T]):
+    """What differs between two images. As text it is the lines that `diff` prints, one for each entry."""
+
+    _print: Callable[[], str] = field(repr=False, compare=False)
+
+    def __str__(self) -> str:
+        return self._print()
+
+
+@dataclass(frozen=True)
+class Content:
+    """What a path leads to in one of two trees: what is compared of a node, but its bytes, with the path of the file's first
+    name if this is a further one; or the `reason` why it leads to nothing. Times that aren't compared are None."""
+
+    reason: str | None = None
+    kind: str | None = None
+    permissions: str | None = None
+    links: int | None = None
+    uid: int | None = None
+    gid: int | None = None
+    size: int | None = None
+    major: int | None = None
+    minor: int | None = None
+    atime: int | None = None
+    mtime: int | None = None
+    ctime: int | None = None
+    link: str | None = None
+
+
+@dataclass(frozen=True)
+class PathDifference:
+    """A path that leads to different things in two trees. `line` is "gone" or "added" if it is in one of them alone, "changed",
+    "turned" into something else, or "unseen" if what it leads to isn't known. `first_byte` is the first that differs."""
+
+    line: str
+    path: str
+    old: Content | None = None
+    new: Content | None = None
+    first_byte: int | None = None
+
+
+@dataclass(frozen=True)
+class FieldDifference:
+    """What differs between the fields of two images: their "length", the "role" of blocks, a "field", several "fields" of an
+    array, or "bytes" without a value. `line` says which, and which other fields aren't None."""
+
+    line: str
+    block: int | None = None
+    count: int | None = None
+    field: str | None = None
+    index: int | None = None
+    last_index: int | None = None
+    ino: int | None = None
+    offset: int | None = None
+    first_byte: int | None = None
+    last_byte: int | None = None
+    role: Use | None = None
+    old: int | str | Use | None = None
+    new: int | str | Use | None = None
+    was: str | None = None
+
+
 def unescaped(text: str) -> str:
     """Returns a path or name without the escapes of JSON's text: a backslash and three octal digits, or two backslashes."""
     raw = re.sub(rb"\\(\\|[0-7]{3})", lambda it: b"\\" if it[1] == b"\\" else bytes([int(it[1], 8)]), text.encode())
     return os.fsdecode(raw)
+
+
+def _plain(data: Any) -> Any:
+    return unescaped(data) if isinstance(data, str) else data
+
+
+def _side(data: Any) -> Any:
+    """One side of a difference: a role, what a path leads to, or the value of a field."""
+    return value(Use if "use" in data else Content, data) if isinstance(data, dict) else _plain(data)
 
 
 # How the value of a key is made, if it isn't taken as it is.
@@ -266,9 +380,16 @@ _MAKERS: dict[str, Callable[[Any], Any]] = {
     "extents": lambda data: values(Extent, data),
     "free": tuple,
     "free_fault": lambda data: value(FreeFault, data),
+    "link": unescaped,
+    "meaning": unescaped,
     "name": unescaped,
+    "new": _side,
+    "old": _side,
     "path": unescaped,
+    "reason": unescaped,
+    "role": lambda data: value(Use, data),
     "rules": lambda data: values(Rule, data),
+    "value": _plain,
 }
 
 

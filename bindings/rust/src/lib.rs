@@ -113,6 +113,10 @@ pub enum By {
     AllTimes = 2,
     Fields = 3,
     AllFields = 4,
+    TreeJson = 5,
+    AllTimesJson = 6,
+    FieldsJson = 7,
+    AllFieldsJson = 8,
 }
 
 /// What a command printed: its text, its lines on standard error, and its status.

@@ -13,6 +13,7 @@ use Rattle.command_reads.specs.declared.bad_looks.BadBlocks.TheVariants as bads
 use Rattle.command_terms.specs.declared.bad_looks.BadLook.{BadLook}
 use Rattle.command_terms.specs.declared.bad_looks.BadLook.TheVariants as bad_looks
 use Rattle.command_reads.specs.declared.bad_looks.BadMap.{BadMap}
+use Rattle.command_terms.specs.declared.looks.DumpForm.{DumpForm}
 use Rattle.command_terms.specs.declared.looks.DumpForm.TheVariants as dumps
 use Rattle.command_terms.specs.declared.looks.DumpTarget.{DumpTarget}
 use Rattle.command_terms.specs.declared.looks.DumpTarget.TheVariants as targets
@@ -38,6 +39,10 @@ use Rattle.unixvol_c.specs.declared.TheConstants as numbers
 -- the form of a text (this project)
 abbrev pub form_of : Bool → OutputForm
 form_of json = if json then forms.Json else forms.Text
+
+-- the form of a dump (this project)
+abbrev pub dump_form_of : Bool → DumpForm
+dump_form_of json = if json then dumps.Json else dumps.Text Hex
 
 -- the node is that at the path; that with the i-number if the path is empty (this project)
 abbrev pub IsNodeAt : ℕ → List ℕ → NodeName → Type 0
@@ -85,7 +90,7 @@ IsAsked view path pattern looks.Uses = (view.kind ≡ numbers.LOOK_MAP) × (view
 IsAsked view path pattern (looks.Map pictures.Svg file) = (view.kind ≡ numbers.LOOK_SVG) × IsGiven path (option_map (λ word. word.now) file)
 IsAsked view path pattern (looks.Slots word form) = (view.kind ≡ numbers.LOOK_SLOTS) × (word.now ≡ path) × (form ≡ form_of view.json)
 IsAsked view path pattern (looks.List word listing) = (view.kind ≡ numbers.LOOK_LIST) × (word.now ≡ path) × (listing ≡ listing_of view.json)
-IsAsked view path pattern (looks.Dump target form) = IsDumpAt view path target × (form ≡ dumps.Text Hex)
+IsAsked view path pattern (looks.Dump target form) = IsDumpAt view path target × (form ≡ dump_form_of view.json)
 
 -- no look is asked for: the number is none of a look, or a map of one file is asked for as JSON, or the path or the pattern isn't UTF-8 (this project)
 abbrev pub IsNoLook : View → List ℕ → List ℕ → Type 0
@@ -96,14 +101,16 @@ IsNoLook view path pattern = (view.kind ≡ 0) ⊎ (numbers.LOOK_DUMP_NODE < vie
 abbrev pub LooksAt : Edition → List ℕ → View → List ℕ → List ℕ → Streams → ℕ → Type 0
 LooksAt edition image view path pattern streams status = (look : Look) × IsAsked view path pattern look × Looks edition image Stream streams status look
 
--- the comparison with a number, in lines (this project)
+-- the comparison with a number, in lines or as JSON (this project)
 abbrev pub IsComparison : ℕ → Comparison → Type 0
-IsComparison by (comparisons.Tree times form) = (by ≡ (if times then numbers.BY_ALL_TIMES else numbers.BY_TREE)) × (form ≡ forms.Text)
-IsComparison by (comparisons.Fields all form) = (by ≡ (if all then numbers.BY_ALL_FIELDS else numbers.BY_FIELDS)) × (form ≡ forms.Text)
+IsComparison by (comparisons.Tree times forms.Text) = by ≡ (if times then numbers.BY_ALL_TIMES else numbers.BY_TREE)
+IsComparison by (comparisons.Tree times forms.Json) = by ≡ (if times then numbers.BY_ALL_TIMES_JSON else numbers.BY_TREE_JSON)
+IsComparison by (comparisons.Fields all forms.Text) = by ≡ (if all then numbers.BY_ALL_FIELDS else numbers.BY_FIELDS)
+IsComparison by (comparisons.Fields all forms.Json) = by ≡ (if all then numbers.BY_ALL_FIELDS_JSON else numbers.BY_FIELDS_JSON)
 
 -- no comparison has this number (this project)
 abbrev pub IsNoComparison : ℕ → Type 0
-IsNoComparison by = (by ≡ 0) ⊎ (numbers.BY_ALL_FIELDS < by)
+IsNoComparison by = (by ≡ 0) ⊎ (numbers.BY_ALL_FIELDS_JSON < by)
 
 -- an image, under this name (this project)
 abbrev pub IsNamed : List ℕ → List ℕ → NamedImage → Type 0

@@ -124,3 +124,15 @@ pub const BY_FIELDS: u8 = 3;
 
 /// By the fields of the images, each in a line.
 pub const BY_ALL_FIELDS: u8 = 4;
+
+/// By the trees of the images, in JSON.
+pub const BY_TREE_JSON: u8 = 5;
+
+/// By the trees of the images, with all times, in JSON.
+pub const BY_ALL_TIMES_JSON: u8 = 6;
+
+/// By the fields of the images, in JSON.
+pub const BY_FIELDS_JSON: u8 = 7;
+
+/// By the fields of the images, each by itself, in JSON.
+pub const BY_ALL_FIELDS_JSON: u8 = 8;

@@ -1,25 +1,22 @@
 //! What commands show of an image, which may be any bytes: the same text, the same lines, the same status.
 ghost use Rattle.std.specs.Prelude.{◌≡◌, ◌≢◌, ◌↔◌, ◌⊎◌, IfOk, IfSome, IsNone, option_map};
 ghost use Rattle.std.specs.Str.{IsUtf8};
-ghost use Rattle.vol_fields.specs.declared.lines.Radix.TheVariants.{Hex};
 ghost use Rattle.vol_listing.specs.declared.options.Screen.TheVariants.{Stream};
 ghost use Rattle.command_reads.specs.Look.{Looks};
 ghost use Rattle.command_terms.specs.declared.comparison.Comparison.TheVariants as comparisons;
-ghost use Rattle.command_terms.specs.declared.looks.DumpForm.TheVariants as dumps;
-ghost use Rattle.command_terms.specs.declared.looks.Look.TheVariants as looks;
-ghost use Rattle.command_terms.specs.declared.looks.OutputForm.TheVariants as forms;
 ghost use Rattle.unixvol_c.specs.Calls.{edition_of, IsNoEdition};
 ghost use Rattle.unixvol_c.specs.Kept.{HandsOut, IsKept};
 ghost use Rattle.unixvol_c.specs.Looks.{Compares, ComparesAs, IsAsked, IsComparison, IsDumpAt, IsGiven, IsNodeAt, LooksAt, RescuesAs};
-ghost use Rattle.unixvol_c.specs.Looks.{IsNoComparison, IsNoLook, IsPictured, form_of, listing_of};
+ghost use Rattle.unixvol_c.specs.Looks.{IsNoComparison, IsNoLook, IsPictured, dump_form_of, form_of, listing_of};
 
 use crate::kept::{Kept, hand_out, keep};
 use crate::open::edition_of;
 use crate::structs::{RescueView, Seen, View};
 use crate::{
-    BY_ALL_FIELDS, BY_ALL_TIMES, BY_FIELDS, BY_TREE, LOOK_BLOCK, LOOK_CHECK, LOOK_DF, LOOK_DUMP,
-    LOOK_DUMP_NODE, LOOK_FIND, LOOK_FREE, LOOK_INODE, LOOK_LIST, LOOK_MAP, LOOK_SLOTS, LOOK_SUMS,
-    LOOK_SUPER, LOOK_SVG, NO_EDITION, NO_LOOK, NO_MEMORY,
+    BY_ALL_FIELDS, BY_ALL_FIELDS_JSON, BY_ALL_TIMES, BY_ALL_TIMES_JSON, BY_FIELDS, BY_FIELDS_JSON,
+    BY_TREE, BY_TREE_JSON, LOOK_BLOCK, LOOK_CHECK, LOOK_DF, LOOK_DUMP, LOOK_DUMP_NODE, LOOK_FIND,
+    LOOK_FREE, LOOK_INODE, LOOK_LIST, LOOK_MAP, LOOK_SLOTS, LOOK_SUMS, LOOK_SUPER, LOOK_SVG,
+    NO_EDITION, NO_LOOK, NO_MEMORY,
 };
 use command_faults::answer::tell;
 use command_reads::bad_looks::look_bad;
@@ -267,8 +264,14 @@ fn asked_look<'a>(view: &View, path: &'a [u8], pattern: &'a [u8]) -> Option<Look
             path,
             listing: listing_of(view.json),
         }),
-        LOOK_DUMP => Some(dump_of(DumpTarget::Block(view.block))),
-        LOOK_DUMP_NODE => Some(dump_of(node_target(view, path))),
+        LOOK_DUMP => Some(Look::Dump {
+            target: DumpTarget::Block(view.block),
+            form: dump_form_of(view.json),
+        }),
+        LOOK_DUMP_NODE => Some(Look::Dump {
+            target: node_target(view, path),
+            form: dump_form_of(view.json),
+        }),
         _ => None,
     }
 }
@@ -307,13 +310,14 @@ fn node_target<'a>(view: &View, path: &'a str) -> DumpTarget<'a>
     }
 }
 
-/// Returns the dump of a block or an i-node.
-fn dump_of(target: DumpTarget<'_>) -> Look<'_>
-    ensures { result ≡ looks.Dump target.entry (dumps.Text Hex) }
+/// Returns the form of a dump.
+fn dump_form_of(json: bool) -> DumpForm
+    ensures { result ≡ dump_form_of json }
 {
-    Look::Dump {
-        target,
-        form: DumpForm::Text(Radix::Hex),
+    if json {
+        DumpForm::Json
+    } else {
+        DumpForm::Text(Radix::Hex)
     }
 }
 
@@ -350,30 +354,28 @@ fn comparison_of(number: u8) -> Option<Comparison>
     ensures none { IsNone result → IsNoComparison number }
 {
     match number {
-        BY_TREE => Some(by_tree(false)),
-        BY_ALL_TIMES => Some(by_tree(true)),
-        BY_FIELDS => Some(by_fields(false)),
-        BY_ALL_FIELDS => Some(by_fields(true)),
+        BY_TREE => Some(by_tree(false, OutputForm::Text)),
+        BY_ALL_TIMES => Some(by_tree(true, OutputForm::Text)),
+        BY_FIELDS => Some(by_fields(false, OutputForm::Text)),
+        BY_ALL_FIELDS => Some(by_fields(true, OutputForm::Text)),
+        BY_TREE_JSON => Some(by_tree(false, OutputForm::Json)),
+        BY_ALL_TIMES_JSON => Some(by_tree(true, OutputForm::Json)),
+        BY_FIELDS_JSON => Some(by_fields(false, OutputForm::Json)),
+        BY_ALL_FIELDS_JSON => Some(by_fields(true, OutputForm::Json)),
         _ => None,
     }
 }
 
-/// Returns the comparison by trees, in lines.
-fn by_tree(times: bool) -> Comparison
-    ensures { result ≡ comparisons.Tree times forms.Text }
+/// Returns the comparison by trees.
+fn by_tree(times: bool, form: OutputForm) -> Comparison
+    ensures { result ≡ comparisons.Tree times form }
 {
-    Comparison::Tree {
-        times,
-        form: OutputForm::Text,
-    }
+    Comparison::Tree { times, form }
 }
 
-/// Returns the comparison by fields, in lines.
-fn by_fields(all: bool) -> Comparison
-    ensures { result ≡ comparisons.Fields all forms.Text }
+/// Returns the comparison by fields.
+fn by_fields(all: bool, form: OutputForm) -> Comparison
+    ensures { result ≡ comparisons.Fields all form }
 {
-    Comparison::Fields {
-        all,
-        form: OutputForm::Text,
-    }
+    Comparison::Fields { all, form }
 }

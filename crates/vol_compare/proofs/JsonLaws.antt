@@ -8,7 +8,8 @@ use Rattle.vol_dir.specs.Walk.{is_nil}
 use Rattle.vol_layout.specs.declared.edition.Edition.{Edition}
 use Rattle.vol_listing.proofs.ListingValues.{whole_append}
 use Rattle.vol_archive.specs.declared.met_entries.Reason.{Reason}
-use Rattle.vol_compare.specs.Json.{first_changed, first_data, is_change_stored, left_data, link_data, major_data, minor_data, node_data, pairing_data, side_data, size_data, time_data, told_data}
+use Rattle.vol_compare.specs.Json.{first_data, is_change_stored, left_data, link_data, major_data, minor_data, node_data, pairing_data, side_data, size_data, time_data, told_data}
+use Rattle.vol_compare.specs.Lines.{first_changed}
 use Rattle.vol_compare.specs.Members.{Content, LeftOut, Node}
 use Rattle.vol_compare.specs.Merge.{Added, Both, Gone, Pairing, line_of}
 use Rattle.vol_compare.specs.declared.members.Facts.{Facts}

@@ -8,7 +8,7 @@ use Rattle.std.proofs.lemmas.Slice.Eq.{bytes_eq-Decides}
 use Rattle.vol_archive.specs.declared.met_entries.Reason.{Reason}
 use Rattle.vol_archive.specs.declared.met_entries.Reason.TheVariants as reasons
 use Rattle.vol_compare.specs.Bodies.{first_difference}
-use Rattle.vol_compare.specs.Lines.{bytes_change, change, changed_line, fact_changes, is_one_kind, is_one_name, is_one_reason, kind_change, kind_text, left_text, mode_change, node_changes, nodes_line, number_change, owner_changes, pair_line, reasons_line, renamed_line, time_change, time_changes, turned_line, unseen_line}
+use Rattle.vol_compare.specs.Lines.{bytes_change, change, changed_line, fact_changes, is_one_kind, is_one_name, is_one_reason, kind_change, kind_text, left_text, mode_change, node_changes, nodes_changed, nodes_line, number_change, owner_changes, pair_line, reasons_line, renamed_line, time_change, time_changes, turned_line, unseen_line}
 use Rattle.vol_compare.specs.Members.{Content, Node, LeftOut, is_seen, is_unseen}
 use Rattle.vol_compare.specs.declared.members.Facts.{Facts}
 use Rattle.vol_compare.specs.declared.members.NodeKind.{NodeKind}
@@ -56,10 +56,10 @@ unfolding turned_line
 some_turn path old new e = some_text 84 _ e
 
 -- a line of a path with another name isn't empty
-some_rename : (path : List ℕ) (f : Facts) (xs : List ℕ) (a : Option (List ℕ)) (h : Facts) (ys : List ℕ) (b : Option (List ℕ))
-    → renamed_line path f xs a h ys b ≡ [] → ⊥
+some_rename : (path : List ℕ) (f : Facts) (a : Option (List ℕ)) (h : Facts) (b : Option (List ℕ)) (first : Option ℕ)
+    → renamed_line path f a h b first ≡ [] → ⊥
 unfolding renamed_line
-some_rename path f xs a h ys b e = some_text _ _ e
+some_rename path f a h b first e = some_text _ _ e
 
 -- a line of changes is empty only without any
 no_changes : (path changes : List ℕ) → changed_line path changes ≡ [] → changes ≡ []
@@ -216,18 +216,22 @@ bytes_none None e = refl
 bytes_none (Some n) e = absurd (some_text 44 _ e)
 
 -- nothing is told of a node that is the same
-nodes_same : (path : List ℕ) (f : Facts) (xs : List ℕ) → nodes_line path f xs f xs ≡ []
+nodes_same : (path : List ℕ) (f : Facts) (xs : List ℕ) → nodes_line path f f (nodes_changed f.kind xs f.kind xs) ≡ []
 nodes_same path f xs =
-    ap (λ t. if t then changed_line path (fact_changes f f ++ bytes_change (first_difference xs xs)) else turned_line path (kind_text f.kind) (kind_text f.kind)) (one_kind f.kind)
-    ∙ ap (changed_line path) (both_empty (fact_changes f f) (bytes_change (first_difference xs xs)) (facts_same f) (ap bytes_change (none_same xs)))
+    let first = nodes_changed f.kind xs f.kind xs in
+    ap (λ t. if t then changed_line path (node_changes f f first) else turned_line path (kind_text f.kind) (kind_text f.kind)) (one_kind f.kind)
+    ∙ ap (changed_line path) (both_empty (fact_changes f f) (bytes_change first) (facts_same f)
+    (ap bytes_change (ap (λ t. if t then first_difference xs xs else None) (one_kind f.kind) ∙ none_same xs)))
 
 -- nodes of which nothing is told are the same
 nodes_told : (path : List ℕ) (f : Facts) (xs : List ℕ) (h : Facts) (ys : List ℕ) (t : Bool) (turned : List ℕ) → (turned ≡ [] → ⊥) → is_one_kind f.kind h.kind ≡ t
-    → (if t then changed_line path (node_changes f xs h ys) else turned) ≡ [] → (f ≡ h) × (xs ≡ ys)
+    → (if t then changed_line path (node_changes f h (nodes_changed f.kind xs h.kind ys)) else turned) ≡ [] → (f ≡ h) × (xs ≡ ys)
 nodes_told path f xs h ys false turned some one e = absurd (some e)
 nodes_told path f xs h ys true turned some one e =
-    let none = no_changes path (node_changes f xs h ys) e in
-    (told_facts f h one (first_empty (fact_changes f h) _ none), none_equal xs ys (bytes_none _ (rest_empty (fact_changes f h) _ none)))
+    let none = no_changes path (node_changes f h (nodes_changed f.kind xs h.kind ys)) e in (
+      told_facts f h one (first_empty (fact_changes f h) _ none),
+      none_equal xs ys (sym (ap (λ t. if t then first_difference xs ys else None) one) ∙ bytes_none _ (rest_empty (fact_changes f h) _ none)),
+    )
 
 -- a text equals itself
 same_bytes : (a : List ℕ) → bytes_eq a a ≡ true
@@ -251,8 +255,9 @@ names_equal (Some a) (Some b) is = ap Some (equal_bytes a b is)
 
 -- names of nodes of which nothing is told lead to the same
 named_told : (path : List ℕ) (f : Facts) (xs : List ℕ) (a : Option (List ℕ)) (h : Facts) (ys : List ℕ) (b : Option (List ℕ)) (t : Bool) → is_one_name a b ≡ t
-    → (if t then nodes_line path f xs h ys else renamed_line path f xs a h ys b) ≡ [] → Node f xs a ≡ Node h ys b
-named_told path f xs a h ys b false one e = absurd (some_rename path f xs a h ys b e)
+    → (if t then nodes_line path f h (nodes_changed f.kind xs h.kind ys) else renamed_line path f a h b (nodes_changed f.kind xs h.kind ys)) ≡ []
+    → Node f xs a ≡ Node h ys b
+named_told path f xs a h ys b false one e = absurd (some_rename path f a h b _ e)
 named_told path f xs a h ys b true one e =
     let same = nodes_told path f xs h ys (is_one_kind f.kind h.kind) _ (some_turn path _ _) refl e in
     ap (λ x. Node x xs a) same.0 ∙ (ap (λ zs. Node h zs a) same.1 ∙ ap (Node h ys) (names_equal a b one))
@@ -271,7 +276,8 @@ opposite false e = refl
 -- nothing is told of a path that leads to the same, if it is known what it leads to
 pub pair_same : (path : List ℕ) (content : Content) → is_seen content ≡ true → pair_line path content content ≡ []
 pair_same path (Node f xs a) seen =
-    ap (λ t. if t then nodes_line path f xs f xs else renamed_line path f xs a f xs a) (one_name a) ∙ nodes_same path f xs
+    let first = nodes_changed f.kind xs f.kind xs in
+    ap (λ t. if t then nodes_line path f f first else renamed_line path f a f a first) (one_name a) ∙ nodes_same path f xs
 pair_same path (LeftOut r) seen = reasons_same path r (opposite (is_unseen r) seen)
 
 -- a choice between a text that isn't empty, nothing, and another text that isn't

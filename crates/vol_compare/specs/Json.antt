@@ -10,8 +10,7 @@ use Rattle.vol_archive.specs.declared.met_entries.MetEntry.{MetEntry}
 use Rattle.vol_archive.specs.declared.met_entries.Reason.{Reason}
 use Rattle.vol_dir.specs.Walk.{is_nil}
 use Rattle.vol_listing.specs.Json.{count, octal}
-use Rattle.vol_compare.specs.Bodies.{first_difference}
-use Rattle.vol_compare.specs.Lines.{is_one_kind, is_one_reason, left_text}
+use Rattle.vol_compare.specs.Lines.{first_changed, is_one_kind, is_one_reason, left_text}
 use Rattle.vol_compare.specs.Members.{AreMet, Content, LeftOut, Node, members}
 use Rattle.vol_compare.specs.Merge.{Added, Both, Gone, Pairing, all_of, line_of, merged}
 use Rattle.vol_compare.specs.declared.members.Facts.{Facts}
@@ -89,15 +88,6 @@ left_data reason = object (member (codes "reason") (string (escaped (left_text r
 abbrev pub side_data : Bool → Edition → Content → Data
 side_data times edition (Node facts bytes first) = node_data times edition facts first
 side_data times edition (LeftOut reason) = left_data reason
-
--- the first byte that differs between nodes of these kinds, if they are of one kind and one does (cmp)
-abbrev pub nodes_changed : NodeKind → List ℕ → NodeKind → List ℕ → Option ℕ
-nodes_changed old xs new ys = if is_one_kind old new then first_difference xs ys else None
-
--- the first byte that differs, if a path leads to nodes of one kind and one does (cmp)
-abbrev pub first_changed : Content → Content → Option ℕ
-first_changed (Node f xs a) (Node h ys b) = nodes_changed f.kind xs h.kind ys
-first_changed old new = None
 
 -- a number; null if there is none (RFC 8259)
 unfoldable pub first_data : Option ℕ → Data

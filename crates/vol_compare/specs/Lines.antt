@@ -151,21 +151,21 @@ is_one_name None None = true
 is_one_name (Some a) (Some b) = bytes_eq a b
 is_one_name a b = false
 
--- all that differs between two nodes of one kind, each after a comma (this project)
-abbrev pub node_changes : Facts → List ℕ → Facts → List ℕ → List ℕ
-node_changes f xs h ys = fact_changes f h ++ bytes_change (first_difference xs ys)
+-- all that differs between two nodes of one kind, with the first byte that does, each after a comma (this project)
+abbrev pub node_changes : Facts → Facts → Option ℕ → List ℕ
+node_changes f h first = fact_changes f h ++ bytes_change first
 
 -- the line of two nodes at a path that is no name of one file now, or wasn't: both names, and what differs if they are of one kind (this project)
-unfoldable pub renamed_line : List ℕ → Facts → List ℕ → Option (List ℕ) → Facts → List ℕ → Option (List ℕ) → List ℕ
-renamed_line path f xs a h ys b =
+unfoldable pub renamed_line : List ℕ → Facts → Option (List ℕ) → Facts → Option (List ℕ) → Option ℕ → List ℕ
+renamed_line path f a h b first =
     (if is_one_kind f.kind h.kind then 77 else 84)
     ∷ path_text path ++ (32 ∷ name_text f.kind a ++ (codes " -> " ++ (name_text h.kind b
-    ++ ((if is_one_kind f.kind h.kind then node_changes f xs h ys else []) ++ 10 ∷ []))))
+    ++ ((if is_one_kind f.kind h.kind then node_changes f h first else []) ++ 10 ∷ []))))
 
 -- the line of two nodes at a path, if they differ (this project)
-abbrev pub nodes_line : List ℕ → Facts → List ℕ → Facts → List ℕ → List ℕ
-nodes_line path f xs h ys =
-    if is_one_kind f.kind h.kind then changed_line path (node_changes f xs h ys)
+abbrev pub nodes_line : List ℕ → Facts → Facts → Option ℕ → List ℕ
+nodes_line path f h first =
+    if is_one_kind f.kind h.kind then changed_line path (node_changes f h first)
     else turned_line path (kind_text f.kind) (kind_text h.kind)
 
 -- the line of a path at which both trees are left out for this reason, so that it is unknown if it leads to the same (this project)
@@ -178,12 +178,21 @@ reasons_line path old new =
     if is_one_reason old new then (if is_unseen old then unseen_line path old else []) else turned_line path (left_text old) (left_text new)
 
 -- the line of a path that leads to nodes in two trees, by the paths of their first names if it is a further one; none if they are the same (this project)
-abbrev pub named_line : List ℕ → Facts → List ℕ → Option (List ℕ) → Facts → List ℕ → Option (List ℕ) → List ℕ
-named_line path f xs a h ys b = if is_one_name a b then nodes_line path f xs h ys else renamed_line path f xs a h ys b
+abbrev pub named_line : List ℕ → Facts → Option (List ℕ) → Facts → Option (List ℕ) → Option ℕ → List ℕ
+named_line path f a h b first = if is_one_name a b then nodes_line path f h first else renamed_line path f a h b first
+
+-- the first byte that differs between nodes of these kinds, if they are of one kind and one does (cmp)
+abbrev pub nodes_changed : NodeKind → List ℕ → NodeKind → List ℕ → Option ℕ
+nodes_changed old xs new ys = if is_one_kind old new then first_difference xs ys else None
+
+-- the first byte that differs, if a path leads to nodes of one kind and one does (cmp)
+abbrev pub first_changed : Content → Content → Option ℕ
+first_changed (Node f xs a) (Node h ys b) = nodes_changed f.kind xs h.kind ys
+first_changed old new = None
 
 -- the line of a path that leads to different things in two trees, or of which that is unknown; none if it leads to the same (this project)
 abbrev pub pair_line : List ℕ → Content → Content → List ℕ
-pair_line path (Node f xs a) (Node h ys b) = named_line path f xs a h ys b
+pair_line path (Node f xs a) (Node h ys b) = named_line path f a h b (nodes_changed f.kind xs h.kind ys)
 pair_line path (LeftOut r) (LeftOut s) = reasons_line path r s
 pair_line path (Node f xs a) (LeftOut s) = turned_line path (node_text f.kind a) (left_text s)
 pair_line path (LeftOut r) (Node h ys b) = turned_line path (left_text r) (node_text h.kind b)

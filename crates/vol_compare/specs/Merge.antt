@@ -1,11 +1,11 @@
 -- The differences between two lists of members.
-use Rattle.std.specs.Prelude.{◌≡◌, ℕ, ◌+◌, ◌==◌, nat_lt, if◌then◌else◌, Bool, List, [], ◌∷◌, map, drop}
+use Rattle.std.specs.Prelude.{◌≡◌, ℕ, ◌+◌, ◌==◌, nat_lt, if◌then◌else◌, Bool, List, [], ◌∷◌, map, drop, Option, None}
 use Rattle.std.specs.List.{flat_map}
 use Rattle.std.specs.declared.cmp.Ordering.{Ordering}
 use Rattle.std.specs.declared.cmp.Ordering.TheVariants.{Less, Equal, Greater}
 use Rattle.vol_layout.specs.declared.geometry.Geometry.{Geometry}
 use Rattle.vol_archive.specs.declared.met_entries.MetEntry.{MetEntry}
-use Rattle.vol_compare.specs.Lines.{added_line, gone_line, pair_line}
+use Rattle.vol_compare.specs.Lines.{added_line, first_changed, gone_line, pair_line}
 use Rattle.vol_compare.specs.Members.{AreMet, Member, member_of, members}
 use Rattle.vol_compare.specs.declared.members.MetTree.{MetTree}
 use Rattle.vol_compare.specs.declared.merge.Pair.{Pair}
@@ -53,6 +53,11 @@ abbrev pub line_of : Pairing → List ℕ
 line_of (Gone old) = gone_line old.path old.content
 line_of (Added new) = added_line new.path new.content
 line_of (Both old new) = pair_line old.path old.content new.content
+
+-- the first byte that differs, if two lists have nodes of one kind at a path and one does (cmp)
+abbrev pub first_of : Pairing → Option ℕ
+first_of (Both old new) = first_changed old.content new.content
+first_of pairing = None
 
 -- the lines of the differences between two lists of members: one for each member that only one of them has, and one for each pair that differs (diff)
 abbrev pub merged_lines : List Member → List Member → List ℕ

@@ -4,13 +4,13 @@ ghost use Rattle.std.specs.List.{flat_map};
 ghost use Rattle.serde_json.specs.View.{view};
 ghost use Rattle.vol_layout.specs.Geometry.{Fits};
 ghost use Rattle.vol_layout.specs.declared.geometry.Geometry.{Geometry};
-ghost use Rattle.vol_compare.specs.Members.{bytes_of, content_at, content_of};
-ghost use Rattle.vol_compare.specs.Merge.{pairing_of};
+ghost use Rattle.vol_compare.specs.Members.{content_at, content_of};
+ghost use Rattle.vol_compare.specs.Lines.{first_changed};
+ghost use Rattle.vol_compare.specs.Merge.{first_of, pairing_of};
 ghost use Rattle.vol_compare.specs.Json.{
   added_data,
   both_data,
   differences_data,
-  first_changed,
   first_data,
   gone_data,
   is_change_stored,
@@ -20,7 +20,6 @@ ghost use Rattle.vol_compare.specs.Json.{
   major_data,
   minor_data,
   node_data,
-  nodes_changed,
   nodes_word,
   pair_word,
   pairing_data,
@@ -31,12 +30,10 @@ ghost use Rattle.vol_compare.specs.Json.{
   time_data,
   told_data,
 };
-ghost use Rattle.vol_compare.specs.declared.members.NamedNode.{NamedNode};
 
-use crate::bodies::StoredFile;
-use crate::lines::{first_changed as changed_from, is_one_kind, is_one_reason, left_text};
+use crate::lines::{is_one_kind, is_one_reason, left_text};
 use crate::members::{MetTree, NamedNode, NodeKind, Target, target_of};
-use crate::merge::{Pair, line_of, pairs};
+use crate::merge::{Pair, first_of, line_of, pairs};
 use serde_json::{Value, json};
 use std::alloc::{AllocError, Global};
 use vol_archive::{MetEntry, Reason};
@@ -45,8 +42,7 @@ use vol_listing::json::{escaped_text, octal};
 
 /// Returns what differs between two trees, a value for each line of [`put_differences`](crate::merge::put_differences), in their order.
 ///
-/// Takes the memory of [`pairs`], and memory for the values. Costs [`put_differences`](crate::merge::put_differences), and
-/// [`first_difference`](crate::bodies::first_difference) once more of each pair of files that differs.
+/// Takes the memory of [`pairs`], and memory for the values. Costs [`put_differences`](crate::merge::put_differences).
 pub fn difference_values(
     alloc: Global,
     old: &MetTree<'_>,
@@ -97,31 +93,34 @@ fn push_told(
     ensures { OnOk result (map view values.new.items ≡ map view values.old.items
         ++ told_data times old.now.geometry.now.edition new.now.geometry.now.edition (pairing_of times old.now new.now pair.entry)) }
 {
-    let line = line_of(alloc, old, new, times, pair)?;
+    let first = first_of(old, new, times, pair);
+    let line = line_of(alloc, old, new, times, pair, first)?;
     if line.is_empty() {
         return Ok(());
     }
-    let value = pair_value(alloc, old, new, times, pair)?;
+    let value = pair_value(alloc, old, new, times, pair, first)?;
     Ok(values.push(value)?)
 }
 
-/// Returns what two trees have at a path.
+/// Returns what two trees have at a path, at which this is the first byte that differs.
 fn pair_value(
     alloc: Global,
     old: &MetTree<'_>,
     new: &MetTree<'_>,
     times: bool,
     pair: Pair<'_>,
+    first: Option<u32>,
 ) -> Result<Value, AllocError>
     requires old_fits { Fits old.now.geometry.now old.now.image.now }
     requires new_fits { Fits new.now.geometry.now new.now.image.now }
+    requires first { first ≡ first_of (pairing_of times old.now new.now pair) }
     ensures { IfOk result (λ value. view value
         ≡ pairing_data times old.now.geometry.now.edition new.now.geometry.now.edition (pairing_of times old.now new.now pair.entry)) }
 {
     match pair {
         Pair::Gone(found) => gone_value(alloc, old, found, times),
         Pair::Added(found) => added_value(alloc, new, found, times),
-        Pair::Both(found, other) => both_value(alloc, old, found, new, other, times),
+        Pair::Both(found, other) => both_value(alloc, old, found, new, other, times, first),
     }
 }
 
@@ -172,9 +171,7 @@ fn entry_value(
     side_value(alloc, times, tree.geometry.edition, target)
 }
 
-/// Returns a path that leads to different things in two trees. The paths of the entries are equal.
-///
-/// Costs [`first_difference`](crate::bodies::first_difference) of two files.
+/// Returns a path that leads to different things in two trees. The paths of the entries are equal, and `first` is the first byte that differs.
 fn both_value(
     alloc: Global,
     old: &MetTree<'_>,
@@ -182,111 +179,29 @@ fn both_value(
     new: &MetTree<'_>,
     new_found: &MetEntry,
     times: bool,
+    first: Option<u32>,
 ) -> Result<Value, AllocError>
     requires old_fits { Fits old.now.geometry.now old.now.image.now }
     requires new_fits { Fits new.now.geometry.now new.now.image.now }
+    requires first { first ≡ first_changed
+        (content_at times old.now.geometry.now old.now.image.now old.now.founds.items old_found.now)
+        (content_at times new.now.geometry.now new.now.image.now new.now.founds.items new_found.now) }
     ensures { IfOk result (λ value. view value ≡ both_data times old.now.geometry.now.edition new.now.geometry.now.edition old_found.now.path
         (content_at times old.now.geometry.now old.now.image.now old.now.founds.items old_found.now)
         (content_at times new.now.geometry.now new.now.image.now new.now.founds.items new_found.now)) }
 {
     let before = target_of(old, old_found, times);
     let after = target_of(new, new_found, times);
-    let was = StoredFile {
-        image: old.image,
-        geometry: old.geometry,
-        inode: old_found.inode,
-    };
-    let is = StoredFile {
-        image: new.image,
-        geometry: new.geometry,
-        inode: new_found.inode,
-    };
-    targets_value(
-        alloc,
-        times,
-        old_found.path.as_slice(),
-        before,
-        was,
-        after,
-        is,
-    )
-}
-
-/// Returns a path that leads to different things in two trees.
-fn targets_value(
-    alloc: Global,
-    times: bool,
-    path: &[u8],
-    old: Target<'_>,
-    old_file: StoredFile<'_>,
-    new: Target<'_>,
-    new_file: StoredFile<'_>,
-) -> Result<Value, AllocError>
-    requires old_fits { Fits old_file.geometry.now old_file.image.now }
-    requires old_number { (node : NamedNode) → old ≡ Target.Node node → (1 ≤ old_file.inode) × (old_file.inode ≤ old_file.geometry.now.last_inode) }
-    requires new_fits { Fits new_file.geometry.now new_file.image.now }
-    requires new_number { (node : NamedNode) → new ≡ Target.Node node → (1 ≤ new_file.inode) × (new_file.inode ≤ new_file.geometry.now.last_inode) }
-    ensures { IfOk result (λ value. view value ≡ both_data times old_file.entry.geometry.now.edition new_file.entry.geometry.now.edition path.now
-        (content_of old_file.entry.geometry.now old_file.entry.image.now old_file.entry.inode old.entry)
-        (content_of new_file.entry.geometry.now new_file.entry.image.now new_file.entry.inode new.entry)) }
-{
-    let first = first_changed(old, old_file, new, new_file);
-    let was = side_value(alloc, times, old_file.geometry.edition, old)?;
-    let is = side_value(alloc, times, new_file.geometry.edition, new)?;
-    let path = path_text(alloc, path)?;
+    let was = side_value(alloc, times, old.geometry.edition, before)?;
+    let is = side_value(alloc, times, new.geometry.edition, after)?;
+    let path = path_text(alloc, old_found.path.as_slice())?;
     json!(in alloc; {
         "first_byte": first_value(first),
-        "line": pair_word(old, new),
+        "line": pair_word(before, after),
         "new": is,
         "old": was,
         "path": path
     })
-}
-
-/// Returns the first place at which the bytes of what a path leads to differ, if it leads to regular files in both trees and there is one.
-fn first_changed(
-    old: Target<'_>,
-    old_file: StoredFile<'_>,
-    new: Target<'_>,
-    new_file: StoredFile<'_>,
-) -> Option<u32>
-    requires old_fits { Fits old_file.geometry.now old_file.image.now }
-    requires old_number { (node : NamedNode) → old ≡ Target.Node node → (1 ≤ old_file.inode) × (old_file.inode ≤ old_file.geometry.now.last_inode) }
-    requires new_fits { Fits new_file.geometry.now new_file.image.now }
-    requires new_number { (node : NamedNode) → new ≡ Target.Node node → (1 ≤ new_file.inode) × (new_file.inode ≤ new_file.geometry.now.last_inode) }
-    ensures { result ≡ first_changed
-        (content_of old_file.entry.geometry.now old_file.entry.image.now old_file.entry.inode old.entry)
-        (content_of new_file.entry.geometry.now new_file.entry.image.now new_file.entry.inode new.entry) }
-{
-    match (old, new) {
-        (Target::Node(f), Target::Node(h)) => {
-            nodes_changed(f.facts.kind, old_file, h.facts.kind, new_file)
-        }
-        _ => None,
-    }
-}
-
-/// Returns the first place at which the bytes of two nodes differ, if they are of one kind and there is one.
-fn nodes_changed(
-    old: NodeKind,
-    old_file: StoredFile<'_>,
-    new: NodeKind,
-    new_file: StoredFile<'_>,
-) -> Option<u32>
-    requires old_fits { Fits old_file.geometry.now old_file.image.now }
-    requires old_first { 1 ≤ old_file.inode }
-    requires old_last { old_file.inode ≤ old_file.geometry.now.last_inode }
-    requires new_fits { Fits new_file.geometry.now new_file.image.now }
-    requires new_first { 1 ≤ new_file.inode }
-    requires new_last { new_file.inode ≤ new_file.geometry.now.last_inode }
-    ensures { result ≡ nodes_changed old (bytes_of old_file.entry.geometry.now old_file.entry.image.now old_file.entry.inode old)
-        new (bytes_of new_file.entry.geometry.now new_file.entry.image.now new_file.entry.inode new) }
-{
-    if is_one_kind(old, new) {
-        changed_from(old, old_file, new, new_file)
-    } else {
-        None
-    }
 }
 
 /// Returns a place, or null if there is none.

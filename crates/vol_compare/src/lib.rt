@@ -2,6 +2,7 @@
 #![tactic(auto)]
 
 mod bodies;
+mod changed_bytes;
 mod changes;
 mod json;
 pub mod laws;

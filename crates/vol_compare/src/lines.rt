@@ -1,13 +1,10 @@
 //! The lines of what differs between two trees.
 ghost use Rattle.std.specs.Prelude.{◌≡◌, ◌≤◌, ◌++◌, ◌∷◌, [], ℕ, List, true, if◌then◌else◌, option_map, IfOk, OnOk};
 ghost use Rattle.vol_layout.specs.Geometry.{Fits};
-ghost use Rattle.vol_compare.specs.Bodies.{first_difference};
-ghost use Rattle.vol_compare.specs.Lines.{bytes_change, changed_line, fact_changes, gone_line, added_line, is_one_kind, is_one_name, is_one_reason, kind_text, left_text, link_text, lone_line, name_remark, name_text, named_line, node_changes, node_text, nodes_line, own_text, pair_line, path_text, renamed_line, turned_line, unseen_line};
-ghost use Rattle.vol_compare.specs.Members.{LeftOut, bytes_of, content_at, content_of, is_unseen};
+ghost use Rattle.vol_compare.specs.Lines.{bytes_change, changed_line, fact_changes, first_changed, gone_line, added_line, is_one_kind, is_one_name, is_one_reason, kind_text, left_text, link_text, lone_line, name_remark, name_text, named_line, node_changes, node_text, nodes_line, own_text, pair_line, path_text, renamed_line, turned_line, unseen_line};
+ghost use Rattle.vol_compare.specs.Members.{LeftOut, content_at, content_of, is_unseen};
 ghost use Rattle.vol_layout.specs.declared.geometry.Geometry.{Geometry};
-ghost use Rattle.vol_compare.specs.declared.members.NamedNode.{NamedNode};
 
-use crate::bodies::{StoredFile, first_difference};
 use crate::changes::{push_bytes_change, push_fact_changes};
 use crate::members::{Facts, MetTree, NamedNode, NodeKind, Target, target_of};
 use escaped_text::push_escaped;
@@ -82,9 +79,8 @@ fn push_path(text: &mut Vec<u8>, path: &[u8]) -> Result<(), AllocError>
     push_escaped(text, path)
 }
 
-/// Returns the line of a path that leads to different things in two trees; no bytes if it leads to the same. The paths of the entries are equal.
-///
-/// Costs [`first_difference`] of two files.
+/// Returns the line of a path that leads to different things in two trees; no bytes if it leads to the same. The paths of the entries are equal, and
+/// `first` is the first byte that differs.
 pub(crate) fn pair_line(
     alloc: Global,
     old: &MetTree<'_>,
@@ -92,26 +88,20 @@ pub(crate) fn pair_line(
     new: &MetTree<'_>,
     new_found: &MetEntry,
     times: bool,
+    first: Option<u32>,
 ) -> Result<Vec<u8>, AllocError>
     requires old_fits { Fits old.now.geometry.now old.now.image.now }
     requires new_fits { Fits new.now.geometry.now new.now.image.now }
+    requires first { first ≡ first_changed
+        (content_at times old.now.geometry.now old.now.image.now old.now.founds.items old_found.now)
+        (content_at times new.now.geometry.now new.now.image.now new.now.founds.items new_found.now) }
     ensures { IfOk result (λ line. line.items ≡ pair_line old_found.now.path
         (content_at times old.now.geometry.now old.now.image.now old.now.founds.items old_found.now)
         (content_at times new.now.geometry.now new.now.image.now new.now.founds.items new_found.now)) }
 {
     let before = target_of(old, old_found, times);
     let after = target_of(new, new_found, times);
-    let was = StoredFile {
-        image: old.image,
-        geometry: old.geometry,
-        inode: old_found.inode,
-    };
-    let is = StoredFile {
-        image: new.image,
-        geometry: new.geometry,
-        inode: new_found.inode,
-    };
-    targets_line(alloc, old_found.path.as_slice(), before, was, after, is)
+    targets_line(alloc, old_found.path.as_slice(), before, after, first)
 }
 
 /// Returns the line of a path that leads to different things in two trees; no bytes if it leads to the same.
@@ -119,20 +109,14 @@ fn targets_line(
     alloc: Global,
     path: &[u8],
     old: Target<'_>,
-    old_file: StoredFile<'_>,
     new: Target<'_>,
-    new_file: StoredFile<'_>,
+    first: Option<u32>,
 ) -> Result<Vec<u8>, AllocError>
-    requires old_fits { Fits old_file.geometry.now old_file.image.now }
-    requires old_number { (node : NamedNode) → old ≡ Target.Node node → (1 ≤ old_file.inode) × (old_file.inode ≤ old_file.geometry.now.last_inode) }
-    requires new_fits { Fits new_file.geometry.now new_file.image.now }
-    requires new_number { (node : NamedNode) → new ≡ Target.Node node → (1 ≤ new_file.inode) × (new_file.inode ≤ new_file.geometry.now.last_inode) }
-    ensures { IfOk result (λ line. line.items ≡ pair_line path.now
-        (content_of old_file.entry.geometry.now old_file.entry.image.now old_file.entry.inode old.entry)
-        (content_of new_file.entry.geometry.now new_file.entry.image.now new_file.entry.inode new.entry)) }
+    ensures { (g h : Geometry) (image other : List ℕ) (i j : ℕ) → first ≡ first_changed (content_of g image i old.entry) (content_of h other j new.entry)
+        → IfOk result (λ line. line.items ≡ pair_line path.now (content_of g image i old.entry) (content_of h other j new.entry)) }
 {
     match (old, new) {
-        (Target::Node(f), Target::Node(h)) => named_line(alloc, path, f, old_file, h, new_file),
+        (Target::Node(f), Target::Node(h)) => named_line(alloc, path, f, h, first),
         (Target::Left(r), Target::Left(s)) => reasons_line(alloc, path, r, s),
         (Target::Node(f), Target::Left(s)) => {
             let from = node_text(alloc, f)?;
@@ -150,24 +134,16 @@ fn named_line(
     alloc: Global,
     path: &[u8],
     old: NamedNode<'_>,
-    old_file: StoredFile<'_>,
     new: NamedNode<'_>,
-    new_file: StoredFile<'_>,
+    first: Option<u32>,
 ) -> Result<Vec<u8>, AllocError>
-    requires old_fits { Fits old_file.geometry.now old_file.image.now }
-    requires old_first { 1 ≤ old_file.inode }
-    requires old_last { old_file.inode ≤ old_file.geometry.now.last_inode }
-    requires new_fits { Fits new_file.geometry.now new_file.image.now }
-    requires new_first { 1 ≤ new_file.inode }
-    requires new_last { new_file.inode ≤ new_file.geometry.now.last_inode }
-    ensures { IfOk result (λ line. line.items ≡ named_line path.now
-        old.entry.facts (bytes_of old_file.entry.geometry.now old_file.entry.image.now old_file.entry.inode old.entry.facts.kind) (option_map (λ p. p.now) old.entry.first)
-        new.entry.facts (bytes_of new_file.entry.geometry.now new_file.entry.image.now new_file.entry.inode new.entry.facts.kind) (option_map (λ p. p.now) new.entry.first)) }
+    ensures { IfOk result (λ line. line.items ≡ named_line path.now old.entry.facts (option_map (λ p. p.now) old.entry.first)
+        new.entry.facts (option_map (λ p. p.now) new.entry.first) first) }
 {
     if is_one_name(old.first, new.first) {
-        nodes_line(alloc, path, old.facts, old_file, new.facts, new_file)
+        nodes_line(alloc, path, old.facts, new.facts, first)
     } else {
-        renamed_line(alloc, path, old, old_file, new, new_file)
+        renamed_line(alloc, path, old, new, first)
     }
 }
 
@@ -177,19 +153,11 @@ fn renamed_line(
     alloc: Global,
     path: &[u8],
     old: NamedNode<'_>,
-    old_file: StoredFile<'_>,
     new: NamedNode<'_>,
-    new_file: StoredFile<'_>,
+    first: Option<u32>,
 ) -> Result<Vec<u8>, AllocError>
-    requires old_fits { Fits old_file.geometry.now old_file.image.now }
-    requires old_first { 1 ≤ old_file.inode }
-    requires old_last { old_file.inode ≤ old_file.geometry.now.last_inode }
-    requires new_fits { Fits new_file.geometry.now new_file.image.now }
-    requires new_first { 1 ≤ new_file.inode }
-    requires new_last { new_file.inode ≤ new_file.geometry.now.last_inode }
-    ensures { IfOk result (λ line. line.items ≡ renamed_line path.now
-        old.entry.facts (bytes_of old_file.entry.geometry.now old_file.entry.image.now old_file.entry.inode old.entry.facts.kind) (option_map (λ p. p.now) old.entry.first)
-        new.entry.facts (bytes_of new_file.entry.geometry.now new_file.entry.image.now new_file.entry.inode new.entry.facts.kind) (option_map (λ p. p.now) new.entry.first)) }
+    ensures { IfOk result (λ line. line.items ≡ renamed_line path.now old.entry.facts (option_map (λ p. p.now) old.entry.first)
+        new.entry.facts (option_map (λ p. p.now) new.entry.first) first) }
 {
     let mut line = Vec::new(alloc);
     line.push(renamed_letter(old.facts.kind, new.facts.kind))?;
@@ -198,7 +166,7 @@ fn renamed_line(
     push_name(&mut line, old)?;
     line.extend_from_slice(b" -> ")?;
     push_name(&mut line, new)?;
-    push_if_one_kind(alloc, &mut line, old.facts, old_file, new.facts, new_file)?;
+    push_if_one_kind(alloc, &mut line, old.facts, new.facts, first)?;
     line.push(b'\n')?;
     Ok(line)
 }
@@ -304,25 +272,16 @@ fn nodes_line(
     alloc: Global,
     path: &[u8],
     old: Facts,
-    old_file: StoredFile<'_>,
     new: Facts,
-    new_file: StoredFile<'_>,
+    first: Option<u32>,
 ) -> Result<Vec<u8>, AllocError>
-    requires old_fits { Fits old_file.geometry.now old_file.image.now }
-    requires old_first { 1 ≤ old_file.inode }
-    requires old_last { old_file.inode ≤ old_file.geometry.now.last_inode }
-    requires new_fits { Fits new_file.geometry.now new_file.image.now }
-    requires new_first { 1 ≤ new_file.inode }
-    requires new_last { new_file.inode ≤ new_file.geometry.now.last_inode }
-    ensures { IfOk result (λ line. line.items ≡ nodes_line path.now old
-        (bytes_of old_file.entry.geometry.now old_file.entry.image.now old_file.entry.inode old.kind) new
-        (bytes_of new_file.entry.geometry.now new_file.entry.image.now new_file.entry.inode new.kind)) }
+    ensures { IfOk result (λ line. line.items ≡ nodes_line path.now old new first) }
 {
     if !is_one_kind(old.kind, new.kind) {
         return turned_line(alloc, path, kind_text(old.kind), kind_text(new.kind));
     }
     let mut changes = Vec::new(alloc);
-    push_node_changes(alloc, &mut changes, old, old_file, new, new_file)?;
+    push_node_changes(alloc, &mut changes, old, new, first)?;
     changed_line(alloc, path, &changes)
 }
 
@@ -331,22 +290,13 @@ fn push_if_one_kind(
     alloc: Global,
     text: &mut Vec<u8>,
     old: Facts,
-    old_file: StoredFile<'_>,
     new: Facts,
-    new_file: StoredFile<'_>,
+    first: Option<u32>,
 ) -> Result<(), AllocError>
-    requires old_fits { Fits old_file.geometry.now old_file.image.now }
-    requires old_first { 1 ≤ old_file.inode }
-    requires old_last { old_file.inode ≤ old_file.geometry.now.last_inode }
-    requires new_fits { Fits new_file.geometry.now new_file.image.now }
-    requires new_first { 1 ≤ new_file.inode }
-    requires new_last { new_file.inode ≤ new_file.geometry.now.last_inode }
-    ensures { OnOk result (text.new.items ≡ text.old.items ++ (if is_one_kind old.kind new.kind then node_changes
-        old (bytes_of old_file.entry.geometry.now old_file.entry.image.now old_file.entry.inode old.kind)
-        new (bytes_of new_file.entry.geometry.now new_file.entry.image.now new_file.entry.inode new.kind) else [])) }
+    ensures { OnOk result (text.new.items ≡ text.old.items ++ (if is_one_kind old.kind new.kind then node_changes old new first else [])) }
 {
     if is_one_kind(old.kind, new.kind) {
-        push_node_changes(alloc, text, old, old_file, new, new_file)
+        push_node_changes(alloc, text, old, new, first)
     } else {
         Ok(())
     }
@@ -357,55 +307,13 @@ fn push_node_changes(
     alloc: Global,
     text: &mut Vec<u8>,
     old: Facts,
-    old_file: StoredFile<'_>,
     new: Facts,
-    new_file: StoredFile<'_>,
+    first: Option<u32>,
 ) -> Result<(), AllocError>
-    requires old_fits { Fits old_file.geometry.now old_file.image.now }
-    requires old_first { 1 ≤ old_file.inode }
-    requires old_last { old_file.inode ≤ old_file.geometry.now.last_inode }
-    requires new_fits { Fits new_file.geometry.now new_file.image.now }
-    requires new_first { 1 ≤ new_file.inode }
-    requires new_last { new_file.inode ≤ new_file.geometry.now.last_inode }
-    requires one { is_one_kind old.kind new.kind ≡ true }
-    ensures { OnOk result (text.new.items ≡ text.old.items ++ node_changes
-        old (bytes_of old_file.entry.geometry.now old_file.entry.image.now old_file.entry.inode old.kind)
-        new (bytes_of new_file.entry.geometry.now new_file.entry.image.now new_file.entry.inode new.kind)) }
+    ensures { OnOk result (text.new.items ≡ text.old.items ++ node_changes old new first) }
 {
     push_fact_changes(alloc, text, old, new)?;
-    push_bytes_change(
-        alloc,
-        text,
-        first_changed(old.kind, old_file, new.kind, new_file),
-    )
-}
-
-/// Returns the first place at which the bytes of two nodes of one kind differ, if they are regular files and there is one.
-///
-/// Costs [`first_difference`] of two files.
-#[tactic(auto, using(crate::proofs::NodeBytes::file_bytes, crate::proofs::NodeBytes::no_bytes))]
-pub(crate) fn first_changed(
-    old: NodeKind,
-    old_file: StoredFile<'_>,
-    new: NodeKind,
-    new_file: StoredFile<'_>,
-) -> Option<u32>
-    requires old_fits { Fits old_file.geometry.now old_file.image.now }
-    requires old_first { 1 ≤ old_file.inode }
-    requires old_last { old_file.inode ≤ old_file.geometry.now.last_inode }
-    requires new_fits { Fits new_file.geometry.now new_file.image.now }
-    requires new_first { 1 ≤ new_file.inode }
-    requires new_last { new_file.inode ≤ new_file.geometry.now.last_inode }
-    requires one { is_one_kind old new ≡ true }
-    ensures { result ≡ first_difference
-        (bytes_of old_file.entry.geometry.now old_file.entry.image.now old_file.entry.inode old)
-        (bytes_of new_file.entry.geometry.now new_file.entry.image.now new_file.entry.inode new) }
-{
-    if old.is_file() {
-        first_difference(old_file, new_file)
-    } else {
-        None
-    }
+    push_bytes_change(alloc, text, first)
 }
 
 /// Returns the line of a path whose node changed in this way: the changes without the comma before the first; no bytes if there are none.

@@ -5,8 +5,9 @@ ghost use Rattle.std.specs.declared.cmp.Ordering.TheVariants.{Less, Equal, Great
 ghost use Rattle.vol_layout.specs.Geometry.{Fits};
 ghost use Rattle.vol_archive.specs.Write.{Writes};
 ghost use Rattle.vol_dir.specs.Walk.{is_nil};
-ghost use Rattle.vol_compare.specs.Merge.{all_of, length_order, line_of, merged, order_of, pairing_of, path_order, rank, rest_of, tree_lines};
+ghost use Rattle.vol_compare.specs.Merge.{all_of, first_of, length_order, line_of, merged, order_of, pairing_of, path_order, rank, rest_of, tree_lines};
 
+use crate::changed_bytes::first_changed;
 use crate::lines::{added_line, gone_line, pair_line};
 use crate::members::MetTree;
 use pdp_words::{Sink, write_all};
@@ -96,7 +97,8 @@ fn put_line<O: Sink>(
         (line_of (pairing_of times old.now new.now pair.entry)) result }
     ensures some { IfOk result (λ some. some ≡ not (is_nil (line_of (pairing_of times old.now new.now pair.entry)))) }
 {
-    let line = line_of(alloc, old, new, times, pair)?;
+    let first = first_of(old, new, times, pair);
+    let line = line_of(alloc, old, new, times, pair, first)?;
     put(&line, output)?;
     Ok(!line.is_empty())
 }
@@ -111,22 +113,43 @@ fn put<O: Sink>(piece: &[u8], output: &mut O) -> Result<(), WriteFault>
     }
 }
 
-/// Returns the line of what two trees have at a path; no bytes if it is the same.
+/// Returns the first byte that differs at a path, if it leads to regular files in both trees and there is one.
+///
+/// Costs [`first_changed`].
+pub(crate) fn first_of(
+    old: &MetTree<'_>,
+    new: &MetTree<'_>,
+    times: bool,
+    pair: Pair<'_>,
+) -> Option<u32>
+    requires old_fits { Fits old.now.geometry.now old.now.image.now }
+    requires new_fits { Fits new.now.geometry.now new.now.image.now }
+    ensures { result ≡ first_of (pairing_of times old.now new.now pair.entry) }
+{
+    match pair {
+        Pair::Both(found, other) => first_changed(old, found, new, other, times),
+        Pair::Gone(_) | Pair::Added(_) => None,
+    }
+}
+
+/// Returns the line of what two trees have at a path, at which this is the first byte that differs; no bytes if it is the same.
 pub(crate) fn line_of(
     alloc: Global,
     old: &MetTree<'_>,
     new: &MetTree<'_>,
     times: bool,
     pair: Pair<'_>,
+    first: Option<u32>,
 ) -> Result<Vec<u8>, AllocError>
     requires old_fits { Fits old.now.geometry.now old.now.image.now }
     requires new_fits { Fits new.now.geometry.now new.now.image.now }
+    requires first { first ≡ first_of (pairing_of times old.now new.now pair) }
     ensures { IfOk result (λ line. line.items ≡ line_of (pairing_of times old.now new.now pair.entry)) }
 {
     match pair {
         Pair::Gone(found) => gone_line(alloc, old, found, times),
         Pair::Added(found) => added_line(alloc, new, found, times),
-        Pair::Both(found, other) => pair_line(alloc, old, found, new, other, times),
+        Pair::Both(found, other) => pair_line(alloc, old, found, new, other, times, first),
     }
 }
 

@@ -10,6 +10,7 @@ use crate::image_file::open_stamped;
 use crate::marks::give_marks;
 use crate::noted::{noted_reader, noted_writer};
 use crate::pack::{SpliceFault, passed_over, splice};
+use crate::progress::Stage;
 use crate::saved_files::{Content, Filling, Replaced, Target, VolumePart};
 use crate::system::ImageFiles;
 use pdp_words::BLOCK;
@@ -51,6 +52,7 @@ fn write_new<R: ImageFiles>(
 ) -> io::Result<R::File>
     ensures { IfOk result (λ written. Fills R.File.remaining R.File.contents filling.entry file written) }
 {
+    rt.begin(Stage::Writing(filling.size()));
     match (filling, &target.old) {
         (Filling::Part(part), Some(old)) => {
             write_part(rt, file, target.path.as_path(), old, part)
@@ -79,6 +81,7 @@ fn write_part<R: ImageFiles>(
     if stamp != old.stamp {
         return Err(io::Error::new(ErrorKind::ResourceBusy, CHANGED));
     }
+    rt.begin(Stage::Writing(Some(stamp.size)));
     let mut pack = noted_reader(whole);
     let mut sink = HoledFile::new(rt, file, old.has_holes());
     match splice(&mut pack, &mut sink, BLOCK * part.at as usize, part.bytes) {
@@ -128,6 +131,7 @@ pub(crate) fn fill_in_place<R: ImageFiles>(
     requires { IsIrregular R.had file }
     ensures { IfOk result (λ filled. GrowsInPlace R.File.contents filling.entry filled) }
 {
+    rt.begin(Stage::Writing(filling.size()));
     match filling {
         Filling::Whole(content) => write_in_place(file, content),
         Filling::Part(part) => {

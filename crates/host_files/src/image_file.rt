@@ -4,6 +4,7 @@ ghost use Rattle.std.specs.Fs.{IsDir, IsFile, file_type, metadata_len};
 ghost use Rattle.host_files.specs.OpenedFiles.{IsOpenTo, OpensTo};
 
 use crate::folders::{FolderListing, folder_listing};
+use crate::progress::Stage;
 use crate::system::ImageFiles;
 use std::fs::{self, File, Metadata, OpenFile, TryLockError};
 use std::io::{self, IsTerminal, Seek, SeekFrom};
@@ -183,21 +184,23 @@ fn offset_after(offset: u64, count: u64) -> io::Result<u64> {
     }
 }
 
-/// Opens a file, and returns it with its stamp.
+/// Opens a file to read it, and returns it with its stamp.
 pub fn open_stamped<R: ImageFiles>(rt: &R, path: &str) -> io::Result<(R::File, Stamp)>
     ensures { IfOk result (λ opened. R.had opened.0 opened.1) }
 {
     let file = fs::open(rt, path)?;
     let stamp = rt.stamp_of(&file)?;
+    rt.begin(Stage::of_reading(stamp));
     Ok((file, stamp))
 }
 
-/// Opens a file, and returns it with its stamp; of a device, the stamp's size is the number of its bytes.
+/// Opens a file to read it, and returns it with its stamp; of a device, the stamp's size is the number of its bytes.
 pub fn open_sized<R: ImageFiles>(rt: &R, path: &str) -> io::Result<(R::File, Stamp)>
     ensures { IfOk result (λ opened. R.had opened.0 opened.1) }
 {
     let mut file = fs::open(rt, path)?;
     let stamp = rt.sized_stamp_of(&mut file)?;
+    rt.begin(Stage::of_reading(stamp));
     Ok((file, stamp))
 }
 

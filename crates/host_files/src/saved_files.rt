@@ -54,6 +54,17 @@ pub(crate) enum Filling<'a> {
     Part(VolumePart<'a>),
 }
 
+impl Filling<'_> {
+    /// Returns the number of bytes that are written in a new place, unless they are made while they are written.
+    pub(crate) fn size(self) -> Option<u64> {
+        match self {
+            Filling::Whole(Content::Bytes(bytes)) | Filling::Part(VolumePart { at: _, bytes }) =>
+                Some(bytes.len() as u64),
+            Filling::Whole(Content::Volume(_)) => None,
+        }
+    }
+}
+
 /// The regular file that a new one will replace.
 #[derive(Drop)]
 pub(crate) struct Replaced {

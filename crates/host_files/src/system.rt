@@ -8,6 +8,7 @@ ghost use Rattle.host_files.specs.Packs.{HasBytes, IsMovedTo};
 
 use crate::folders::FolderListing;
 use crate::image_file::Stamp;
+use crate::progress::Stage;
 use std::fs::Files;
 use std::io;
 
@@ -70,4 +71,7 @@ pub trait ImageFiles: Files {
     /// Appends `count` zeros to an open file that ends where it is written, as a hole if its system has holes.
     fn append_hole(&self, file: &mut Self::File, count: u64) -> io::Result<()>
         ensures { OnOk result (Appends (Self.File.contents file.old) (Self.File.contents file.new) (replicate count 0)) };
+
+    /// Notes what is done with files from now on, for a line that shows how much of it is done. A system that shows none does nothing.
+    fn begin(&self, _stage: Stage) {}
 }

@@ -26,7 +26,7 @@ export class Files extends Map<string, File> {
 export interface Options {
     /** What it reads from standard input. It is nothing, if it isn't given. */
     stdin?: string | Uint8Array;
-    /** Its environment. The program knows UNIXVOL_EXPLAIN, NO_COLOR, COLUMNS and TMPDIR. It is empty, if it isn't given. */
+    /** Its environment. The program knows UNIXVOL_EXPLAIN, UNIXVOL_PROGRESS, NO_COLOR, COLUMNS and TMPDIR. It is empty, if it isn't given. */
     env?: Record<string, string>;
     /**
      * Gets what is printed as it comes, with 1 for standard output and 2 for standard error, in arrays that it may keep. `output` and `error` stay empty then.

@@ -4,7 +4,7 @@ set -uo pipefail
 : "${1:?usage: $0 PROGRAM}"
 program=$(realpath -m "$1")
 [ -x "$program" ] || { echo "$0: there is no program $1" >&2; exit 2; }
-unset UNIXVOL_EXPLAIN
+unset UNIXVOL_EXPLAIN UNIXVOL_PROGRESS
 rows_script=$(realpath "$0")
 samples=$(realpath "$(dirname "${BASH_SOURCE[0]}")/../samples")
 folder=$(mktemp -d)

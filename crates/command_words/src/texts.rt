@@ -11,6 +11,9 @@ With --explain, before or after the command, a second line says what the fault m
 file failed, the system's own reason. If standard error is a terminal, this line is printed without --explain too;
 set the variable UNIXVOL_EXPLAIN to 0 to turn that off, or to 1 to have the line everywhere, as in logs.
 
+If reading or writing a file takes more than a second, and standard error is a terminal, a line there shows how much
+of it is done, and is wiped at the end; not with --json. Set the variable UNIXVOL_PROGRESS to 0 to turn it off.
+
 Where a command takes the EDITION of a volume in a file, `any` may be written for it. Then the volume is judged first,
 as one of each edition, and the command runs with the edition of which it is sound. If it is sound as neither or as
 both, the status is 1, and nothing is done. A pipe can be read only once, so it needs 6 or 7.";

@@ -6,7 +6,7 @@ ghost use Rattle.unixvol.specs.Runs.{IsStatusOfFileOrMemory};
 
 use crate::explain::reason_of;
 use crate::file_fault::{FileFault, NamedFile};
-use host_files::{FrontFault, noted_reader, read_on};
+use host_files::{FrontFault, ImageFiles, noted_reader, open_stamped, read_on};
 use identify_lines::MOST;
 use pdp_words::{BLOCK, Image, Source};
 use std::alloc::{AllocError, Global};
@@ -17,7 +17,7 @@ use vol_identify::{Guess, blocks_wanted, guess_image};
 const HEAD: usize = 3 * BLOCK;
 
 /// Reads the front of a file for a guess.
-pub fn read_to_guess<'a, R: Files + AllocGlobal>(
+pub fn read_to_guess<'a, R: ImageFiles + AllocGlobal>(
     rt: &R,
     path: &'a str,
 ) -> Result<Image, FileFault<'a>>
@@ -25,8 +25,8 @@ pub fn read_to_guess<'a, R: Files + AllocGlobal>(
     ensures fault { IfErr result (λ fault. IsStatusOfFileOrMemory (file_status fault)) }
 {
     let named = NamedFile::File(path);
-    let file = match fs::open(rt, path) {
-        Ok(file) => file,
+    let (file, _) = match open_stamped(rt, path) {
+        Ok(opened) => opened,
         Err(why) => return Err(FileFault::Unread(named, why)),
     };
     let mut source = noted_reader(file);

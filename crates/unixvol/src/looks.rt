@@ -54,6 +54,15 @@ pub fn wants_meanings<R: Env + AllocGlobal>(rt: &R, is_watched: bool) -> bool {
     unasked || is_variable(rt, "UNIXVOL_EXPLAIN", "1")
 }
 
+/// True if a line may show how much of a file is read or written: if standard error is a terminal that knows how to wipe it, the variable UNIXVOL_PROGRESS
+/// isn't 0, and no word is `--json`.
+pub fn wants_progress<R: Env + AllocGlobal>(rt: &R, words: &[String], is_watched: bool) -> bool {
+    let is_refused = words.iter().any(|word| word.as_str() == "--json")
+        || is_variable(rt, "UNIXVOL_PROGRESS", "0")
+        || is_variable(rt, "TERM", "dumb");
+    is_watched && !is_refused
+}
+
 /// True if a variable of the environment has this value.
 fn is_variable<R: Env + AllocGlobal>(rt: &R, name: &str, value: &str) -> bool {
     match env::var(rt, name) {

@@ -34,6 +34,7 @@ mod words;
 
 use command_line::Invocation;
 use host::Surroundings;
+use host_files::{ProgressLine, WatchedHost};
 use std::io::IsTerminal;
 use std::process::ExitCode;
 use std::rt::Clock;
@@ -51,14 +52,19 @@ fn main(rt: HostRuntime) -> ExitCode {
         }
     };
     let errors = rt.stderr();
-    let host = Surroundings::new(&rt, words.as_slice(), errors.is_terminal());
+    let is_watched = errors.is_terminal();
+    let line = ProgressLine::new(looks::wants_progress(&rt, words.as_slice(), is_watched));
+    let watched = WatchedHost::new(&rt, &line);
+    let host = Surroundings::new(&watched, words.as_slice(), is_watched);
+    let errors = watched.errors(errors);
     let output = rt.stdout();
     let screen = looks::screen(&rt, output.is_terminal());
-    let read = match editions::read_settled(&rt, moment(&rt), words.as_slice()) {
+    let output = watched.output(output);
+    let read = match editions::read_settled(&watched, moment(&rt), words.as_slice()) {
         Ok(read) => read,
         Err(fault) => return ExitCode::from(explain::tell_file(&host, &fault)),
     };
-    match read {
+    let status = match read {
         Ok(Invocation::Work { volume, work }) => {
             threads::run_to_end(&host, screen, output, errors, volume, work)
         }
@@ -89,6 +95,8 @@ fn main(rt: HostRuntime) -> ExitCode {
             copy::run_to_end(&host, output, errors, volume, copying)
         }
         Ok(Invocation::Serve { volume, serving }) => {
+            // A server runs beside a shell that may have the same terminal.
+            line.end(&rt);
             serve::run_to_end(&host, rt.stdin(), output, errors, volume, serving)
         }
         Ok(
@@ -124,7 +132,9 @@ fn main(rt: HostRuntime) -> ExitCode {
             },
         ) => identify_below::run_to_end(&host, output, errors, form, &images),
         read => commands::run_to_end(&host, output, errors, read),
-    }
+    };
+    line.end(&rt);
+    status
 }
 
 /// Returns the time of the system's clock, in seconds since the beginning of 1970. Returns `None` if the clock can't be read, or is before 1970 or

@@ -15,9 +15,9 @@ use command_changes::{GivenFile, Kept};
 use command_line::VolumeFile;
 use command_terms::Keep;
 use host_files::{
-    FileKind, FrontFault, ImageFiles, MoveFault, Noted, OpenFault, Stamp, UpTo, expect_image,
-    modified_in, moved_to, noted_reader, open_image, open_stamped, permissions_of, read_on,
-    read_up_to,
+    FileKind, FrontFault, ImageFiles, MoveFault, Noted, OpenFault, Stage, Stamp, UpTo,
+    expect_image, modified_in, moved_to, noted_reader, open_image, open_stamped, permissions_of,
+    read_on, read_up_to,
 };
 use pdp_words::{BLOCK, Image, Source};
 use std::alloc::Global;
@@ -297,6 +297,7 @@ pub fn read_image<'a, R: ImageFiles + Clock + Eprint + AllocGlobal>(
     match open_image(host.rt, volume.image, host.is_watched) {
         Ok((file, stamp)) => {
             let read = read_part(host.rt, volume, file, stamp)?;
+            host.rt.begin(Stage::Rest);
             Ok((read.bytes, stamp, read.file))
         }
         Err(fault) => Err(unopened(volume.image, fault)),

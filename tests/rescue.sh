@@ -1,5 +1,5 @@
 #!/usr/bin/env bash
-# Runs `export`, `find`, `sums`, `get`, `cat`, `check` and `repair` of the built program with `--cut`, `--bad`, `--bad-blocks`, `--sizes` and `--like` on volumes that were cut off, or
+# Runs `export`, `find`, `sums`, `ls`, `get`, `cat`, `check` and `repair` of the built program with `--cut`, `--bad`, `--bad-blocks`, `--sizes` and `--like` on volumes that were cut off, or
 # of which blocks couldn't be read, and compares what it writes with what the whole volume holds.
 # Usage: tests/rescue.sh PROGRAM. It prints a line for each row that fails, and ends with 'N passed, N failed'.
 . "$(dirname "$0")/rows.sh"
@@ -63,6 +63,30 @@ for edition in 6 7; do
             wants "cat --damaged, $name" "$([ "$n" = 1 ] && echo 1 || echo 5)" zeros line
         done
     done
+    # `ls` lists what can be read, and has a line for each file of which bytes are lost.
+    { cat count; sed -n 's,^unixvol: f,unixvol: /f,p' told; } > lines
+    for words in '' -l --json; do
+        # shellcheck disable=SC2086
+        "$program" ls $words "$edition" b.img > wanted
+        # shellcheck disable=SC2086
+        runs ls $words "$edition" --cut cut.img
+        wants "ls $words of a cut volume of edition $edition" 5 wanted lines
+    done
+    for n in 1 4; do
+        "$program" ls -l "$edition" b.img "/f$n" > wanted
+        sed -n "1p; s,^unixvol: f$n:,unixvol: /f$n:,p" told > line
+        runs ls -l "$edition" --cut cut.img "/f$n"
+        wants "ls of a file of a cut volume, f$n" "$([ "$n" = 1 ] && echo 1 || echo 5)" wanted line
+    done
+    "$program" ls -l -d "$edition" b.img / > wanted
+    runs ls -l -d "$edition" --cut cut.img /
+    wants "ls of a directory itself" 1 wanted count
+    "$program" ls -l "$edition" b.img > wanted
+    runs ls -l "$edition" --cut b.img
+    wants 'ls --cut of a whole image' 0 wanted none
+    refuses 1 'unixvol: 2 NoEntry' ls "$edition" --cut cut.img /f9
+    refuses 1 'unixvol: 20 NotDirectory' ls "$edition" --cut cut.img /f4
+    refuses 1 'unixvol: unsound, rule 1' ls "$edition" --unsound cut.img
     for name in /f9 0 700 65535; do refuses 1 'unixvol: 2 NoEntry' cat "$edition" --cut cut.img "$name"; done
     refuses 1 'unixvol: unsound, rule 1' cat "$edition" cut.img /f1
     refuses 1 'unixvol: unsound, rule 1' cat "$edition" --damaged cut.img 3
@@ -450,7 +474,7 @@ refuses 3 'unixvol: bad.map: line 3: the range begins before the end of the one 
 # lost_on_way BLOCK PATH LINE: with this block lost, PATH isn't found, and nothing is printed but LINE after the number of lost blocks
 lost_on_way() {
     local words
-    for words in find sums export get cat 'find --json' 'sums --json' 'find --lost' 'export --damaged' 'get --damaged' 'cat --damaged'; do
+    for words in find sums export ls get cat 'find --json' 'sums --json' 'find --lost' 'export --damaged' 'get --damaged' 'cat --damaged'; do
         [[ "$words $1 $2" != @(get|cat)*' 41 /usr/games/moved' ]] || continue
         # shellcheck disable=SC2086
         "$program" $words --bad-blocks "$1" 7 "$linux" "$2" > found 2> error
@@ -502,6 +526,31 @@ runs cat --bad-blocks 41 7 "$linux" /usr/games --damaged
 wants 'cat --damaged of it by its path' 5 zeros line
 runs cat --sizes $fsize,$isize 7 super.img /usr/games
 wants 'cat of a volume without a super-block' 1 wanted count
+# `ls` names the directory of which names may be missing, and each name in it whose i-node is lost, which has a row of zeros.
+"$program" ls --slots 7 "$linux" /usr/games | awk '$1 < 32 && $2 > 0 { print $3 }' > names
+"$program" ls -l 7 "$linux" /usr/games | awk 'NR == FNR { names[$1] = 1; next } $NF in names' names - > wanted
+{ cat count; echo 'unixvol: /usr/games: names may be missing: 176 of 688 bytes are lost: 512-687'; } > line
+runs ls -l --bad-blocks 41 7 "$linux" /usr/games
+wants 'ls of a directory of which a block is lost' 5 wanted line
+"$program" ls -l 7 "$linux" | sed -E 's/^(   9[46]) .* (etc|usr)$/\1 ----------     0     0     0          0 1970-01-01 00:00:00 \2/' > wanted
+{ cat count; echo 'unixvol: /etc: i-node 94 is lost'; echo 'unixvol: /usr: i-node 96 is lost'; } > line
+runs ls -l --bad-blocks 13 7 "$linux"
+wants 'ls of entries whose i-nodes are lost' 5 wanted line
+{ cat count; echo 'unixvol: /usr: i-node 96 is lost'; } > line
+echo '   96 ----------     0     0     0          0 1970-01-01 00:00:00 /usr' > wanted
+runs ls -l -d --bad-blocks 13 7 "$linux" /usr
+wants 'ls of a path whose i-node is lost' 5 wanted line
+runs ls --sizes $fsize,$isize 7 super.img
+"$program" ls 7 "$linux" > wanted
+wants 'ls of a volume without a super-block' 1 wanted count
+misread "error: the argument '--recursive' cannot be used with '--cut'" ls -R --cut 7 b.img
+misread "error: the argument '--recursive' cannot be used with '--unsound'" ls -R --cut --unsound 7 b.img
+misread "error: the argument '--slots' cannot be used with '--bad-blocks'" ls --slots --bad-blocks 12 7 b.img
+misread "error: the argument '--bad-blocks' cannot be used with '--bad'" ls --bad-blocks 12 --bad half.map 7 b.img
+misread "error: invalid value 'ra81' for '--like <DISK>'" ls --like ra81 7 b.img
+refuses 2 'unixvol: no volume has 5 blocks with an i-list of 9' ls --sizes 5,9 7 b.img
+refuses 3 'unixvol: cannot read missing.map' ls --bad missing.map 7 one.img
+refuses 6 'unixvol: the image has 40 of 16000000 blocks' ls --cut 7 long.img
 misread "error: the argument '--bad-blocks' cannot be used with '--bad'" cat --bad-blocks 12 --bad half.map 7 b.img 1
 misread "error: the argument '--like' cannot be used with '--sizes'" cat --like rk05 --sizes 4872,100 7 b.img 1
 misread "error: invalid value '5-3' for '--bad-blocks <LIST>'" cat --bad-blocks 5-3 7 b.img 1
@@ -509,7 +558,7 @@ refuses 2 'unixvol: no volume has 5 blocks with an i-list of 9' cat --sizes 5,9 
 refuses 3 'unixvol: cannot read missing.map' cat --bad missing.map 7 one.img 1
 refuses 6 'unixvol: the image has 40 of 16000000 blocks' cat --cut 7 long.img 1
 # If nothing is lost on the way, the path is wrong, also if bytes of the file at its end are lost.
-for command in find sums export get cat; do
+for command in find sums export ls get cat; do
     refuses 1 'unixvol: 2 NoEntry' "$command" --bad-blocks 41 7 "$linux" /none
     [ "$command" = get ] || [ "$command" = cat ] || refuses 1 'unixvol: 20 NotDirectory' "$command" --bad-blocks 41 7 "$linux" /etc/motd
     refuses 1 'unixvol: 20 NotDirectory' "$command" --bad-blocks 20 7 "$linux" /etc/motd/x
@@ -566,7 +615,7 @@ misread "error: the argument '--like' cannot be used with '--sizes'" sums --like
 python3 - "$program" > error << 'PYTHON'
 import json, os, random, re, subprocess, sys, tarfile
 
-program, count, digests, bodies = sys.argv[1], 0, 0, 0
+program, count, digests, bodies, listings = sys.argv[1], 0, 0, 0, 0
 random.seed(1979)
 
 def run(*words, **more):
@@ -660,6 +709,15 @@ for round in range(50):
     for path, ino in paths(edition, "r.bad", *words).items():
         if all_paths.get(path) != ino and not any(d == "." or path.startswith(f"/{d}/") for d in short):
             print(round, "a path is wrong:", path, ino)
+    for top in ("/", "/d0"):
+        rows = {row["path"]: row for row in json.loads(run("ls", "--json", edition, "r.img", top).stdout)["entries"]}
+        printed = run("ls", "--json", edition, "r.bad", top, *words)
+        if printed.returncode not in (1, 5):
+            print(round, "the status of the listing is", printed.returncode)
+        for row in json.loads(printed.stdout)["entries"] if printed.stdout else ():
+            listings += rows.get(row["path"]) == row
+            if rows.get(row["path"]) != row and f"unixvol: {row['path']}: i-node {row['ino']} is lost\n".encode() not in printed.stderr:
+                print(round, "a row is wrong:", row)
     for ino in random.sample(sorted(set(all_paths.values())), min(4, len(all_paths))):
         wanted, printed = run("cat", edition, "r.img", str(ino)).stdout, run("cat", edition, "r.bad", str(ino), *words)
         bodies += printed.returncode == 1
@@ -674,7 +732,7 @@ for round in range(50):
             continue
         if member[:5] != whole[name][:5] or member[5] != outside(whole[name][5], line):
             print(round, "a damaged file is wrong outside its ranges:", name)
-print(count > 500 and digests > 500 and bodies > 50)
+print(count > 500 and digests > 500 and bodies > 50 and listings > 500)
 PYTHON
 has 'members of volumes of which random blocks are lost' True "$(cat error)"
 

@@ -1,11 +1,13 @@
 -- The words of `ls`.
-use Rattle.std.proofs.Common.{◌≡◌, ◌↔◌, ◌==◌, ◌∙◌, Bool, ℕ, true≢false, true, false, List, ◌∷◌, [], drop, map, slice_index_or, Option, Some, None, refl, sym, ap, subst, codes}
+use Rattle.std.proofs.Common.{◌≡◌, ◌↔◌, ◌==◌, ◌∙◌, Bool, ℕ, true≢false, true, false, List, ◌∷◌, ◌++◌, [], drop, map, slice_get, slice_index_or, Option, Some, None, refl, sym, ap, subst, codes}
 use Rattle.std.specs.Borrow.{Bor}
 use Rattle.std.specs.Str.{bytes_eq}
 use Rattle.std.proofs.lemmas.Bool.{ne_eqb}
 use Rattle.std.proofs.lemmas.Slice.Eq.{bytes_eq-Decides}
 use Rattle.clap.proofs.OnLiterals.{clap_on_literals}
 use Rattle.clap.specs.Words.{Row}
+use Rattle.command_words.proofs.Copies.{not_whole}
+use Rattle.command_words.specs.BadWords.{IsBadImageGiven}
 use Rattle.command_words.specs.Invocations.{AreLinesGiven, IsDepthGiven, IsEditionGiven, IsEditionNamed, IsGiven, IsNumberOr, Words, first_word, is_set, the_word, verb_of}
 use Rattle.command_words.specs.Verbs.{verb_name}
 use Rattle.command_words.specs.declared.invocation.Invocation.{Invocation}
@@ -62,11 +64,13 @@ seen None = []
 seen (Some met) = met.0 ∷ the_word (words_by met.1) (codes "EDITION") ∷ the_word (words_by met.1) (codes "IMAGE") ∷ the_word (words_by met.1) (codes "PATH")
     ∷ the_word (words_by met.1) (codes "json") ∷ the_word (words_by met.1) (codes "long") ∷ the_word (words_by met.1) (codes "recursive")
     ∷ the_word (words_by met.1) (codes "directory") ∷ the_word (words_by met.1) (codes "slots")
-    ∷ the_word (words_by met.1) (codes "unsound") ∷ words_by met.1 (codes "at")
+    ∷ the_word (words_by met.1) (codes "unsound") ∷ the_word (words_by met.1) (codes "cut")
+    ∷ (words_by met.1 (codes "at") ++ (words_by met.1 (codes "bad") ++ (words_by met.1 (codes "bad-blocks") ++ (words_by met.1 (codes "sizes")
+    ++ words_by met.1 (codes "like")))))
 
 -- the words of options that weren't given
 abbrev no_options : List (List ℕ)
-no_options = codes "false" ∷ codes "false" ∷ codes "false" ∷ codes "false" ∷ codes "false" ∷ codes "false" ∷ []
+no_options = codes "false" ∷ codes "false" ∷ codes "false" ∷ codes "false" ∷ codes "false" ∷ codes "false" ∷ codes "false" ∷ []
 
 -- the name of the command, and the words for the arguments of `ls` without options
 abbrev words_of : Edition → List ℕ → List ℕ → List (List ℕ)
@@ -134,11 +138,29 @@ record HasNoOptions (given : Words) : Type 0 where
   itself : first_word (given (codes "directory")) ≡ codes "false"
   slots : first_word (given (codes "slots")) ≡ codes "false"
   unsound : first_word (given (codes "unsound")) ≡ codes "false"
+  cut : first_word (given (codes "cut")) ≡ codes "false"
   at : given (codes "at") ≡ []
+  bad : given (codes "bad") ≡ []
+  blocks : given (codes "bad-blocks") ≡ []
+  sizes : given (codes "sizes") ≡ []
+  like : given (codes "like") ≡ []
 
 -- if the word of an option is `false`, the option wasn't given
 unset : (words : List (List ℕ)) → first_word words ≡ codes "false" → is_set words ≡ false
 unset words is = ap (λ (word : List ℕ). bytes_eq word (codes "true")) is
+
+-- if two lists in one are empty, both are
+empty_both : (one other : List (List ℕ)) → one ++ other ≡ [] → (one ≡ []) × (other ≡ [])
+empty_both [] other is = (refl, is)
+empty_both (word ∷ one) other is = absurd (cc)
+
+-- if no option was given, nothing was said of lost blocks
+none_lost : (given : Words) → HasNoOptions given → IsBadImageGiven given V7 (is_set (given (codes "cut"))) None
+none_lost given none = (
+  (ap (λ (words : List (List ℕ)). slice_get words 0) none.bad, ap (λ (words : List (List ℕ)). slice_get words 0) none.blocks),
+  (ap (λ (words : List (List ℕ)). slice_get words 0) none.sizes, ap (λ (words : List (List ℕ)). slice_get words 0) none.like),
+  unset (given (codes "cut")) none.cut,
+)
 
 -- if no option was given, the lines are plain
 plain : (given : Words) (form : Lines) → HasNoOptions given → AreLinesGiven given form → form ≡ lines.Plain
@@ -180,21 +202,34 @@ asks_listing clock given edition image path (invocations.Look volume (looks.List
 asks_listing clock given edition image path (invocations.Change volume (changes.Put p file keep now) trace) test e_is i_is p_is none is = absurd (true≢false (sym test))
 asks_listing clock given edition image path (invocations.Copy volume (copies.Put directory files keep now trace)) test e_is i_is p_is none is = absurd (true≢false (sym test))
 asks_listing clock given edition image path (invocations.Work volume (works.Check checkers.Blocks workers form)) test e_is i_is p_is none is = absurd (true≢false (sym test))
+asks_listing clock given edition image path (invocations.LookBad volume bad (bad_looks.List p listing)) test e_is i_is p_is none is =
+    absurd (not_whole given volume.edition (is_set (given (codes "cut"))) bad is.1.5 (none_lost given none))
 asks_listing clock given edition image path (invocations.LookBad volume bad (bad_looks.Export p options)) test e_is i_is p_is none is = absurd (true≢false (sym test))
 asks_listing clock given edition image path invocation test e_is i_is p_is none is = absurd (true≢false (sym test))
 
 -- if clap found the words of `ls` without options, no option was given
 no_options_by : (met : List ℕ × List Row) (edition : Edition) (image path : List ℕ) → seen (Some met) ≡ words_of edition image path
     → HasNoOptions (words_by met.1)
-no_options_by met edition image path is = record {
-  json = ap (λ (l : List (List ℕ)). slice_index_or l 4 []) is;
-  long = ap (λ (l : List (List ℕ)). slice_index_or l 5 []) is;
-  below = ap (λ (l : List (List ℕ)). slice_index_or l 6 []) is;
-  itself = ap (λ (l : List (List ℕ)). slice_index_or l 7 []) is;
-  slots = ap (λ (l : List (List ℕ)). slice_index_or l 8 []) is;
-  unsound = ap (λ (l : List (List ℕ)). slice_index_or l 9 []) is;
-  at = ap (drop 10) is;
-}
+no_options_by met edition image path is =
+    let given = words_by met.1 in
+    let rest = ap (drop 11) is in
+    let at = empty_both (given (codes "at")) _ rest in
+    let bad = empty_both (given (codes "bad")) _ at.1 in
+    let blocks = empty_both (given (codes "bad-blocks")) _ bad.1 in
+    let sizes = empty_both (given (codes "sizes")) (given (codes "like")) blocks.1 in record {
+      json = ap (λ (l : List (List ℕ)). slice_index_or l 4 []) is;
+      long = ap (λ (l : List (List ℕ)). slice_index_or l 5 []) is;
+      below = ap (λ (l : List (List ℕ)). slice_index_or l 6 []) is;
+      itself = ap (λ (l : List (List ℕ)). slice_index_or l 7 []) is;
+      slots = ap (λ (l : List (List ℕ)). slice_index_or l 8 []) is;
+      unsound = ap (λ (l : List (List ℕ)). slice_index_or l 9 []) is;
+      cut = ap (λ (l : List (List ℕ)). slice_index_or l 10 []) is;
+      at = at.0;
+      bad = bad.0;
+      blocks = blocks.0;
+      sizes = sizes.0;
+      like = sizes.1;
+    }
 
 -- if clap found the command `ls` with its words and no options, every invocation that is read from them is that listing
 listed : (clock : Option ℕ) (met : Option (List ℕ × List Row)) (edition : Edition) (image path : List ℕ) (invocation : Invocation) → seen met ≡ words_of edition image path
@@ -241,6 +276,7 @@ listing_asks clock (Some met) edition image path (invocations.Look volume (looks
           to_names_given (words_by met.1) listing.depth none listed.4,
           unset (words_by met.1 (codes "slots")) none.slots,
           unset (words_by met.1 (codes "unsound")) none.unsound,
+          none_lost (words_by met.1) none,
         ),
       ),
     )

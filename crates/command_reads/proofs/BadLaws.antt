@@ -1,7 +1,11 @@
 -- What `find`, `sums`, `get` and `cat` print of an image of which some blocks couldn't be read is what the volume holds.
-use Rattle.std.proofs.Common.{◌≡◌, ◌≤◌, ◌==◌, ◌||◌, ◌∙◌, ℕ, Bool, true, false, if◌then◌else◌, nat_lt, List, Result, Ok, Err, arith, refl, subst}
+use Rattle.std.proofs.Common.{◌≡◌, ◌≤◌, ◌==◌, ◌||◌, ◌∙◌, ℕ, Bool, true, false, if◌then◌else◌, nat_lt, List, [], Option, Result, Ok, Err, ap, arith, refl, subst}
+use Rattle.std.specs.Option.{unwrap_or}
 use Rattle.std.proofs.lemmas.Bool.{eqb-false, ltb-false}
 use Rattle.vol_archive.specs.Export.{is_directory}
+use Rattle.vol_change.specs.Nodes.{no_node}
+use Rattle.vol_dir.specs.Tree.{Node}
+use Rattle.vol_dir.specs.Walk.{map_of}
 use Rattle.vol_dir.specs.declared.refusal.Refusal.TheVariants as refusals
 use Rattle.vol_layout.specs.BlockPointers.{mode_of}
 use Rattle.vol_layout.specs.Geometry.{geometry_read}
@@ -10,13 +14,14 @@ use Rattle.vol_layout.specs.declared.geometry.Geometry.{Geometry}
 use Rattle.vol_layout.specs.declared.geometry.GeometryFault.{GeometryFault}
 use Rattle.vol_layout.specs.declared.mode.Kind.{Kind}
 use Rattle.vol_layout.specs.declared.mode.Kind.TheVariants as kinds
-use Rattle.vol_listing.proofs.KnownLaws.{sums_right}
+use Rattle.vol_listing.proofs.KnownLaws.{rows_right, sums_right}
 use Rattle.vol_losses.proofs.Agreement.{body_agrees}
 use Rattle.vol_losses.proofs.BadLaws.{rescue_agrees}
 use Rattle.vol_losses.proofs.SureFlags.{whole_is}
+use Rattle.vol_losses.proofs.SureNames.{nodes_same}
 use Rattle.vol_rescue.proofs.KnownFindings.{findings_right}
 use Rattle.vol_rescue.proofs.RightPaths.{paths_right}
-use Rattle.command_reads.specs.BadLaws.{BadBodiesAreRight, BadFilesAreRight, BadFindingsAreRight, BadSumsAreRight, FoundPathsLeadRight}
+use Rattle.command_reads.specs.BadLaws.{BadBodiesAreRight, BadFilesAreRight, BadFindingsAreRight, BadRowsAreRight, BadSumsAreRight, FoundPathsLeadRight}
 use Rattle.command_reads.specs.Cat.{file_by, file_in, file_of, printable}
 use Rattle.command_reads.specs.Unsound.{readable_by}
 use Rattle.command_reads.specs.declared.node.NodeFault.{NodeFault}
@@ -32,6 +37,14 @@ bad_sums_right edition ranges at sizes bytes volume image lost geometry i sum re
     sums_right geometry lost image volume i sum fits (rescue_agrees geometry edition ranges at sizes bytes volume image lost fits rescued has) is
 
 -- what can be printed has the geometry of its image
+pub bad_rows_right : BadRowsAreRight
+bad_rows_right edition ranges at sizes bytes volume image lost geometry i rescued has fits =
+    let agrees = rescue_agrees geometry edition ranges at sizes bytes volume image lost fits rescued has in (
+      rows_right geometry lost image volume i fits agrees,
+      λ whole. ap (λ (node : Option Node). unwrap_or (map_of (unwrap_or node no_node).content) [])
+          (nodes_same geometry lost image volume i fits agrees (whole_is geometry image lost i whole)),
+    )
+
 printed : (g found : Geometry) (kind : Kind) → printable g kind ≡ Ok found → g ≡ found
 printed g found kinds.Regular is = cc
 printed g found kinds.Directory is = cc

@@ -17,11 +17,11 @@ use Rattle.vol_rescue.specs.Damage.{kept_entries}
 use Rattle.vol_rescue.proofs.RightMembers.{archives_right}
 use Rattle.command_faults.specs.Streams.{still}
 use Rattle.command_faults.specs.declared.fault.Fault.{Fault}
+use Rattle.command_reads.proofs.Printed.{told_only}
 use Rattle.command_reads.specs.BadLooks.{IsMisreadEnding, IsUnrescuedEnding, TellsMisread, TellsUnrescued}
 use Rattle.command_reads.specs.Laws.{BadExportsAreRight}
 use Rattle.command_reads.specs.declared.bad_looks.BadMap.{BadMap}
 use Rattle.command_reads.proofs.Exported.{told_incomplete}
-use Rattle.command_reads.proofs.Printed.{told_only}
 
 -- an image that isn't rescued was reported, and nothing was printed
 pub told_unrescued : (edition : Edition) (ranges : List ReadRange) (at : ℕ) (sizes : Option VolumeSizes) (bytes : List ℕ) (known : Option (List ℕ)) (failed : Bool)

@@ -1,9 +1,10 @@
--- Statements on what `find`, `sums`, `get` and `cat` print of an image of which some blocks couldn't be read, and on where its paths lead.
+-- Statements on what `find`, `sums`, `ls`, `get` and `cat` print of an image of which some blocks couldn't be read, and on where its paths lead.
 use Rattle.std.specs.Prelude.{◌≡◌, ℕ, Bool, false, true, List, Option, All, None, Some, Ok}
 use Rattle.bad_maps.specs.declared.maps.ReadRange.{ReadRange}
 use Rattle.vol_archive.specs.Laws.{members_of}
 use Rattle.vol_dir.specs.declared.directories.FoundDirectory.{FoundDirectory}
 use Rattle.vol_archive.specs.declared.met_entries.MetEntry.{MetEntry}
+use Rattle.vol_change.specs.Nodes.{names_at, node_at}
 use Rattle.vol_dir.specs.Access.{user}
 use Rattle.vol_dir.specs.Directories.{directory_at}
 use Rattle.vol_dir.specs.Entries.{HasEntries, IsDirectory}
@@ -21,7 +22,8 @@ use Rattle.vol_layout.specs.declared.geometry.Geometry.{Geometry}
 use Rattle.vol_listing.specs.KnownSums.{known_sum}
 use Rattle.vol_listing.specs.Sums.{sum_at}
 use Rattle.vol_losses.specs.BadImages.{HasRead, IsRescued}
-use Rattle.vol_losses.specs.Losses.{is_whole}
+use Rattle.vol_listing.specs.Rows.{row_of}
+use Rattle.vol_losses.specs.Losses.{is_lost, is_whole, node_block}
 use Rattle.vol_losses.specs.declared.given_sizes.VolumeSizes.{VolumeSizes}
 use Rattle.vol_rescue.specs.KnownOutcomes.{known_outcomes}
 use Rattle.vol_rescue.specs.Paths.{AreSoundAbove}
@@ -45,6 +47,14 @@ abbrev pub BadSumsAreRight : Type 0
 BadSumsAreRight = (edition : Edition) (ranges : List ReadRange) (at : ℕ) (sizes : Option VolumeSizes) (bytes volume image : List ℕ) (lost : List Bool)
     (geometry : Geometry) (i : ℕ) (sum : List ℕ) → IsRescued edition ranges at sizes bytes image lost → HasRead sizes ranges at bytes volume → Fits geometry image
     → known_sum geometry image lost i ≡ Some sum → sum_at (tree geometry volume) i ≡ Some sum
+
+-- what `ls` lists of a node whose i-node isn't lost is what it is in every volume that has the bytes of the known blocks, and a directory of which nothing is
+-- lost has the same names there; whatever the lost blocks held (this project)
+abbrev pub BadRowsAreRight : Type 0
+BadRowsAreRight = (edition : Edition) (ranges : List ReadRange) (at : ℕ) (sizes : Option VolumeSizes) (bytes volume image : List ℕ) (lost : List Bool)
+    (geometry : Geometry) (i : ℕ) → IsRescued edition ranges at sizes bytes image lost → HasRead sizes ranges at bytes volume → Fits geometry image
+    → (is_lost lost (node_block geometry.edition i) ≡ false → row_of i (node_at (tree geometry volume) i) ≡ row_of i (node_at (tree geometry image) i))
+    × (is_whole geometry image lost i ≡ true → names_at (tree geometry volume) i ≡ names_at (tree geometry image) i)
 
 -- the bytes that `get` prints of a file of which nothing is lost are those of the file in every volume that has the bytes of the known blocks, whatever
 -- the lost blocks held (this project)

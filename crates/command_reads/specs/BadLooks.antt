@@ -18,6 +18,7 @@ use Rattle.command_faults.specs.Faults.{fault_line, no_memory}
 use Rattle.command_faults.specs.Streams.{Streams}
 use Rattle.command_faults.specs.declared.fault.Fault.{Fault}
 use Rattle.command_reads.specs.BadFiles.{cat_sights, get_sights}
+use Rattle.command_reads.specs.BadLists.{list_sights}
 use Rattle.command_reads.specs.Check.{check_sights}
 use Rattle.command_reads.specs.Export.{ExportsFrom, begun}
 use Rattle.command_reads.specs.Find.{found_sights}
@@ -88,6 +89,8 @@ ShowsRescued edition image lost screen streams status (bad_looks.Sums path form 
     Shows (sums_sights edition image lost path.now form orphans) streams status
 ShowsRescued edition image lost screen streams status (bad_looks.Check graded form) =
     Shows (check_sights edition image lost graded form) streams status
+ShowsRescued edition image lost screen streams status (bad_looks.List path listing) =
+    Shows (list_sights edition image lost path.now listing screen) streams status
 ShowsRescued edition image lost screen streams status (bad_looks.Read path damaged) =
     Shows (get_sights edition image lost path.now damaged) streams status
 ShowsRescued edition image lost screen streams status (bad_looks.Body node damaged) = Shows (cat_sights edition image lost node damaged) streams status

@@ -7,11 +7,12 @@ ghost use Rattle.vol_losses.specs.Losses.{is_whole};
 ghost use Rattle.vol_rescue.specs.Lines.{TellsNamed};
 ghost use Rattle.command_faults.specs.Faults.{line_after};
 ghost use Rattle.command_faults.specs.Streams.{streams};
-ghost use Rattle.command_reads.specs.BadFiles.{IsBody, IsBodyFault, IsFileUnreached, IsFileUnreachedFault, IsOpened, TellsUnopened, as_start, cat_sights, file_sights, get_sights, place_of, told_entries, told_of};
+ghost use Rattle.command_reads.specs.BadFiles.{IsBody, IsBodyFault, IsFileUnreached, IsFileUnreachedFault, IsOpened, TellsUnopened, as_start, cat_sights, file_sights, get_sights, place_of, told_entries, told_of, way_entries};
 ghost use Rattle.command_reads.specs.Cat.{file_of};
 ghost use Rattle.command_reads.specs.Node.{number_of};
 ghost use Rattle.command_reads.specs.Print.{Shows, plainly};
 ghost use Rattle.command_reads.specs.Unsound.{IsUnopened};
+ghost use Rattle.command_reads.specs.Ways.{unsure_on};
 ghost use Rattle.command_reads.specs.declared.node.NodeFault.{NodeFault};
 
 use crate::cat::{open, show};
@@ -161,7 +162,7 @@ fn is_shown(image: &Image, lost: &[bool], file: &FoundFile, damaged: bool) -> bo
 }
 
 /// Returns what is shown of a node that isn't opened for this reason.
-fn unreached(
+pub(crate) fn unreached(
     alloc: Global,
     edition: Edition,
     image: &Image,
@@ -263,7 +264,7 @@ fn told_of(
 }
 
 /// Returns what is told of a file at a path: the last node on its path from which it can't be trusted where paths lead, if there is one, and the file.
-fn told_entries(
+pub(crate) fn told_entries(
     alloc: Global,
     image: &Image,
     geometry: &Geometry,
@@ -274,14 +275,29 @@ fn told_entries(
     requires { Fits geometry.now image.now }
     ensures { IfOk result (λ founds. founds.items ≡ told_entries geometry.now image.now lost.now path.now inode) }
 {
-    let mut founds = Vec::new(alloc);
-    if let Some(found) = unsure_on(alloc, image, geometry, lost, path)? {
-        founds.push(found)?;
-    }
+    let mut founds = way_entries(alloc, image, geometry, lost, path)?;
     founds.push(MetEntry {
         path: Bytes::from_slice(alloc, path)?,
         inode,
         role: Role::File,
     })?;
+    Ok(founds)
+}
+
+/// Returns the last node on a path from which it can't be trusted where paths lead, if there is one.
+pub(crate) fn way_entries(
+    alloc: Global,
+    image: &Image,
+    geometry: &Geometry,
+    lost: &[bool],
+    path: &[u8],
+) -> Result<Vec<MetEntry>, AllocError>
+    requires { Fits geometry.now image.now }
+    ensures { IfOk result (λ founds. founds.items ≡ way_entries (unsure_on geometry.now image.now lost.now path.now)) }
+{
+    let mut founds = Vec::new(alloc);
+    if let Some(found) = unsure_on(alloc, image, geometry, lost, path)? {
+        founds.push(found)?;
+    }
     Ok(founds)
 }

@@ -5,6 +5,7 @@ ghost use Rattle.command_reads.specs.BadLooks.{IsMisreadEnding, IsUnrescuedEndin
 
 use crate::bad_files::{print_in, read_in};
 use crate::bad_images::rescue_image;
+use crate::bad_lists::list_in;
 use crate::check::check_in;
 use crate::export::{export_read, unread};
 use crate::find::find_in;
@@ -107,6 +108,18 @@ fn show_rescued<O: Sink>(
         }
         BadLook::Check { graded, form } => {
             let shown = check_in(alloc, edition, &read.image, &read.lost, graded, form);
+            print(shown, output)
+        }
+        BadLook::List { path, listing } => {
+            let shown = list_in(
+                alloc,
+                edition,
+                &read.image,
+                &read.lost,
+                path,
+                listing,
+                screen,
+            );
             print(shown, output)
         }
         BadLook::Read { path, damaged } => {

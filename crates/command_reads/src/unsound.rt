@@ -47,7 +47,7 @@ pub(crate) fn list_unsound(
 }
 
 /// Returns the geometry of an image if a listing can begin with i-node `ino`.
-fn listable(
+pub(crate) fn listable(
     edition: Edition,
     image: &Image,
     ino: u16,
@@ -109,12 +109,12 @@ pub(crate) fn read_unsound<O: Sink>(
     }
 }
 
-/// A regular file of an image.
+/// A node of an image: a regular file, or whatever else a command shows.
 #[derive(Clone, Copy)]
 pub(crate) struct FoundFile {
     /// The geometry of the image.
     pub(crate) geometry: Geometry,
-    /// The i-number of the file.
+    /// The i-number of the node.
     pub(crate) inode: u16,
 }
 

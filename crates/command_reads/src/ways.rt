@@ -162,7 +162,7 @@ fn last_seen(
 }
 
 /// True if it can't be trusted where paths lead from node `i`, which may be any number: its i-node is lost, or bytes of it are and it is a directory.
-fn is_unsure_node(image: &Image, geometry: &Geometry, lost: &[bool], i: u16) -> bool
+pub(crate) fn is_unsure_node(image: &Image, geometry: &Geometry, lost: &[bool], i: u16) -> bool
     requires { Fits geometry.now image.now }
     ensures { result ≡ is_unsure_node geometry.now image.now lost.now i }
 {

@@ -1,6 +1,7 @@
 //! The parts that commands show of an image of which some blocks couldn't be read.
 
 use crate::looks::{ExportOptions, NodeName, OutputForm};
+use vol_listing::ListOptions;
 
 /// What a command shows of an image of which some blocks couldn't be read.
 #[derive(Clone, Copy)]
@@ -27,6 +28,11 @@ pub enum BadLook<'a> {
     Check {
         graded: bool,
         form: OutputForm,
+    },
+    /// The names in a directory, or a file, as for [`Look::ListUnsound`](crate::Look::ListUnsound).
+    List {
+        path: &'a str,
+        listing: ListOptions,
     },
     /// The bytes of a regular file, as for [`Look::ReadUnsound`](crate::Look::ReadUnsound). With `damaged`, also those of a damaged one, with zeros in
     /// place of the bytes that are lost.

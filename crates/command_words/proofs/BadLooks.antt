@@ -6,9 +6,11 @@ use Rattle.command_terms.specs.declared.bad_looks.BadLook.TheVariants as bad_loo
 use Rattle.command_terms.specs.declared.looks.ExportOptions.{ExportOptions}
 use Rattle.command_terms.specs.declared.looks.NodeName.{NodeName}
 use Rattle.command_terms.specs.declared.looks.OutputForm.{OutputForm}
+use Rattle.vol_listing.specs.Depths.{goes_below}
+use Rattle.vol_listing.specs.declared.options.ListOptions.{ListOptions}
 use Rattle.command_words.specs.BadWords.{IsBadImageGiven}
 use Rattle.command_terms.specs.declared.options.Repairing.{Repairing}
-use Rattle.command_words.specs.Invocations.{AsksFor, IsExportGiven, IsFormGiven, IsNodeGiven, IsOnePathGiven, IsRepairGiven, IsVolumeGiven, Words, is_set, look_at, repair_at, the_word}
+use Rattle.command_words.specs.Invocations.{AreLinesGiven, AsksFor, IsDepthGiven, IsExportGiven, IsFormGiven, IsNodeGiven, IsOnePathGiven, IsRepairGiven, IsVolumeGiven, Words, is_set, look_at, repair_at, the_word}
 use Rattle.command_words.specs.declared.invocation.BadImage.{BadImage}
 use Rattle.command_words.specs.declared.invocation.MadeFile.{MadeFile}
 use Rattle.command_words.specs.declared.invocation.VolumeFile.{VolumeFile}
@@ -43,6 +45,17 @@ pub sums_asked : (clock : Option ℕ) (given : Words) (volume : VolumeFile) (pat
     → AsksFor clock verbs.Sums given (look_at volume (bad_looks.Sums path form lost) bad)
 sums_asked clock given volume path form lost None named is shown orphans none = (refl, (named, (is, shown, orphans, none)))
 sums_asked clock given volume path form lost (Some image) named is shown orphans bad = (refl, (named, (is, shown, orphans, bad)))
+
+-- the words of `ls` ask for its invocation, if the volume need not be sound
+pub list_asked : (clock : Option ℕ) (given : Words) (volume : VolumeFile) (path : Bor (List ℕ)) (listing : ListOptions) (bad : Option BadImage)
+    → IsVolumeGiven given volume → path.now ≡ the_word given (codes "PATH") → AreLinesGiven given listing.lines → IsDepthGiven given listing.depth
+    → goes_below listing.depth ≡ false → is_set (given (codes "slots")) ≡ false → (bad ≡ None → is_set (given (codes "unsound")) ≡ true)
+    → IsBadImageGiven given volume.edition (is_set (given (codes "cut"))) bad
+    → AsksFor clock verbs.Ls given (look_at volume (bad_looks.List path listing) bad)
+list_asked clock given volume path listing None named is lines depth level plain unsound none =
+    (refl, (named, (is, lines, depth, plain, unsound refl, level, none)))
+list_asked clock given volume path listing (Some image) named is lines depth level plain unsound bad =
+    (refl, (named, (is, lines, depth, plain, level, bad)))
 
 -- the words of `get` ask for its invocation, if the volume need not be sound
 pub get_asked : (clock : Option ℕ) (given : Words) (volume : VolumeFile) (path : Bor (List ℕ)) (damaged : Bool) (bad : Option BadImage) → IsVolumeGiven given volume

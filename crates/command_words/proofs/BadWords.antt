@@ -32,6 +32,7 @@ is_rescuer verbs.Check = true
 is_rescuer verbs.Export = true
 is_rescuer verbs.Find = true
 is_rescuer verbs.Get = true
+is_rescuer verbs.Ls = true
 is_rescuer verbs.Repair = true
 is_rescuer verbs.Sums = true
 is_rescuer _ = false
@@ -63,7 +64,9 @@ image_two given edition is_cut image is (inr both) = sizes_two given edition ima
 -- an invocation of such a command isn't read from words that give two options that exclude each other
 one_way : (clock : Option ℕ) (given : Words) (invocation : Invocation) → is_rescuer (verb_of invocation) ≡ true → IsGiven clock given invocation → AreTwoGiven given → ⊥
 unfolding is_rescuer
-one_way clock given (invocations.Look volume (looks.List path listing)) read is both = absurd (true≢false (sym read))
+one_way clock given (invocations.Look volume (looks.List path listing)) read is both = none_two given V7 is.1.5 both
+one_way clock given (invocations.Look volume (looks.Slots path form)) read is both = none_two given V7 is.1.3 both
+one_way clock given (invocations.Look volume (looks.ListUnsound path listing)) read is both = none_two given V7 is.1.6 both
 one_way clock given (invocations.Change volume (changes.Put p file keep now) trace) read is both = absurd (true≢false (sym read))
 one_way clock given (invocations.Copy volume (copies.Put directory files keep now trace)) read is both = absurd (true≢false (sym read))
 one_way clock given (invocations.Work volume (works.Check checkers.Blocks workers form)) read is both = absurd (true≢false (sym read))
@@ -80,6 +83,7 @@ one_way clock given (invocations.LookBad volume image (bad_looks.Sums p form los
 one_way clock given (invocations.Get volume path) read is both = none_two given V7 is.3 both
 one_way clock given (invocations.Copy volume (copies.Get folder paths keeps)) read is both = none_two given V7 is.1.4 both
 one_way clock given (invocations.Look volume (looks.ReadUnsound path)) read is both = none_two given V7 is.1.2 both
+one_way clock given (invocations.LookBad volume image (bad_looks.List p listing)) read is both = image_two given volume.edition _ image is.1.5 both
 one_way clock given (invocations.LookBad volume image (bad_looks.Read p damaged)) read is both = image_two given volume.edition _ image is.1.2 both
 one_way clock given (invocations.Cat volume node) read is both = none_two given V7 is.2 both
 one_way clock given (invocations.LookBad volume image (bad_looks.Body node damaged)) read is both = image_two given volume.edition _ image is.1.2 both
@@ -134,3 +138,10 @@ cat_wrong clock given (inl list) = no_value clock verbs.Cat given (inr (inr (inr
 cat_wrong clock given (inr (inl sizes)) = no_value clock verbs.Cat given (inr (inr (inr (inr (inr (inr (inr (inl sizes))))))))
 cat_wrong clock given (inr (inr (inl disk))) = no_value clock verbs.Cat given (inr (inr (inr (inr (inr (inr (inr (inr (inl disk)))))))))
 cat_wrong clock given (inr (inr (inr both))) = λ invocation asks. one_way clock given invocation (sym (ap is_rescuer asks.0)) asks.1 both
+
+pub ls_wrong : (clock : Option ℕ) (given : Words) → IsBadWrong given → AsksForNothing clock verbs.Ls given
+unfolding AsksForNothing is_rescuer
+ls_wrong clock given (inl list) = no_value clock verbs.Ls given (inr (inr (inr (inr (inr (inr (inr (inr (inr (inr (inr (inr (inl list)))))))))))))
+ls_wrong clock given (inr (inl sizes)) = no_value clock verbs.Ls given (inr (inr (inr (inr (inr (inr (inr (inr (inr (inr (inr (inr (inr (inl sizes))))))))))))))
+ls_wrong clock given (inr (inr (inl disk))) = no_value clock verbs.Ls given (inr (inr (inr (inr (inr (inr (inr (inr (inr (inr (inr (inr (inr (inr (inl disk)))))))))))))))
+ls_wrong clock given (inr (inr (inr both))) = λ invocation asks. one_way clock given invocation (sym (ap is_rescuer asks.0)) asks.1 both

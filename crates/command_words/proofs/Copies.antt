@@ -175,7 +175,7 @@ unsound_got clock given folder is set = no_get clock given go
     go (inr several) = true≢false (sym set ∙ several.4)
 
 -- words that say that blocks are lost don't say that none is
-not_whole : (given : Words) (edition : Edition) (is_cut : Bool) (image : BadImage) → IsImageGiven given edition is_cut image → IsBadImageGiven given V7 is_cut None → ⊥
+pub not_whole : (given : Words) (edition : Edition) (is_cut : Bool) (image : BadImage) → IsImageGiven given edition is_cut image → IsBadImageGiven given V7 is_cut None → ⊥
 not_whole given edition is_cut image is none = elim is.1 [
   | inl bad ↦ listed image.bad bad
   | inr rest ↦ sized image.sizes is.0 rest.1

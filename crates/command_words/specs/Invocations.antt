@@ -248,6 +248,7 @@ bad_look_verb (bad_looks.Export path options) = verbs.Export
 bad_look_verb (bad_looks.Find path name lost form) = verbs.Find
 bad_look_verb (bad_looks.Sums path form lost) = verbs.Sums
 bad_look_verb (bad_looks.Check graded form) = verbs.Check
+bad_look_verb (bad_looks.List path listing) = verbs.Ls
 bad_look_verb (bad_looks.Read path damaged) = verbs.Get
 bad_look_verb (bad_looks.Body node damaged) = verbs.Cat
 
@@ -509,11 +510,12 @@ IsLookGiven given (looks.Check graded form) = (graded ≡ is_set (given (codes "
     × IsBadImageGiven given V7 (is_set (given (codes "cut"))) None
 IsLookGiven given (looks.List path listing) = (path.now ≡ the_word given (codes "PATH")) × AreLinesGiven given listing.lines
     × IsDepthGiven given listing.depth × (is_set (given (codes "slots")) ≡ false) × (is_set (given (codes "unsound")) ≡ false)
+    × IsBadImageGiven given V7 (is_set (given (codes "cut"))) None
 IsLookGiven given (looks.Slots path form) = (path.now ≡ the_word given (codes "PATH")) × (is_set (given (codes "slots")) ≡ true)
-    × IsFormGiven given form
+    × IsFormGiven given form × IsBadImageGiven given V7 (is_set (given (codes "cut"))) None
 IsLookGiven given (looks.ListUnsound path listing) = (path.now ≡ the_word given (codes "PATH")) × AreLinesGiven given listing.lines
     × IsDepthGiven given listing.depth × (is_set (given (codes "slots")) ≡ false) × (is_set (given (codes "unsound")) ≡ true)
-    × (goes_below listing.depth ≡ false)
+    × (goes_below listing.depth ≡ false) × IsBadImageGiven given V7 (is_set (given (codes "cut"))) None
 IsLookGiven given (looks.ReadUnsound path) = IsOnePathGiven given path.now × (is_set (given (codes "unsound")) ≡ true)
     × IsBadImageGiven given V7 (is_set (given (codes "cut"))) None
 
@@ -529,6 +531,9 @@ IsBadLookGiven given edition image (bad_looks.Sums path form lost) = (path.now �
     × (lost ≡ is_set (given (codes "lost"))) × IsBadImageGiven given edition (is_set (given (codes "cut"))) (Some image)
 IsBadLookGiven given edition image (bad_looks.Check graded form) = (graded ≡ is_set (given (codes "status"))) × IsFormGiven given form
     × IsBadImageGiven given edition (is_set (given (codes "cut"))) (Some image)
+IsBadLookGiven given edition image (bad_looks.List path listing) = (path.now ≡ the_word given (codes "PATH")) × AreLinesGiven given listing.lines
+    × IsDepthGiven given listing.depth × (is_set (given (codes "slots")) ≡ false) × (goes_below listing.depth ≡ false)
+    × IsBadImageGiven given edition (is_set (given (codes "cut"))) (Some image)
 IsBadLookGiven given edition image (bad_looks.Read path damaged) = IsOnePathGiven given path.now × (damaged ≡ is_set (given (codes "damaged")))
     × IsBadImageGiven given edition (is_set (given (codes "cut"))) (Some image)
 IsBadLookGiven given edition image (bad_looks.Body node damaged) = IsNodeGiven (the_word given (codes "INO")) node
@@ -540,6 +545,7 @@ whole_at volume (bad_looks.Export path options) = invocations.Look volume (looks
 whole_at volume (bad_looks.Find path name lost form) = invocations.Look volume (looks.Find path name lost form)
 whole_at volume (bad_looks.Sums path form lost) = invocations.Look volume (looks.Sums path form lost)
 whole_at volume (bad_looks.Check graded form) = invocations.Look volume (looks.Check graded form)
+whole_at volume (bad_looks.List path listing) = invocations.Look volume (looks.ListUnsound path listing)
 whole_at volume (bad_looks.Read path damaged) = invocations.Look volume (looks.ReadUnsound path)
 whole_at volume (bad_looks.Body node damaged) = invocations.Cat volume node
 

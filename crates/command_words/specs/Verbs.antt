@@ -102,7 +102,8 @@ row_of verbs.Cat = (codes "cat", on_volume (node ∷ option (codes "cut") ∷ wi
 row_of verbs.Ls = (
   codes "ls",
   on_volume (maybe_path ∷ lettered (codes "long") 108 ∷ lettered (codes "recursive") 82
-      ∷ lettered (codes "directory") 100 ∷ option (codes "json") ∷ option (codes "slots") ∷ option (codes "unsound") ∷ []),
+      ∷ lettered (codes "directory") 100 ∷ option (codes "json") ∷ option (codes "slots") ∷ option (codes "unsound")
+      ∷ option (codes "cut") ∷ with_bad []),
 )
 row_of verbs.Get = (
   codes "get",

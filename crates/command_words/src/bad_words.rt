@@ -1,11 +1,11 @@
 //! Reads the words about an image of which some blocks couldn't be read.
-ghost use Rattle.std.specs.Prelude.{◌≡◌, ◌∷◌, [], IfErr, IfOk};
+ghost use Rattle.std.specs.Prelude.{◌≡◌, ◌∷◌, [], None, false, true, codes, IfErr, IfOk};
 ghost use Rattle.command_words.specs.BadWords.{IsBadImageGiven, IsBadIfAny, IsBadWrong, IsSizesGiven, sizes_from, sizes_of, whole_file};
-ghost use Rattle.command_words.specs.Invocations.{TellsOf, look_at, whole_at};
+ghost use Rattle.command_words.specs.Invocations.{TellsOf, is_set, look_at, whole_at};
 
 use crate::disks::{disk_blocks, list_default};
 use crate::fault::WordFault;
-use crate::given::{Given, excluded, wrong};
+use crate::given::{Given, excluded, flag_in, wrong};
 use crate::invocation::{BadImage, GivenBad, Invocation, VolumeFile};
 use crate::parameters::{Need, Parameter, ValueName, WordKind};
 use bad_maps::{ListFault, ReadRange, read_list};
@@ -116,10 +116,35 @@ fn whole_at<'a>(volume: VolumeFile<'a>, look: BadLook<'a>) -> Invocation<'a>
         },
         BadLook::Sums { path, form, lost } => Look::Sums { path, form, lost },
         BadLook::Check { graded, form } => Look::Check { graded, form },
+        BadLook::List { path, listing } => Look::ListUnsound { path, listing },
         BadLook::Read { path, .. } => Look::ReadUnsound { path },
         BadLook::Body { node, .. } => return Invocation::Cat { volume, node },
     };
     Invocation::Look { volume, look }
+}
+
+/// True if the words ask for something of a sound volume: the volume has to be sound, and none of its blocks is lost.
+pub(crate) fn is_plain<'a, G: Given<'a>>(given: &G, bad: &Option<BadImage<'a>>) -> bool
+    ensures plain { result ≡ true → (bad.now ≡ None) × (is_set (G.words given.now (codes "unsound")) ≡ false) }
+    ensures other { result ≡ false → bad.now ≡ None → is_set (G.words given.now (codes "unsound")) ≡ true }
+{
+    bad.is_none() && !flag_in(given, "unsound")
+}
+
+/// Returns the name of the first option that says that blocks of the image are lost; or, with `is_unsound`, that of the one for an unsound volume.
+pub(crate) fn losing_in<'a, G: Given<'a>>(given: &G, is_unsound: bool) -> &'a str {
+    match (
+        given.first("bad"),
+        given.first("bad-blocks"),
+        given.first("sizes"),
+    ) {
+        _ if is_unsound => "unsound",
+        _ if flag_in(given, "cut") => "cut",
+        (Some(_), ..) => "bad",
+        (None, Some(_), _) => "bad-blocks",
+        (None, None, Some(_)) => "sizes",
+        (None, None, None) => "like",
+    }
 }
 
 /// Returns the range of all bytes that a file can have.

@@ -1,11 +1,12 @@
 -- The end of a command that shows part of an image of which some blocks couldn't be read.
-use Rattle.std.proofs.Common.{◌≡◌, ◌≤◌, ℕ, Bool, true, false, List, [], ◌∷◌, Option, inl, inr, arith, subst, sym}
+use Rattle.std.proofs.Common.{◌≡◌, ◌≤◌, ◌==◌, ℕ, Bool, true, false, if◌then◌else◌, List, [], ◌∷◌, length, Option, inl, inr, arith, subst, sym}
 use Rattle.std.specs.Prelude.{option_map}
 use Rattle.std.specs.Result.{is_ok}
 use Rattle.bad_maps.specs.declared.maps.ReadRange.{ReadRange}
 use Rattle.command_faults.specs.Faults.{no_memory}
 use Rattle.command_faults.specs.Streams.{Streams}
 use Rattle.command_reads.specs.BadFiles.{cat_sights, get_sights}
+use Rattle.command_reads.specs.BadLists.{list_sights}
 use Rattle.command_reads.specs.BadLooks.{LooksBad, LooksRescued, ShowsRescued, TellsUnrescued}
 use Rattle.command_reads.specs.Check.{check_sights, verdict_status}
 use Rattle.command_reads.specs.Export.{begun, told_status}
@@ -53,6 +54,13 @@ verdict_six true true false = omega arith
 verdict_six true false false = omega arith
 verdict_six false measured false = omega arith
 
+-- so has a look at a node of which something is lost, or on the way to which something is; otherwise its status is that of the lines
+known_few : (short : Bool) (wanted : ℕ) (lines : List ℕ) → wanted ≡ (if length lines == 0 then 0 else told_status true short)
+    → (wanted ≤ 6) × (wanted ≡ 0 → lines ≡ [])
+known_few short wanted lines is =
+    let told = told_few true short in
+    lines_few 6 (told_status true short) wanted lines told.0 told.1 is
+
 ends_rescued : (edition : Edition) (image : List ℕ) (lost : List Bool) (screen : Screen) (streams : Streams) (status : ℕ) (look : BadLook)
     → ShowsRescued edition image lost screen streams status look → IsEndWithin 6 streams status
 ends_rescued edition image lost screen streams status (bad_looks.Export path options) shows =
@@ -80,14 +88,21 @@ ends_rescued edition image [] screen streams status (bad_looks.Check graded form
 ends_rescued edition image (mark ∷ lost) screen streams status (bad_looks.Check graded form) shows =
     ends_shows 6 (check_sights edition image (mark ∷ lost) graded form) streams status (omega arith)
     (λ text wanted lines is. (subst (λ n. n ≤ 6) (sym is.0.3) (verdict_six graded (is_ok (geometry_read edition image)) false), λ e. is.1)) shows
+ends_rescued edition image [] screen streams status (bad_looks.List path listing) shows =
+    ends_shows 6 (list_sights edition image [] path.now listing screen) streams status (omega arith)
+    (λ text wanted lines is. lines_few 6 1 wanted lines (omega arith) (omega arith) is.1) shows
+ends_rescued edition image (mark ∷ lost) screen streams status (bad_looks.List path listing) shows =
+    ends_shows 6 (list_sights edition image (mark ∷ lost) path.now listing screen) streams status (omega arith)
+    (λ text wanted lines is. elim is [
+      | inl known ↦ known_few known.0.short wanted lines known.1
+      | inr (why, found, way, none, five) ↦ (omega (arith, five), λ e. absurd (omega (arith, five, e)))
+    ]) shows
 ends_rescued edition image [] screen streams status (bad_looks.Read path damaged) shows =
     ends_shows 6 (get_sights edition image [] path.now damaged) streams status (omega arith) (λ text wanted lines is. lines_few 6 1 wanted lines (omega arith) (omega arith) is.1) shows
 ends_rescued edition image (mark ∷ lost) screen streams status (bad_looks.Read path damaged) shows =
     ends_shows 6 (get_sights edition image (mark ∷ lost) path.now damaged) streams status (omega arith)
     (λ text wanted lines is. elim is [
-      | inl known ↦
-          let told = told_few true known.0.short in
-          lines_few 6 (told_status true known.0.short) wanted lines told.0 told.1 known.1
+      | inl known ↦ known_few known.0.short wanted lines known.1
       | inr (why, found, way, none, five) ↦ (omega (arith, five), λ e. absurd (omega (arith, five, e)))
     ]) shows
 ends_rescued edition image [] screen streams status (bad_looks.Body node damaged) shows =
@@ -95,9 +110,7 @@ ends_rescued edition image [] screen streams status (bad_looks.Body node damaged
 ends_rescued edition image (mark ∷ lost) screen streams status (bad_looks.Body node damaged) shows =
     ends_shows 6 (cat_sights edition image (mark ∷ lost) node damaged) streams status (omega arith)
     (λ text wanted lines is. elim is [
-      | inl known ↦
-          let told = told_few true known.0.short in
-          lines_few 6 (told_status true known.0.short) wanted lines told.0 told.1 known.1
+      | inl known ↦ known_few known.0.short wanted lines known.1
       | inr (why, found, way, none, five) ↦ (omega (arith, five), λ e. absurd (omega (arith, five, e)))
     ]) shows
 

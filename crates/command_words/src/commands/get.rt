@@ -3,7 +3,9 @@ ghost use Rattle.std.specs.Prelude.{◌≡◌, ◌≢◌, None, false, true, IfE
 ghost use Rattle.command_words.specs.Invocations.{AsksFor, AsksForNothing, TellsOf, is_set};
 ghost use Rattle.command_words.specs.declared.verbs.Verb.TheVariants as verbs;
 
-use crate::bad_words::{BAD, BAD_BLOCKS, CUT, DAMAGED, LIKE, SIZES, bad_image_in, look_at};
+use crate::bad_words::{
+    BAD, BAD_BLOCKS, CUT, DAMAGED, LIKE, SIZES, bad_image_in, is_plain, look_at, losing_in,
+};
 use crate::fault::WordFault;
 use crate::given::{Given, excluded, flag_in, missing, text_in};
 use crate::invocation::{BadImage, Copying, Invocation};
@@ -152,14 +154,6 @@ fn not_unsound<'a, G: Given<'a>>(given: &G) -> Result<(), WordFault<'a>>
     }
 }
 
-/// True if the words ask for a file of a sound volume: the volume has to be sound, and none of its blocks is lost.
-fn is_plain<'a, G: Given<'a>>(given: &G, bad: &Option<BadImage<'a>>) -> bool
-    ensures plain { result ≡ true → (bad.now ≡ None) × (is_set (G.words given.now (codes "unsound")) ≡ false) }
-    ensures other { result ≡ false → bad.now ≡ None → is_set (G.words given.now (codes "unsound")) ≡ true }
-{
-    bad.is_none() && !flag_in(given, "unsound")
-}
-
 /// Succeeds if no block of the image is lost, so that several files can be read.
 fn not_bad<'a, G: Given<'a>>(given: &G, bad: &Option<BadImage<'a>>) -> Result<(), WordFault<'a>>
     ensures none { IfOk result (λ _. bad.now ≡ None) }
@@ -167,22 +161,7 @@ fn not_bad<'a, G: Given<'a>>(given: &G, bad: &Option<BadImage<'a>>) -> Result<()
 {
     match bad {
         None => Ok(()),
-        Some(_) => Err(excluded("output", losing_in(given), OUTPUT.help)),
-    }
-}
-
-/// Returns the name of the first option that says that blocks of the image are lost.
-fn losing_in<'a, G: Given<'a>>(given: &G) -> &'a str {
-    match (
-        given.first("bad"),
-        given.first("bad-blocks"),
-        given.first("sizes"),
-    ) {
-        _ if flag_in(given, "cut") => "cut",
-        (Some(_), ..) => "bad",
-        (None, Some(_), _) => "bad-blocks",
-        (None, None, Some(_)) => "sizes",
-        (None, None, None) => "like",
+        Some(_) => Err(excluded("output", losing_in(given, false), OUTPUT.help)),
     }
 }
 

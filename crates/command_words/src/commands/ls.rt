@@ -1,16 +1,19 @@
 //! The command `ls`.
-ghost use Rattle.std.specs.Prelude.{◌≡◌, false, true, IfErr, IfOk};
+ghost use Rattle.std.specs.Prelude.{◌≡◌, ◌≢◌, None, false, true, IfErr, IfOk};
 ghost use Rattle.vol_listing.specs.Depths.{goes_below};
 ghost use Rattle.vol_listing.specs.declared.options.Depth.{Depth};
 ghost use Rattle.command_words.specs.Invocations.{AreLinesGiven, AsksFor, AsksForNothing, IsDepthGiven, TellsOf};
 ghost use Rattle.command_words.specs.declared.verbs.Verb.TheVariants as verbs;
 
+use crate::bad_words::{
+    BAD, BAD_BLOCKS, CUT, LIKE, SIZES, bad_image_in, is_plain, look_at, losing_in,
+};
 use crate::fault::WordFault;
 use crate::given::{Given, excluded, flag_in, text_in};
-use crate::invocation::Invocation;
+use crate::invocation::{BadImage, Invocation};
 use crate::parameters::{AT, EDITION, IMAGE, JSON, Need, Parameter, UNSOUND, WordKind};
 use crate::read_words::{form_in, volume_in};
-use command_terms::Look;
+use command_terms::{BadLook, Look};
 use std::alloc::Global;
 use vol_listing::{Depth, Lines, ListOptions};
 
@@ -24,6 +27,7 @@ Examples:
   unixvol ls -l -R 7 disk.img
   unixvol ls -l -d 7 disk.img /usr/src
   unixvol ls --slots 7 disk.img /usr/src
+  unixvol ls -l --cut 7 cut-off.img /usr
 
 Each name has a line: the i-number, right-aligned in 5 columns, a space, and the name. Names are in ascending
 order of their bytes, and include `.` and `..`. With -l, -R, -d or --json PATH may also be a file, which is then listed
@@ -50,16 +54,26 @@ With --unsound, what is there is listed even if the volume breaks one of rules 3
 that was damaged is listed as it is. -R can't be used then, since a directory of an unsound volume may be within
 itself; `unixvol find` prints the paths of everything below.
 
+With --cut, --bad, --bad-blocks, --sizes and --like, blocks of the image are lost, as `unixvol export --help` says of
+them. The names are those that can be read without these blocks. A line on standard error tells what is lost of each
+node that is listed, of the directory, and on the way there. An i-node that is lost is listed as if its bytes were zeros, and
+has a line. If PATH isn't found and something is lost on the way, a line says what is lost, and nothing is
+listed. -R and --slots can't be used then. If no block is lost after all, the options do what --unsound does.
+
 Status:
   0  the names were printed
   1  `unixvol: unsound, rule N`: this is the first rule that the volume breaks; `unixvol check` says what breaks it;
      nothing was printed, or, with --unsound and from rule 3 on, the names were
+     if blocks are lost (--cut, --bad, --bad-blocks, --sizes, --like): nothing that is listed is damaged
      `unixvol: 2 NoEntry`: there is no such file or directory
      `unixvol: 20 NotDirectory`: PATH leads through something that isn't a directory; or, with --slots or without -l,
      -R, -d and --json, PATH isn't a directory itself
-  2  the command line is wrong
-  3  `unixvol: cannot read IMAGE`, or `unixvol: cannot write -`: standard output failed
-  4  `unixvol: 12 NoMemory`";
+  2  the command line is wrong; or no volume of the edition has the sizes of --sizes or --like
+  3  `unixvol: cannot read IMAGE`, or `unixvol: cannot write -`: standard output failed; or MAPFILE can't be read
+  4  `unixvol: 12 NoMemory`
+  5  if blocks are lost: something that is listed is damaged, or PATH isn't found and something is lost on the way, as
+     standard error says
+  6  if blocks are lost: more than 1048576 blocks of the image are missing";
 
 const PATH: Parameter = Parameter {
     name: "PATH",
@@ -98,12 +112,13 @@ const SLOTS: Parameter = Parameter {
 
 /// The words that `ls` takes.
 pub(crate) const WORDS: &[Parameter] = &[
-    EDITION, IMAGE, AT, PATH, LONG, RECURSIVE, DIRECTORY, JSON, SLOTS, UNSOUND,
+    EDITION, IMAGE, AT, PATH, LONG, RECURSIVE, DIRECTORY, JSON, SLOTS, UNSOUND, CUT, BAD,
+    BAD_BLOCKS, SIZES, LIKE,
 ];
 
 /// Reads the words of `ls`.
 pub(crate) fn read<'a, G: Given<'a>>(
-    _alloc: Global,
+    alloc: Global,
     given: &G,
     _clock: Option<u32>,
 ) -> Result<Invocation<'a>, WordFault<'a>>
@@ -112,23 +127,29 @@ pub(crate) fn read<'a, G: Given<'a>>(
 {
     let volume = volume_in(given)?;
     let path = text_in(given, "PATH");
-    let look = if flag_in(given, "slots") {
-        let form = form_in(given);
-        Look::Slots { path, form }
-    } else if flag_in(given, "unsound") {
-        let listing = level_in(given)?;
-        Look::ListUnsound { path, listing }
-    } else {
+    let cut = flag_in(given, "cut");
+    let bad = bad_image_in(alloc, given, volume.edition, cut)?;
+    if flag_in(given, "slots") {
+        no_slots(given, &bad)?;
+        let look = Look::Slots {
+            path,
+            form: form_in(given),
+        };
+        return Ok(Invocation::Look { volume, look });
+    }
+    if is_plain(given, &bad) {
         let listing = ListOptions {
             lines: lines_in(given),
             depth: depth_in(given),
         };
-        Look::List { path, listing }
-    };
-    Ok(Invocation::Look { volume, look })
+        let look = Look::List { path, listing };
+        return Ok(Invocation::Look { volume, look });
+    }
+    let listing = level_in(given)?;
+    Ok(look_at(volume, bad, BadLook::List { path, listing }))
 }
 
-/// Reads the options of a listing without the directories below, which have no end if an unsound volume has a directory within itself.
+/// Reads the options of a listing without the directories below, which have no end if a volume that need not be sound has a directory within itself.
 fn level_in<'a, G: Given<'a>>(given: &G) -> Result<ListOptions, WordFault<'a>>
     ensures lines { IfOk result (λ listing. AreLinesGiven (G.words given.now) listing.lines) }
     ensures depth { IfOk result (λ listing. IsDepthGiven (G.words given.now) listing.depth) }
@@ -137,11 +158,25 @@ fn level_in<'a, G: Given<'a>>(given: &G) -> Result<ListOptions, WordFault<'a>>
 {
     let depth = depth_in(given);
     match depth {
-        Depth::Below => Err(excluded("recursive", "unsound", RECURSIVE.help)),
+        Depth::Below => {
+            let other = losing_in(given, flag_in(given, "unsound"));
+            Err(excluded("recursive", other, RECURSIVE.help))
+        }
         Depth::Itself | Depth::Names => Ok(ListOptions {
             lines: lines_in(given),
             depth,
         }),
+    }
+}
+
+/// Succeeds if no block of the image is lost: slots are shown as they are stored.
+fn no_slots<'a, G: Given<'a>>(given: &G, bad: &Option<BadImage<'a>>) -> Result<(), WordFault<'a>>
+    ensures none { IfOk result (λ _. bad.now ≡ None) }
+    ensures refused { IfErr result (TellsOf (bad.now ≢ None)) }
+{
+    match bad {
+        None => Ok(()),
+        Some(_) => Err(excluded("slots", losing_in(given, false), SLOTS.help)),
     }
 }
 

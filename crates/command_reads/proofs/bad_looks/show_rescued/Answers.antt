@@ -1,5 +1,6 @@
 use Rattle.std.proofs.Common.{List, Bool, subst, refl}
 use Rattle.std.specs.Prelude.{option_map}
+use Rattle.command_reads.specs.BadLists.{list_sights}
 use Rattle.command_reads.specs.Find.{found_sights}
 use Rattle.command_reads.specs.Print.{IsSight}
 use Rattle.command_reads.specs.Sums.{sums_sights}
@@ -20,3 +21,9 @@ returns-in-Sums g c =
     rw c.in-Sums.is (showing _ _ _ _ _ refl
     (subst (λ (marks : List Bool). IsSight (sums_sights c.args.edition c.args.read.now.image marks c.in-Sums.path.now c.in-Sums.form c.in-Sums.lost) c.sums_of-shown.result) c.deref-in-Sums.ensures.value
     c.sums_of-shown.ensures) c.print-in-Sums.ensures.printed c.print-in-Sums.ensures.told)
+
+pub returns-in-List : goal.returns-in-List
+returns-in-List g c =
+    rw c.in-List.is (showing _ _ _ _ _ refl
+    (subst (λ (marks : List Bool). IsSight (list_sights c.args.edition c.args.read.now.image marks c.in-List.path.now c.in-List.listing c.args.screen) c.list_in-shown.result)
+    c.deref-in-List.ensures.value c.list_in-shown.ensures) c.print-in-List.ensures.printed c.print-in-List.ensures.told)

@@ -37,7 +37,7 @@ _unixvol() {
     fi
     case $command in
         cat) kinds='6,7,any file any' options='--at --cut --bad --bad-blocks --sizes --like --damaged --explain -h --help' valued='--at=any --bad=file --bad-blocks=any --sizes=any --like=rk05,rk06,rk07,rl01,rl02,rm03,rp03,rp04,rp06,rx01,rx02' ;;
-        ls) kinds='6,7,any file path' options='--at -l --long -R --recursive -d --directory --json --slots --unsound --explain -h --help' valued='--at=any' ;;
+        ls) kinds='6,7,any file path' options='--at -l --long -R --recursive -d --directory --json --slots --unsound --cut --bad --bad-blocks --sizes --like --explain -h --help' valued='--at=any --bad=file --bad-blocks=any --sizes=any --like=rk05,rk06,rk07,rl01,rl02,rm03,rp03,rp04,rp06,rx01,rx02' ;;
         get) kinds='6,7,any file path any...' options='--at -o --output -p --preserve --unsound --cut --bad --bad-blocks --sizes --like --damaged --explain -h --help' valued='--at=any -o=file --output=file --bad=file --bad-blocks=any --sizes=any --like=rk05,rk06,rk07,rl01,rl02,rm03,rp03,rp04,rp06,rx01,rx02' changing='-o --output' others='6,7,any file path...' ;;
         find) kinds='6,7,any file path' options='--at -g --name --lost --cut --bad --bad-blocks --sizes --like --json --explain -h --help' valued='--at=any -g=any --name=any --bad=file --bad-blocks=any --sizes=any --like=rk05,rk06,rk07,rl01,rl02,rm03,rp03,rp04,rp06,rx01,rx02' ;;
         export) kinds='6,7,any file path' options='--at --lost --cut --bad --bad-blocks --sizes --like --damaged --status --explain -h --help' valued='--at=any --bad=file --bad-blocks=any --sizes=any --like=rk05,rk06,rk07,rl01,rl02,rm03,rp03,rp04,rp06,rx01,rx02' ;;
@@ -87,7 +87,7 @@ _unixvol() {
         fi
         # The value of an option isn't one of the words.
         if [[ " $valued " == *" $previous="* ]]; then
-            [[ ' --at ' != *" $previous "* ]] || volume+=("$previous" "$word")
+            [[ ' --at --bad --bad-blocks --sizes --like ' != *" $previous "* ]] || volume+=("$previous" "$word")
             previous=''
             continue
         fi

@@ -676,7 +676,7 @@ def outside(body, line):
         kept[int(first):int(last) + 1] = bytes(int(last) + 1 - int(first))
     return bytes(kept)
 
-for round in range(50):
+for round in range(50 * int(os.environ.get('TIMES', 1))):
     edition, at = "67"[round % 2], random.choice((0, 0, 9))
     volume(edition)
     lose(at)
@@ -868,7 +868,7 @@ has 'a copy with lost blocks on standard output' 0 $?
 # The law itself: of a sound volume random blocks are lost, with any bytes in their place. Each file of the copy without a line has the bytes and the i-node of
 # the whole volume.
 python3 - "$program" "$linux" << 'PYTHON' > error
-import json, random, re, subprocess, sys
+import json, os, random, re, subprocess, sys
 
 program, linux = sys.argv[1:]
 random.seed(1979)
@@ -887,7 +887,7 @@ def lost_inodes(lines):
     return {ino for first, last in ranges for ino in range(int(first), int(last) + 1)} | {int(ino) for ino in re.findall(r"i-node (\d+) is lost", lines)}
 
 whole, count = files(linux), 0
-for round in range(40):
+for round in range(40 * int(os.environ.get('TIMES', 1))):
     image = bytearray(open(linux, "rb").read())
     lost = sorted(random.sample(range(2, len(image) // 512), random.choice((1, 3, 10, 40))))
     for block in lost:
@@ -993,7 +993,7 @@ misread "error: the argument '--bad-blocks' cannot be used with '--bad'" check -
 
 # The law itself: what is named of a volume with lost blocks, of which some bytes were changed before, breaks the rule in the volume.
 python3 - "$program" "$linux" << 'PYTHON' > error
-import json, random, subprocess, sys
+import json, os, random, subprocess, sys
 
 program, linux = sys.argv[1:]
 random.seed(1977)
@@ -1003,7 +1003,7 @@ def rules(*words):
     return {rule["rule"]: rule["holds"] for rule in json.loads(done.stdout)["rules"]}
 
 named = 0
-for round in range(150):
+for round in range(150 * int(os.environ.get('TIMES', 1))):
     image = bytearray(open(linux, "rb").read())
     for change in range(random.choice((4, 8, 16))):
         image[random.choice((random.randrange(1024, 1024 + 512 * 12), random.randrange(512 * 14, 512 * 22)))] = random.choice((0, 47, 255, random.randrange(256)))

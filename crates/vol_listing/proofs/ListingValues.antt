@@ -6,16 +6,16 @@ use Rattle.std.specs.Str.{IsAscii, IsUtf8}
 use Rattle.std.proofs.lemmas.Bool.Decides.{nat_tests}
 use Rattle.std.proofs.lemmas.Str.{IsAscii-append, IsUtf8-from_ascii}
 use Rattle.std.proofs.lemmas.Str.Ascii.{IsAscii-nil}
-use Rattle.serde_json.specs.Data.{Data, Members, object, member, no_members, put}
+use Rattle.serde_json.specs.Data.{Data, Members, null, string, object, member, no_members, put}
 use Rattle.serde_json.specs.View.{items_of}
 use Rattle.serde_json.specs.Written.{has_float, items_have_float, members_have_float}
 use Rattle.vol_dir.specs.Tree.{Tree}
 use Rattle.vol_change.specs.Nodes.{node_at}
 use Rattle.vol_listing.specs.Depths.{opens}
 use Rattle.vol_listing.specs.Json.{listed}
-use Rattle.vol_listing.specs.ListingJson.{all_data, device_members, entries_data, entry_data, row_data, with_device, with_file, with_numbers}
+use Rattle.vol_listing.specs.ListingJson.{all_data, device_members, entries_data, entry_data, kind_data, row_data, sort_word, with_device, with_file, with_numbers}
 use Rattle.vol_listing.specs.Places.{joined, names_under}
-use Rattle.vol_listing.specs.Rows.{row_of}
+use Rattle.vol_listing.specs.Rows.{is_blank, row_of}
 use Rattle.vol_listing.specs.Sums.{span_data, sum_data, summed_data, with_losses}
 use Rattle.escaped_text.specs.Escape.{escaped, escaped_byte}
 use Rattle.vol_losses.specs.declared.spans.LostSpan.{LostSpan}
@@ -79,10 +79,17 @@ device_whole sorts.Directory others whole = whole
 device_whole (sorts.Character device) others whole = whole
 device_whole (sorts.Block device) others whole = whole
 
+-- the kind of a row has no fraction
+kind_whole : (row : Row) → has_float (kind_data row) ≡ false
+kind_whole row = elim (is_blank row) as (λ b. has_float (if b then null else string (sort_word row.type_bits row.sort)) ≡ false) [
+  | true ↦ refl
+  | false ↦ refl
+]
+
 -- the object of a row has no fraction
 row_whole : (path : List ℕ) (row : Row) → has_float (row_data path row) ≡ false
 unfolding row_data
-row_whole path row = device_whole row.sort _ refl
+row_whole path row = rw (kind_whole row) (device_whole row.sort _ refl)
 
 -- none of these values has a fraction
 abbrev pub AreWhole : List Data → Type 0
@@ -140,22 +147,22 @@ spans_whole (span ∷ spans) = whole_more (span_data span) (map span_data spans)
 summed_by : (sum : Option (List ℕ)) (losses : Option (List LostSpan)) (sort : Sort) (path : List ℕ) (row : Row)
     → has_float (object (with_losses losses (put (codes "sha256") (sum_data sum) (with_device sort (with_file path row (with_numbers row no_members)))))) ≡ false
 unfolding with_file with_numbers
-summed_by None None sorts.Regular path row = refl
-summed_by None None sorts.Directory path row = refl
-summed_by None None (sorts.Character device) path row = refl
-summed_by None None (sorts.Block device) path row = refl
-summed_by (Some sum) None sorts.Regular path row = refl
-summed_by (Some sum) None sorts.Directory path row = refl
-summed_by (Some sum) None (sorts.Character device) path row = refl
-summed_by (Some sum) None (sorts.Block device) path row = refl
-summed_by None (Some spans) sorts.Regular path row = rw (spans_whole spans) refl
-summed_by None (Some spans) sorts.Directory path row = rw (spans_whole spans) refl
-summed_by None (Some spans) (sorts.Character device) path row = rw (spans_whole spans) refl
-summed_by None (Some spans) (sorts.Block device) path row = rw (spans_whole spans) refl
-summed_by (Some sum) (Some spans) sorts.Regular path row = rw (spans_whole spans) refl
-summed_by (Some sum) (Some spans) sorts.Directory path row = rw (spans_whole spans) refl
-summed_by (Some sum) (Some spans) (sorts.Character device) path row = rw (spans_whole spans) refl
-summed_by (Some sum) (Some spans) (sorts.Block device) path row = rw (spans_whole spans) refl
+summed_by None None sorts.Regular path row = rw (kind_whole row) refl
+summed_by None None sorts.Directory path row = rw (kind_whole row) refl
+summed_by None None (sorts.Character device) path row = rw (kind_whole row) refl
+summed_by None None (sorts.Block device) path row = rw (kind_whole row) refl
+summed_by (Some sum) None sorts.Regular path row = rw (kind_whole row) refl
+summed_by (Some sum) None sorts.Directory path row = rw (kind_whole row) refl
+summed_by (Some sum) None (sorts.Character device) path row = rw (kind_whole row) refl
+summed_by (Some sum) None (sorts.Block device) path row = rw (kind_whole row) refl
+summed_by None (Some spans) sorts.Regular path row = rw (spans_whole spans) (rw (kind_whole row) refl)
+summed_by None (Some spans) sorts.Directory path row = rw (spans_whole spans) (rw (kind_whole row) refl)
+summed_by None (Some spans) (sorts.Character device) path row = rw (spans_whole spans) (rw (kind_whole row) refl)
+summed_by None (Some spans) (sorts.Block device) path row = rw (spans_whole spans) (rw (kind_whole row) refl)
+summed_by (Some sum) (Some spans) sorts.Regular path row = rw (spans_whole spans) (rw (kind_whole row) refl)
+summed_by (Some sum) (Some spans) sorts.Directory path row = rw (spans_whole spans) (rw (kind_whole row) refl)
+summed_by (Some sum) (Some spans) (sorts.Character device) path row = rw (spans_whole spans) (rw (kind_whole row) refl)
+summed_by (Some sum) (Some spans) (sorts.Block device) path row = rw (spans_whole spans) (rw (kind_whole row) refl)
 
 pub summed_whole : (sum : Option (List ℕ)) (losses : Option (List LostSpan)) (row : Row) (path : List ℕ) → has_float (summed_data sum losses row path) ≡ false
 unfolding summed_data

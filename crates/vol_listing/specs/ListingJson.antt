@@ -1,13 +1,13 @@
 -- Listings as JSON.
 use Rattle.std.specs.Prelude.{ℕ, ◌/◌, ◌%◌, if◌then◌else◌, List, [], ◌∷◌, ◌++◌, codes, map}
 use Rattle.std.specs.List.{flat_map}
-use Rattle.serde_json.specs.Data.{Data, Members, string, object, member, no_members, put}
+use Rattle.serde_json.specs.Data.{Data, Members, null, string, object, member, no_members, put}
 use Rattle.vol_dir.specs.Tree.{Tree}
 use Rattle.vol_change.specs.Nodes.{node_at}
 use Rattle.vol_listing.specs.Depths.{opens}
 use Rattle.vol_listing.specs.Json.{count, entries_text, octal}
 use Rattle.vol_listing.specs.Places.{joined, names_under}
-use Rattle.vol_listing.specs.Rows.{row_of, special_word}
+use Rattle.vol_listing.specs.Rows.{is_blank, row_of, special_word}
 use Rattle.escaped_text.specs.Escape.{escaped}
 use Rattle.vol_listing.specs.declared.options.Depth.{Depth}
 use Rattle.vol_listing.specs.declared.places.ListedNode.{ListedNode}
@@ -22,6 +22,10 @@ sort_word type sorts.Directory = codes "directory"
 sort_word type (sorts.Character device) = special_word type
 sort_word type (sorts.Block device) = special_word type
 
+-- the kind of the node of a row; null if it isn't known (this project)
+abbrev pub kind_data : Row → Data
+kind_data row = if is_blank row then null else string (sort_word row.type_bits row.sort)
+
 -- the members of an object, with the device of a special file added, as the high and low byte of its number (stat.h)
 abbrev pub device_members : Sort → Members → Members
 device_members sorts.Regular others = others
@@ -34,7 +38,7 @@ unfoldable pub row_data : List ℕ → Row → Data
 row_data path row =
     object (member (codes "gid") (count row.gid)
     (member (codes "ino") (count row.number)
-    (member (codes "kind") (string (sort_word row.type_bits row.sort))
+    (member (codes "kind") (kind_data row)
     (member (codes "links") (count row.links)
     (device_members row.sort
     (member (codes "mtime") (count row.modified)
@@ -77,7 +81,7 @@ with_file path row members =
     put (codes "mtime") (count row.modified)
     (put (codes "size") (count row.size)
     (put (codes "permissions") (octal row.permissions)
-    (put (codes "kind") (string (sort_word row.type_bits row.sort))
+    (put (codes "kind") (kind_data row)
     (put (codes "path") (string (escaped path)) members))))
 
 -- the members of an object, with the device of a special file added (this project)

@@ -1,12 +1,12 @@
 -- The long lines of a listing.
-use Rattle.std.specs.Prelude.{ℕ, ◌+◌, ◌/◌, ◌%◌, if◌then◌else◌, List, [], ◌∷◌, ◌++◌, Option, None, Some}
+use Rattle.std.specs.Prelude.{ℕ, ◌+◌, ◌/◌, ◌%◌, if◌then◌else◌, List, [], ◌∷◌, ◌++◌, Option, None, Some, codes}
 use Rattle.vol_dir.specs.Access.{has_bit}
 use Rattle.vol_layout.specs.Inode.{permissions_of}
 use Rattle.vol_layout.specs.declared.mode.Kind.{Kind}
 use Rattle.vol_layout.specs.declared.mode.Kind.TheVariants as kinds
 use Rattle.vol_listing.specs.Digits.{digit_at, padded_number}
 use Rattle.vol_listing.specs.Dates.{moment_text}
-use Rattle.vol_listing.specs.Rows.{special_sort}
+use Rattle.vol_listing.specs.Rows.{is_blank, special_sort}
 use Rattle.vol_listing.specs.declared.rows.Row.{Row}
 use Rattle.vol_listing.specs.declared.rows.Sort.{Sort}
 use Rattle.vol_listing.specs.declared.rows.Sort.TheVariants as sorts
@@ -43,6 +43,10 @@ kind_letters mode kinds.Directory = Some (mode_text sorts.Directory (permissions
 kind_letters mode kinds.Special = Some (mode_text (special_sort (mode / 4096) 0) (permissions_of mode))
 kind_letters mode kind = None
 
+-- the kind and the permissions of a row, in ten letters; a question mark if the kind isn't known (ls -l)
+abbrev pub kind_column : Row → List ℕ
+kind_column row = if is_blank row then codes "?---------" else mode_text row.sort row.permissions
+
 -- a number below 1000, right-aligned in 3 columns (ls -l)
 abbrev pub short_number : ℕ → List ℕ
 short_number n = digit_at 100 n ∷ digit_at 10 n ∷ (48 + n % 10) ∷ []
@@ -72,7 +76,7 @@ column text = text ++ 32 ∷ []
 unfoldable pub owner_columns : Row → List ℕ
 owner_columns row =
     column (padded_number row.number)
-    ++ (column (mode_text row.sort row.permissions)
+    ++ (column (kind_column row)
     ++ (column (padded_number row.links)
     ++ (column (padded_number row.uid)
     ++ column (padded_number row.gid))))

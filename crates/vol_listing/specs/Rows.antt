@@ -1,5 +1,5 @@
 -- The rows of a listing.
-use Rattle.std.specs.Prelude.{ℕ, ◌/◌, ◌%◌, ◌==◌, ◌||◌, if◌then◌else◌, List, codes, slice_index}
+use Rattle.std.specs.Prelude.{ℕ, ◌/◌, ◌%◌, ◌==◌, ◌||◌, ◌&&◌, Bool, if◌then◌else◌, List, codes, slice_index}
 use Rattle.vol_layout.specs.Inode.{permissions_of}
 use Rattle.vol_layout.specs.declared.i_node.Inode.{Inode}
 use Rattle.vol_dir.specs.Tree.{Content, Body, Directory, Device, Node}
@@ -55,3 +55,7 @@ row_with i node sort type = record {
   size = node.size;
   modified = node.modified;
 }
+
+-- true if a row has neither links nor permissions nor a time, as that of an i-node that is free or lost: of what kind it is isn't known (this project)
+abbrev pub is_blank : Row → Bool
+is_blank row = row.links == 0 && (row.permissions == 0 && row.modified == 0)

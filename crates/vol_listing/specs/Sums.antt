@@ -17,7 +17,7 @@ use Rattle.vol_listing.specs.Dates.{moment_text}
 use Rattle.vol_listing.specs.Digits.{padded_number}
 use Rattle.vol_listing.specs.Json.{count, entries_text}
 use Rattle.vol_listing.specs.ListingJson.{with_device, with_file, with_numbers}
-use Rattle.vol_listing.specs.LongLines.{column, mode_text, size_text}
+use Rattle.vol_listing.specs.LongLines.{column, kind_column, size_text}
 use Rattle.vol_listing.specs.Places.{joined}
 use Rattle.vol_listing.specs.Rows.{row_of}
 use Rattle.vol_listing.specs.declared.rows.Row.{Row}
@@ -39,7 +39,7 @@ sum_text (Some sum) = encode_lower sum
 
 -- the mode of a node, its owner and its group, each followed by a space (ls -l)
 unfoldable pub mode_columns : Row → List ℕ
-mode_columns row = column (mode_text row.sort row.permissions) ++ (column (padded_number row.uid) ++ column (padded_number row.gid))
+mode_columns row = column (kind_column row) ++ (column (padded_number row.uid) ++ column (padded_number row.gid))
 
 -- the mode of a node, its owner, its group, its size and the time of the last change of its contents, each followed by a space (ls -l)
 unfoldable pub attribute_columns : Row → List ℕ

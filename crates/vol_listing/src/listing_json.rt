@@ -5,7 +5,7 @@ ghost use Rattle.serde_json.specs.Data.{no_members};
 ghost use Rattle.serde_json.specs.View.{members_view, view};
 ghost use Rattle.vol_dir.specs.Tree.{tree};
 ghost use Rattle.vol_layout.specs.Geometry.{Fits};
-ghost use Rattle.vol_listing.specs.ListingJson.{sort_word, row_data, entry_data, entries_data, all_data, json_text, with_numbers, with_file, with_device};
+ghost use Rattle.vol_listing.specs.ListingJson.{kind_data, sort_word, row_data, entry_data, entries_data, all_data, json_text, with_numbers, with_file, with_device};
 
 use crate::directories::{names, opens};
 use crate::json::{entries_line, escaped_text, octal, put_count};
@@ -174,10 +174,10 @@ fn put_file(
     ensures { OnOk result (members_view object.new.entries ≡ with_file path.now row (members_view object.old.entries)) }
 {
     let path = escaped_text(alloc, path)?;
-    let kind = String::from_str(alloc, sort_word(row.type_bits, row.sort))?;
+    let kind = kind_value(alloc, row)?;
     let permissions = octal(alloc, row.permissions)?;
     put(object, alloc, "path", Value::String(path))?;
-    put(object, alloc, "kind", Value::String(kind))?;
+    put(object, alloc, "kind", kind)?;
     put(object, alloc, "permissions", permissions)?;
     put_count(alloc, object, "size", u64::from(row.size))?;
     put_count(alloc, object, "mtime", u64::from(row.modified))
@@ -194,6 +194,17 @@ fn put_device(alloc: Global, sort: Sort, object: &mut Map<String, Value>) -> Res
             put_count(alloc, object, "minor", u64::from(device % 256))
         }
     }
+}
+
+/// Returns the kind of the node of a row as JSON, or null if it isn't known.
+fn kind_value(alloc: Global, row: Row) -> Result<Value, AllocError>
+    ensures { IfOk result (λ value. view value ≡ kind_data row) }
+{
+    if row.is_blank() {
+        return Ok(Value::Null);
+    }
+    let word = String::from_str(alloc, sort_word(row.type_bits, row.sort))?;
+    Ok(Value::String(word))
 }
 
 /// Returns the word for a kind of node, of a special file with this type.

@@ -2,7 +2,7 @@
 ghost use Rattle.std.specs.Prelude.{◌≡◌, ◌++◌, ◌<◌, OnOk};
 ghost use Rattle.vol_dir.specs.Access.{has_bit};
 ghost use Rattle.vol_listing.specs.Digits.{digit_at, padded_number};
-ghost use Rattle.vol_listing.specs.LongLines.{kind_letters, letter_of, flag, special_flag, mode_text, short_number, wide_number, device_text, size_text, column as spaced, owner_columns, long_columns};
+ghost use Rattle.vol_listing.specs.LongLines.{kind_column, kind_letters, letter_of, flag, special_flag, mode_text, short_number, wide_number, device_text, size_text, column as spaced, owner_columns, long_columns};
 
 use crate::dates::push_moment;
 use crate::rows::{Row, Sort, special_type};
@@ -27,7 +27,7 @@ fn push_owner_columns(text: &mut Vec<u8>, row: Row) -> Result<(), AllocError>
     ensures { OnOk result (text.new.items ≡ text.old.items ++ owner_columns row) }
 {
     push_column(text, &padded(row.number))?;
-    push_column(text, &mode_text(row.sort, row.permissions))?;
+    push_column(text, &kind_column(row))?;
     push_column(text, &padded(row.links))?;
     push_column(text, &padded(row.uid))?;
     push_column(text, &padded(row.gid))?;
@@ -56,9 +56,20 @@ pub fn kind_letters(mode: Mode, kind: Kind) -> Option<[u8; 10]>
     Some(mode_text(sort, mode.permissions()))
 }
 
+/// Returns the kind and the permissions of a row, in ten letters; a question mark if the kind isn't known.
+pub(crate) fn kind_column(row: Row) -> [u8; 10]
+    ensures { result ≡ kind_column row }
+{
+    if row.is_blank() {
+        [b'?', b'-', b'-', b'-', b'-', b'-', b'-', b'-', b'-', b'-']
+    } else {
+        mode_text(row.sort, row.permissions)
+    }
+}
+
 /// Returns the kind of a node and its permissions, in ten letters.
 #[tactic(auto, unfolding(crate::specs::LongLines::mode_text))]
-pub(crate) fn mode_text(sort: Sort, permissions: u16) -> [u8; 10]
+fn mode_text(sort: Sort, permissions: u16) -> [u8; 10]
     ensures { result ≡ mode_text sort permissions }
 {
     [

@@ -3,7 +3,7 @@ ghost use Rattle.std.specs.Prelude.{◌≡◌, ◌/◌, ◌%◌, slice_index};
 ghost use Rattle.vol_layout.specs.Geometry.{Fits};
 ghost use Rattle.vol_dir.specs.Tree.{tree, is_number};
 ghost use Rattle.vol_change.specs.Nodes.{no_node, node_at};
-ghost use Rattle.vol_listing.specs.Rows.{row_of, row_with, special_sort, special_word};
+ghost use Rattle.vol_listing.specs.Rows.{is_blank, row_of, row_with, special_sort, special_word};
 
 use pdp_words::Image;
 use vol_layout::i_list::kind;
@@ -30,6 +30,15 @@ pub(crate) struct Row {
     pub(crate) size: u32,
     /// The time of the last write to the file, in seconds since the beginning of 1970.
     pub(crate) modified: u32,
+}
+
+impl Row {
+    /// True if the row has neither links nor permissions nor a time, as that of an i-node that is free or lost: of what kind it is isn't known.
+    pub(crate) fn is_blank(self) -> bool
+        ensures { result ≡ is_blank self }
+    {
+        self.links == 0 && self.permissions == 0 && self.modified == 0
+    }
 }
 
 /// The kind of a node.

@@ -14,7 +14,7 @@ use crate::dates::push_moment;
 use crate::json::entries_line;
 use crate::known_sums::{is_damaged, put_losses, spans_if};
 use crate::listing_json::row_object;
-use crate::long_lines::{mode_text, padded, push_column, size_text};
+use crate::long_lines::{kind_column, padded, push_column, size_text};
 use crate::places::joined;
 use crate::rows::{Row, is_number, row_at};
 use escaped_text::push_escaped;
@@ -149,7 +149,7 @@ fn push_attributes(text: &mut Vec<u8>, row: Row) -> Result<(), AllocError>
 fn push_mode(text: &mut Vec<u8>, row: Row) -> Result<(), AllocError>
     ensures { OnOk result (text.new.items ≡ text.old.items ++ mode_columns row) }
 {
-    push_column(text, &mode_text(row.sort, row.permissions))?;
+    push_column(text, &kind_column(row))?;
     push_column(text, &padded(row.uid))?;
     push_column(text, &padded(row.gid))?;
     Ok(())

@@ -1,5 +1,5 @@
 -- Looks at images of which some blocks couldn't be read.
-use Rattle.std.proofs.Common.{ℕ, Bool, List, Option, inl, inr, ap, ◌∙◌, sym}
+use Rattle.std.proofs.Common.{◌≡◌, ℕ, Bool, true, List, Option, inl, inr, ap, ◌∙◌, sym}
 use Rattle.std.specs.Prelude.{Err}
 use Rattle.bad_maps.specs.Maps.{ranges_in, ReadsMap}
 use Rattle.bad_maps.specs.declared.maps.MapFault.{MapFault}
@@ -7,7 +7,7 @@ use Rattle.bad_maps.specs.declared.maps.MapFault.TheVariants as maps
 use Rattle.bad_maps.specs.declared.maps.ReadRange.{ReadRange}
 use Rattle.vol_archive.specs.Members.{archive_bytes}
 use Rattle.vol_layout.specs.declared.edition.Edition.{Edition}
-use Rattle.vol_losses.specs.BadImages.{IsUnrescued}
+use Rattle.vol_losses.specs.BadImages.{IsRescued, IsUnrescued}
 use Rattle.vol_losses.specs.declared.bad_images.RescueFault.{RescueFault}
 use Rattle.vol_losses.specs.declared.bad_images.RescueFault.TheVariants as rescues
 use Rattle.vol_losses.specs.declared.cut_images.CutFault.TheVariants as cuts
@@ -18,7 +18,7 @@ use Rattle.vol_rescue.proofs.RightMembers.{archives_right}
 use Rattle.command_faults.specs.Streams.{still}
 use Rattle.command_faults.specs.declared.fault.Fault.{Fault}
 use Rattle.command_reads.proofs.Printed.{told_only}
-use Rattle.command_reads.specs.BadLooks.{IsMisreadEnding, IsUnrescuedEnding, TellsMisread, TellsUnrescued}
+use Rattle.command_reads.specs.BadLooks.{IsMisreadEnding, IsUnrescuedEnding, IsUnsizedEnding, TellsMisread, TellsUnrescued, is_unsized}
 use Rattle.command_reads.specs.Laws.{BadExportsAreRight}
 use Rattle.command_reads.specs.declared.bad_looks.BadMap.{BadMap}
 use Rattle.command_reads.proofs.Exported.{told_incomplete}
@@ -27,7 +27,7 @@ use Rattle.command_reads.proofs.Exported.{told_incomplete}
 pub told_unrescued : (edition : Edition) (ranges : List ReadRange) (at : ℕ) (sizes : Option VolumeSizes) (bytes : List ℕ) (known : Option (List ℕ)) (failed : Bool)
     (why : RescueFault) (status : ℕ) (fault : Option Fault) → IsUnrescued edition ranges at sizes bytes why → IsUnrescuedEnding why status fault
     → TellsUnrescued edition ranges at sizes bytes (still known failed fault) status
-told_unrescued edition ranges at sizes bytes known failed (rescues.Cut cuts.NoMemory) status fault cause is = inr (inr (told_only is))
+told_unrescued edition ranges at sizes bytes known failed (rescues.Cut cuts.NoMemory) status fault cause is = inr (inr (inr (told_only is)))
 told_unrescued edition ranges at sizes bytes known failed (rescues.Cut (cuts.TooShort there blocks)) status fault cause is = inl (
   cause.0,
   cause.1,
@@ -35,15 +35,30 @@ told_unrescued edition ranges at sizes bytes known failed (rescues.Cut (cuts.Too
   cause.3,
   told_incomplete edition cause.1 known failed (cuts.TooShort there blocks) status fault cause.4 is,
 )
-told_unrescued edition ranges at sizes bytes known failed (rescues.Sizes wrong) status fault cause (inl is) = inr (inl (
+told_unrescued edition ranges at sizes bytes known failed (rescues.Sizes wrong) status fault cause (inl is) = inr (inr (inl (
   wrong,
   is.0,
   cause.0,
   cause.1,
   is.2,
   told_only (is.3, is.1),
+)))
+told_unrescued edition ranges at sizes bytes known failed (rescues.Sizes wrong) status fault cause (inr is) = inr (inr (inr (told_only is)))
+
+-- a lost super-block was reported, and nothing was printed
+pub told_unsized : (edition : Edition) (ranges : List ReadRange) (at : ℕ) (sizes : Option VolumeSizes) (bytes : List ℕ) (known : Option (List ℕ)) (failed : Bool)
+    (image : List ℕ) (lost : List Bool) (status : ℕ) (fault : Option Fault) → IsRescued edition ranges at sizes bytes image lost → is_unsized sizes lost ≡ true
+    → IsUnsizedEnding status fault → TellsUnrescued edition ranges at sizes bytes (still known failed fault) status
+told_unsized edition ranges at sizes bytes known failed image lost status fault rescued none (inl is) = inr (inl (
+  image,
+  lost,
+  is.0,
+  rescued,
+  none,
+  is.2,
+  told_only (is.3, is.1),
 ))
-told_unrescued edition ranges at sizes bytes known failed (rescues.Sizes wrong) status fault cause (inr is) = inr (inr (told_only is))
+told_unsized edition ranges at sizes bytes known failed image lost status fault rescued none (inr is) = inr (inr (inr (told_only is)))
 
 -- a map that can't be read was reported, and nothing was printed
 pub told_misread : (map : BadMap) (known : Option (List ℕ)) (failed : Bool) (why : MapFault) (status : ℕ) (fault : Option Fault)

@@ -1,5 +1,5 @@
 -- Looks at an image of which some blocks couldn't be read, as a map of GNU ddrescue or a list says.
-use Rattle.std.specs.Prelude.{◌≡◌, ◌⊎◌, ℕ, List, ◌++◌, Bool, false, codes, decimal, Option, Some, Ok, Err, option_map}
+use Rattle.std.specs.Prelude.{◌≡◌, ◌⊎◌, ℕ, List, ◌++◌, Bool, false, codes, decimal, true, Option, None, Some, Ok, Err, option_map}
 use Rattle.escaped_text.specs.Escape.{escaped}
 use Rattle.bad_maps.specs.Lines.{fault_text}
 use Rattle.bad_maps.specs.Maps.{ranges_in}
@@ -11,6 +11,7 @@ use Rattle.vol_layout.specs.declared.edition.Edition.{Edition}
 use Rattle.vol_listing.specs.declared.options.Screen.{Screen}
 use Rattle.vol_losses.specs.BadImages.{IsCleared, IsRescued}
 use Rattle.vol_losses.specs.GivenSizes.{IsSized, are_sizes}
+use Rattle.vol_losses.specs.Losses.{is_lost}
 use Rattle.vol_losses.specs.declared.bad_images.RescueFault.{RescueFault}
 use Rattle.vol_losses.specs.declared.bad_images.RescueFault.TheVariants as rescues
 use Rattle.vol_losses.specs.declared.given_sizes.VolumeSizes.{VolumeSizes}
@@ -71,13 +72,37 @@ TellsWrongSizes edition sizes streams status =
     (wrong : VolumeSizes) × (fault : Fault) × (sizes ≡ Some wrong) × (are_sizes edition wrong ≡ false)
     × (fault_line fault ≡ sizes_line wrong.blocks wrong.list_blocks) × IsToldWith 2 streams fault status
 
--- an image isn't rescued, which is reported: too many of its blocks are missing, with status 6; no volume has the given sizes; or memory ran out (this
--- project)
+-- true if the super-block is lost and no sizes are given: nothing says how large the volume and its i-list are (filsys.h)
+abbrev pub is_unsized : Option VolumeSizes → List Bool → Bool
+is_unsized None lost = is_lost lost 1
+is_unsized (Some sizes) lost = false
+
+-- the line about an image whose super-block is lost, if no sizes are given (this project)
+abbrev pub unsized_line : List ℕ
+unsized_line = codes "unixvol: the super-block is lost: give --sizes or --like\n"
+
+-- the ending of a look at such an image: this line, with status 6, or out of memory (this project)
+abbrev pub IsUnsizedEnding : ℕ → Option Fault → Type 0
+IsUnsizedEnding status fault =
+    ((told : Fault) × (fault ≡ Some told) × (fault_line told ≡ unsized_line) × (status ≡ 6)) ⊎ ((status ≡ 4) × (fault ≡ Some no_memory))
+
+-- the image and its lost blocks, from the bytes in the ranges; the sizes of its volume are known (this project)
+abbrev pub IsSizedRescue : Edition → List ReadRange → ℕ → Option VolumeSizes → List ℕ → List ℕ → List Bool → Type 0
+IsSizedRescue edition ranges at sizes bytes image lost = IsRescued edition ranges at sizes bytes image lost × (is_unsized sizes lost ≡ false)
+
+-- the super-block is lost and no sizes are given, which is reported, with status 6 (this project)
+abbrev pub TellsUnsized : Edition → List ReadRange → ℕ → Option VolumeSizes → List ℕ → Streams → ℕ → Type 0
+TellsUnsized edition ranges at sizes bytes streams status =
+    (image : List ℕ) × (lost : List Bool) × (fault : Fault) × IsRescued edition ranges at sizes bytes image lost × (is_unsized sizes lost ≡ true)
+    × (fault_line fault ≡ unsized_line) × IsToldWith 6 streams fault status
+
+-- an image isn't rescued, which is reported: too many of its blocks are missing, with status 6; its super-block is lost and no sizes are given, with the
+-- same status; no volume has the given sizes; or memory ran out (this project)
 abbrev pub TellsUnrescued : Edition → List ReadRange → ℕ → Option VolumeSizes → List ℕ → Streams → ℕ → Type 0
 TellsUnrescued edition ranges at sizes bytes streams status =
     ((cleared : List ℕ) × (stated : List ℕ) × IsCleared sizes ranges at bytes cleared × IsSized sizes edition cleared stated
     × TellsIncomplete edition stated streams status)
-    ⊎ (TellsWrongSizes edition sizes streams status ⊎ IsTold streams no_memory status)
+    ⊎ (TellsUnsized edition ranges at sizes bytes streams status ⊎ (TellsWrongSizes edition sizes streams status ⊎ IsTold streams no_memory status))
 
 -- part of an image that was rescued is shown (this project)
 abbrev pub ShowsRescued : Edition → List ℕ → List Bool → Screen → Streams → ℕ → BadLook → Type 0
@@ -98,7 +123,7 @@ ShowsRescued edition image lost screen streams status (bad_looks.Body node damag
 -- part of the image of which only the bytes in the ranges were read is shown, or a fault is reported (this project)
 abbrev pub LooksRescued : Edition → List ℕ → List ReadRange → ℕ → Option VolumeSizes → BadLook → Screen → Streams → ℕ → Type 0
 LooksRescued edition bytes ranges at sizes look screen streams status =
-    ((image : List ℕ) × (lost : List Bool) × IsRescued edition ranges at sizes bytes image lost × ShowsRescued edition image lost screen streams status look)
+    ((image : List ℕ) × (lost : List Bool) × IsSizedRescue edition ranges at sizes bytes image lost × ShowsRescued edition image lost screen streams status look)
     ⊎ TellsUnrescued edition ranges at sizes bytes streams status
 
 -- part of an image is shown of which only the bytes were read that a map or ranges say, or a fault is reported (this project)

@@ -1,7 +1,7 @@
 //! Looks at an image of which some blocks couldn't be read, as a map of GNU ddrescue or a list says.
 ghost use Rattle.std.specs.Prelude.{◌≡◌, IfOk, string_bytes};
 ghost use Rattle.command_faults.specs.Streams.{streams};
-ghost use Rattle.command_reads.specs.BadLooks.{IsMisreadEnding, IsUnrescuedEnding, LooksBad, ShowsRescued, line_start, map_line, sizes_line};
+ghost use Rattle.command_reads.specs.BadLooks.{IsMisreadEnding, IsUnrescuedEnding, IsUnsizedEnding, LooksBad, ShowsRescued, line_start, map_line, sizes_line};
 
 use crate::bad_files::{print_in, read_in};
 use crate::bad_images::rescue_image;
@@ -10,6 +10,7 @@ use crate::check::check_in;
 use crate::export::{export_read, unread};
 use crate::find::find_in;
 use crate::print::print;
+use crate::statuses::NO_VOLUME;
 use crate::sums::sums_of;
 use bad_maps::{LineFault, MapFault, ReadRange};
 use command_faults::status::{BAD_COMMAND_LINE, BAD_FILE};
@@ -22,6 +23,9 @@ use vol_dir::Refusal;
 use vol_layout::Edition;
 use vol_listing::Screen;
 use vol_losses::{CutImage, RescueFault, VolumeSizes};
+
+/// The line about an image whose super-block is lost, if no sizes are given.
+const UNSIZED_LINE: &[u8] = b"unixvol: the super-block is lost: give --sizes or --like\n";
 
 /// A map of the bytes of a file that were read, and the place of the volume in that file.
 #[derive(Drop)]
@@ -45,8 +49,8 @@ pub enum BadBlocks<'a> {
 
 /// Shows part of an image of which only some blocks were read. A block of which a byte wasn't read is lost, whatever the image has in its place. An
 /// export is as [`look`](crate::look) makes it with `cut`. If blocks are lost, the fault of the other looks has the lines about what is lost, and the
-/// status is 5 if something that is shown is damaged or left out, else 1. A check has no such lines, and its status. If `sizes` are given, the super-block is lost too, and states these sizes;
-/// if no volume of the edition has them, nothing is shown, and the status is 2. If a map can't be read, nothing is shown, the fault names the line and
+/// status is 5 if something that is shown is damaged or left out, else 1. A check has no such lines, and the status of its report. If `sizes` are given, the super-block is lost too, and states these sizes;
+/// if no volume of the edition has them, nothing is shown, and the status is 2; if it is lost and no sizes are given, the status is 6. If a map can't be read, nothing is shown, the fault names the line and
 /// what is wrong with it, and the status is 3.
 ///
 /// Costs the map, and what the look costs.
@@ -148,6 +152,19 @@ pub(crate) fn unrescued(alloc: Global, fault: RescueFault) -> Ending
                 rule: None,
                 lines: line.into_bytes(),
             }),
+        },
+        Err(_) => Ending::from(Fault::Refused(Refusal::NoMemory)),
+    }
+}
+
+/// Returns the ending of a look at an image whose super-block is lost, if no sizes are given.
+pub(crate) fn unsized_ending(alloc: Global) -> Ending
+    ensures { IsUnsizedEnding result.status result.fault }
+{
+    match Vec::from_slice(alloc, UNSIZED_LINE) {
+        Ok(lines) => Ending {
+            status: NO_VOLUME,
+            fault: Some(Fault::Worded { rule: None, lines }),
         },
         Err(_) => Ending::from(Fault::Refused(Refusal::NoMemory)),
     }

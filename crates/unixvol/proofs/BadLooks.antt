@@ -37,9 +37,11 @@ ends_incomplete edition bytes streams status (inr told) = ends_told 6 streams no
 pub ends_unrescued : (edition : Edition) (ranges : List ReadRange) (at : ℕ) (sizes : Option VolumeSizes) (bytes : List ℕ) (streams : Streams) (status : ℕ)
     → TellsUnrescued edition ranges at sizes bytes streams status → IsEndWithin 6 streams status
 ends_unrescued edition ranges at sizes bytes streams status (inl (cleared, stated, zeros, sized, told)) = ends_incomplete edition stated streams status told
-ends_unrescued edition ranges at sizes bytes streams status (inr (inl (wrong, fault, is, invalid, line, told))) =
+ends_unrescued edition ranges at sizes bytes streams status (inr (inl (image, lost, fault, rescued, none, line, told))) =
     ends_badly 6 streams status (omega (arith, told.status)) (omega (arith, told.status))
-ends_unrescued edition ranges at sizes bytes streams status (inr (inr told)) = ends_told 6 streams no_memory status (omega arith) told
+ends_unrescued edition ranges at sizes bytes streams status (inr (inr (inl (wrong, fault, is, invalid, line, told)))) =
+    ends_badly 6 streams status (omega (arith, told.status)) (omega (arith, told.status))
+ends_unrescued edition ranges at sizes bytes streams status (inr (inr (inr told))) = ends_told 6 streams no_memory status (omega arith) told
 
 -- a look whose path isn't reached has status 5
 unreached_few : (orphans : Bool) (edition : Edition) (image : List ℕ) (lost : List Bool) (path text : List ℕ) (wanted : ℕ) (lines : List ℕ)

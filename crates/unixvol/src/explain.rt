@@ -23,7 +23,6 @@ use command_faults::status::{BAD_COMMAND_LINE, BAD_FILE, DONE, NO_MEMORY};
 use command_faults::{Ending, Fault};
 use command_line::reworded;
 use command_reads::CatFault;
-use command_terms::Look;
 use host_files::ImageFiles;
 use pdp_words::{Sink, write_all};
 use std::alloc::AllocError;
@@ -184,11 +183,11 @@ fn sizes_of<R: ImageFiles + AllocGlobal>(
     }
 }
 
-/// Prints which documents have the rules and their definitions, if the user asked for a second line and the look was a check that ended with the `status` of
-/// a broken rule.
-pub fn explain_rules<R: Eprint>(host: &Surroundings<'_, R>, look: Look<'_>, status: u8) {
+/// Prints which documents have the rules and their definitions, if the user asked for a second line, and it was a check that ended with the `status` of a
+/// broken rule.
+pub fn explain_rules<R: Eprint>(host: &Surroundings<'_, R>, is_check: bool, status: u8) {
     let is_broken = !matches!(status, DONE | BAD_FILE | NO_MEMORY);
-    if host.explains && is_broken && matches!(look, Look::Check { .. }) {
+    if host.explains && is_broken && is_check {
         let place = meanings::RULES_ARE_IN;
         let _ = eprintln!(host.rt; "unixvol: {place}");
     }

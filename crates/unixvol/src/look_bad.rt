@@ -6,7 +6,7 @@ ghost use Rattle.unixvol.specs.FileFaults.{file_status, run_fault, run_status};
 ghost use Rattle.unixvol.specs.LookBad.{IsBadRead, IsKnownRead, LooksBadToEnd, RunsLookBad};
 ghost use Rattle.unixvol.specs.Runs.{IsUnread, host_files};
 
-use crate::explain::{finish_printed, tell_end};
+use crate::explain::{explain_rules, finish_printed, tell_end};
 use crate::file_fault::{FailedRun, FileFault};
 use crate::host::Surroundings;
 use crate::read::{read_blocks, read_file, read_stamped};
@@ -43,6 +43,8 @@ pub fn run_to_end<R: ImageFiles + Eprint + AllocGlobal, O: Write + Drop, E: Writ
     let ended = run(host.rt, screen, &mut output, volume, image, look);
     let subject = Subject::of_bad_look(volume, look);
     let status = tell_end(host, &mut errors, &ended, output.error(), Some(subject));
+    let is_reported = matches!(&ended, Ok(ending) if ending.fault.is_none());
+    explain_rules(host, is_reported && matches!(look, BadLook::Check { .. }), status);
     ExitCode::from(finish_printed(host, output.into_inner().into_inner(), status))
 }
 

@@ -100,7 +100,7 @@ pub fn run_to_end<R: ImageFiles + Eprint + AllocGlobal, O: Write + Drop, E: Writ
     let ended = run(host.rt, screen, &mut output, volume, look);
     let subject = Subject::of_look(volume, look);
     let status = tell_end(host, &mut errors, &ended, output.error(), Some(subject));
-    explain_rules(host, look, status);
+    explain_rules(host, matches!(look, Look::Check { .. }), status);
     ExitCode::from(finish_printed(host, output.into_inner().into_inner(), status))
 }
 

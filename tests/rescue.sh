@@ -304,10 +304,14 @@ has 'an image that was read whole' 0 $?
 
 # The super-block is lost: its sizes aren't known, though they are in the image. A map without ranges says that nothing was read.
 printf '%s\n' '0 ?' '0 1023 +' '1024 100000 +' > super.map
-refuses 1 'unixvol: unsound, rule 2' export --bad super.map 7 one.img
-refuses 6 'unixvol: unsound, rule 2' export --status --bad super.map 7 one.img
+for command in export 'export --status' find sums ls 'check' 'check --status' 'check --json' 'cat 2' 'get /hello'; do
+    # shellcheck disable=SC2086
+    set -- $command
+    refuses 6 'unixvol: the super-block is lost: give --sizes or --like' "$1" --bad super.map 7 one.img "${@:2}"
+done
+refuses 6 'unixvol: the super-block is lost: give --sizes or --like' repair --bad super.map 7 one.img -n
 echo '0 ?' > empty.map
-refuses 1 'unixvol: unsound, rule 2' export --bad empty.map 7 one.img
+refuses 6 'unixvol: the super-block is lost: give --sizes or --like' export --bad empty.map 7 one.img
 
 # Maps that can't be read: the line, what is wrong with it, status 3, and nothing else.
 state="it isn't ddrescue's state: a position, one of ? * / - F G +, and perhaps a pass"
@@ -373,7 +377,7 @@ has 'a free block' 'unixvol: 1 of 4872 blocks are lost' "$(cat error)"
 exports 0 list.tar 7 b.img --bad-blocks 4872-99999
 exports 5 list.tar 7 cut.img --bad-blocks 860
 has 'blocks that are missing, and one of a list' 'unixvol: 3995 of 4872 blocks are lost' "$(head -n 1 error)"
-refuses 1 'unixvol: unsound, rule 2' export --bad-blocks 1 7 b.img
+refuses 6 'unixvol: the super-block is lost: give --sizes or --like' export --bad-blocks 1 7 b.img
 while IFS= read -r list; do
     misread "error: invalid value '$list' for '--bad-blocks <LIST>': not numbers and ranges of blocks" export --bad-blocks "$list" 7 b.img
 done << END
@@ -532,14 +536,16 @@ wants 'cat of a volume without a super-block' 1 wanted count
 { cat count; echo 'unixvol: /usr/games: names may be missing: 176 of 688 bytes are lost: 512-687'; } > line
 runs ls -l --bad-blocks 41 7 "$linux" /usr/games
 wants 'ls of a directory of which a block is lost' 5 wanted line
-"$program" ls -l 7 "$linux" | sed -E 's/^(   9[46]) .* (etc|usr)$/\1 ----------     0     0     0          0 1970-01-01 00:00:00 \2/' > wanted
+"$program" ls -l 7 "$linux" | sed -E 's/^(   9[46]) .* (etc|usr)$/\1 ?---------     0     0     0          0 1970-01-01 00:00:00 \2/' > wanted
 { cat count; echo 'unixvol: /etc: i-node 94 is lost'; echo 'unixvol: /usr: i-node 96 is lost'; } > line
 runs ls -l --bad-blocks 13 7 "$linux"
 wants 'ls of entries whose i-nodes are lost' 5 wanted line
 { cat count; echo 'unixvol: /usr: i-node 96 is lost'; } > line
-echo '   96 ----------     0     0     0          0 1970-01-01 00:00:00 /usr' > wanted
+echo '   96 ?---------     0     0     0          0 1970-01-01 00:00:00 /usr' > wanted
 runs ls -l -d --bad-blocks 13 7 "$linux" /usr
 wants 'ls of a path whose i-node is lost' 5 wanted line
+runs ls --json -d --bad-blocks 13 7 "$linux" /usr
+has 'the kind of an i-node that is lost' '"kind":null,"links":0' "$(grep -o '"kind":[^,]*,"links":0' output)"
 runs ls --sizes $fsize,$isize 7 super.img
 "$program" ls 7 "$linux" > wanted
 wants 'ls of a volume without a super-block' 1 wanted count
@@ -986,6 +992,11 @@ has 'the report as JSON' 'False [{"at": {"block": 878, "count": 3994}, "finding"
     "$(python3 -c 'import json, sys
 report = json.load(sys.stdin)
 print(report["sound"], json.dumps([{key: rule[key] for key in ("at", "finding", "holds")} for rule in report["rules"][:3]]))' < output)"
+runs check --status --cut 7 cut.img
+has 'the status of check --status, if rule 1 alone is broken' 1 "$status"
+runs check --explain --cut 7 cut.img
+has 'the second line of check of a volume that was cut off' \
+    'unixvol: docs/FORMATS.md has the twelve rules, and docs/PROOFS.md the file that defines each, under "Where each definition is"' "$(cat error)"
 refuses 6 'unixvol: the image has 40 of 16000000 blocks' check --cut 7 long.img
 refuses 2 'unixvol: no volume has 5 blocks with an i-list of 9' check 7 b.img --sizes 5,9
 refuses 3 'unixvol: cannot read missing.map' check --bad missing.map 7 b.img

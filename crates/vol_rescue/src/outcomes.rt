@@ -13,8 +13,9 @@ use vol_layout::{Edition, Geometry};
 use vol_losses::{is_lost, is_node_lost, is_whole};
 
 /// Returns what the outcomes of the rules for an image in which lost blocks are zeros say of the image as it was. Rule 1 is broken, since blocks are
-/// lost. A violation of rule 3, 4 or 9 counts if it rests on no lost block; of rules 3 to 7 and 9 it is also said that what is left doesn't break them.
-/// Everything else isn't checked: rule 2 if the super-block is lost, and rules 8 and 10 to 12, which speak of what isn't there.
+/// lost. The first violation of rule 3, 4 or 9 counts if it rests on no lost block; else further ones aren't looked for. Of rules 3 to 7 and 9 it is also
+/// said that what is left doesn't break them. Everything else isn't checked: rule 2 if the super-block is lost, and rules 8 and 10 to 12, which speak of
+/// all blocks, or of what isn't there.
 ///
 /// Costs [`is_whole`] of one directory.
 pub fn known_outcomes(

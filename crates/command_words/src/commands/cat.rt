@@ -35,8 +35,7 @@ path that isn't whole.
 
 Status:
   0  the bytes were printed
-  1  `unixvol: unsound, rule 1`: the image is shorter than its super-block says. If its last blocks are missing,
-     `truncate -s SIZE IMAGE` adds zeros: SIZE is 512 for each block, so 2048000 for 4,000 blocks
+  1  `unixvol: unsound, rule 1`: the image is shorter than its super-block says; --cut reads what is there
      `unixvol: unsound, rule 2`: the sizes in the super-block contradict one another
      (a volume of the other edition usually breaks one of these two rules)
      `unixvol: 2 NoEntry`: there is no such i-node, it is free, or the path leads to none
@@ -49,7 +48,8 @@ Status:
   4  `unixvol: 12 NoMemory`
   5  if blocks are lost: something is lost of the i-node, whose bytes were not printed without --damaged, or on the
      way to it; or there is no such i-node and something is lost on the way, as standard error says
-  6  if blocks are lost: more than 1048576 blocks of the image are missing";
+  6  if blocks are lost: more than 1048576 blocks of the image are missing; or its super-block is lost, and neither
+     --sizes nor --like is given";
 
 /// The words that `cat` takes.
 pub(crate) const WORDS: &[Parameter] = &[

@@ -30,9 +30,12 @@ so. Nothing is changed. With --explain, if a rule doesn't hold, a line on standa
 have the rules and the definition of each.
 
 With --cut, --bad, --bad-blocks, --sizes and --like, blocks of the image are lost, as `unixvol export --help` says of
-them. Rule 1 is then broken. A violation of rule 3, 4 or 9 is named if it rests on no lost block, so that it is one of
-the volume, whatever these blocks held. If no violation of rules 3 to 7 and 9 is found, what is left doesn't break
-them. All else is not checked, above all rules 8 and 10 to 12, which speak of what isn't there.
+them. Rule 1 is then broken. The first violation of rule 3, 4 or 9 in what is left is named if it rests on no lost block: an
+i-node that isn't lost, or a directory of which nothing is. The volume breaks that rule then, whatever these blocks
+held. If it rests on one, the rule's line says `not asked`, and further violations aren't looked for. If no violation
+of rules 3 to 7 and 9 is found, what is left doesn't break them. All else is not checked: rules 8 and 10 to 12 speak
+of all blocks, or of what isn't there. No line tells of the other edition. With --sizes and --like, a violation is
+one of a volume of these sizes.
 
 With --json, one object is printed on one line: \"edition\", \"other_edition\" (the one that fits instead, or null),
 \"sound\", and \"rules\", an object for each rule: \"rule\", \"needs\" (what it requires), \"holds\" (null if it isn't
@@ -41,8 +44,10 @@ checked, or only what is left is known), \"finding\" (what breaks it first) and 
 Status:
   0  all rules hold: the volume is sound
   1  a rule doesn't hold
-  6  with --status: rule 1 or 2 doesn't hold, so the image has no volume of this edition
-     if blocks are lost (--cut, --bad, --bad-blocks, --sizes, --like): more than 1048576 blocks are missing
+  6  with --status: rule 1 or 2 doesn't hold, so the image has no volume of this edition; but if blocks are lost (--cut,
+     --bad, --bad-blocks, --sizes, --like), this is said of rule 2 alone
+     if blocks are lost: more than 1048576 blocks are missing; or the super-block is lost, and neither --sizes nor
+     --like is given
   2  the command line is wrong; or no volume of the edition has the sizes of --sizes or --like
   3  `unixvol: cannot read IMAGE`, or `unixvol: cannot write -`: standard output failed; or MAPFILE can't be read
   4  `unixvol: 12 NoMemory`";

@@ -62,7 +62,8 @@ Status:
   5  a path has more than 4096 bytes, and what is below it isn't printed
      if blocks are lost: something is damaged or left out, or PATH isn't found and something is lost on the way,
      as standard error says
-  6  if blocks are lost: more than 1048576 blocks of the image are missing";
+  6  if blocks are lost: more than 1048576 blocks of the image are missing; or its super-block is lost, and neither
+     --sizes nor --like is given";
 
 const PATTERN: Parameter = Parameter {
     name: "name",

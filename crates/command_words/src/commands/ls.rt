@@ -56,9 +56,10 @@ itself; `unixvol find` prints the paths of everything below.
 
 With --cut, --bad, --bad-blocks, --sizes and --like, blocks of the image are lost, as `unixvol export --help` says of
 them. The names are those that can be read without these blocks. A line on standard error tells what is lost of each
-node that is listed, of the directory, and on the way there. An i-node that is lost is listed as if its bytes were zeros, and
-has a line. If PATH isn't found and something is lost on the way, a line says what is lost, and nothing is
-listed. -R and --slots can't be used then. If no block is lost after all, the options do what --unsound does.
+node that is listed, but for `.` and `..`, and of the directory or of the last one on the way there that isn't whole.
+An i-node that is lost is listed with zeros and a question mark, in JSON with null, in place of its kind, and has a
+line. If PATH isn't found, or doesn't lead to what can be listed, and something is lost on the way, a line says what
+is lost, and nothing is listed. -R and --slots can't be used then. If no block is lost after all, the options do what --unsound does.
 
 Status:
   0  the names were printed
@@ -71,9 +72,10 @@ Status:
   2  the command line is wrong; or no volume of the edition has the sizes of --sizes or --like
   3  `unixvol: cannot read IMAGE`, or `unixvol: cannot write -`: standard output failed; or MAPFILE can't be read
   4  `unixvol: 12 NoMemory`
-  5  if blocks are lost: something that is listed is damaged, or PATH isn't found and something is lost on the way, as
-     standard error says
-  6  if blocks are lost: more than 1048576 blocks of the image are missing";
+  5  if blocks are lost: something that is listed is damaged, or PATH leads to nothing that can be listed and something
+     is lost on the way, as standard error says
+  6  if blocks are lost: more than 1048576 blocks of the image are missing; or its super-block is lost, and neither
+     --sizes nor --like is given";
 
 const PATH: Parameter = Parameter {
     name: "PATH",

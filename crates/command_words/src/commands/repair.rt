@@ -53,8 +53,8 @@ repaired as zeros. A file that fits keeps its size and the places of its bytes, 
 What is lost has lines on standard error, as `export` has them, with the paths of the copy:
   unixvol: 3994 of 4872 blocks are lost
   unixvol: f4: 10400 of 100000 bytes are lost: 89600-99999
-Without --blocks, a file that fits and has no such line is right in the copy, whatever the lost blocks held. With
---blocks, the image is first completed, up to the blocks that its super-block or --sizes states; the blocks appended to that aren't lost.
+A file that fits and has no such line is right in the copy, whatever the lost blocks held. With --blocks, the image
+is first completed, up to the blocks that its super-block or --sizes states; the blocks appended to that aren't lost.
 
 Status:
   0  the copy is sound and was saved; with -n, it can be made; no block is lost
@@ -70,7 +70,8 @@ Status:
      `unixvol: rescue.map: line 7: the size is no number`: MAPFILE can't be read
   4  `unixvol: 12 NoMemory`
   5  as 0, but blocks are lost: standard error says what
-  6  `unixvol: the image has 2 of 2000000 blocks`: more than 1048576 blocks are missing";
+  6  `unixvol: the image has 2 of 2000000 blocks`: more than 1048576 blocks are missing
+     `unixvol: the super-block is lost: give --sizes or --like`";
 
 const NEW: Parameter = Parameter {
     name: "NEW",

@@ -67,7 +67,8 @@ Status:
   4  `unixvol: 12 NoMemory`
   5  if blocks are lost: something is damaged or left out, or PATH isn't found and something is lost on the way,
      as standard error says
-  6  if blocks are lost: more than 1048576 blocks of the image are missing";
+  6  if blocks are lost: more than 1048576 blocks of the image are missing; or its super-block is lost, and neither
+     --sizes nor --like is given";
 
 /// The words that `sums` takes.
 pub(crate) const WORDS: &[Parameter] = &[

@@ -32,8 +32,8 @@ pub struct RescuedVolume {
 /// Repairs an image of which some blocks are lost, as [`repair_with_report`](crate::repair::repair_with_report) does, and names what is lost, by the paths in
 /// the copy. The lost blocks have zeros in the image. If the volume has fewer than `blocks` blocks, those that are appended aren't lost.
 ///
-/// If the image isn't made longer, a file that fits and of which nothing is lost is right in the copy, whatever the lost blocks held: that is the law
-/// [`repaired_files_are_right`](vol_repair::laws::repaired_files_are_right).
+/// A file that fits and of which nothing is lost is right in the copy, whatever the lost blocks held: that is the law
+/// [`rescued_files_are_right`](crate::laws::rescued_files_are_right).
 pub fn repair_rescued(
     alloc: Global,
     edition: Edition,

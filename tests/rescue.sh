@@ -1,5 +1,5 @@
 #!/usr/bin/env bash
-# Runs `export`, `find`, `sums`, `ls`, `get`, `cat`, `check` and `repair` of the built program with `--cut`, `--bad`, `--bad-blocks`, `--sizes` and `--like` on volumes that were cut off, or
+# Runs `export`, `find`, `sums`, `ls`, `get`, `cat`, `check`, `block` and `repair` of the built program with `--cut`, `--bad`, `--bad-blocks`, `--sizes` and `--like` on volumes that were cut off, or
 # of which blocks couldn't be read, and compares what it writes with what the whole volume holds.
 # Usage: tests/rescue.sh PROGRAM. It prints a line for each row that fails, and ends with 'N passed, N failed'.
 . "$(dirname "$0")/rows.sh"
@@ -617,12 +617,14 @@ misread "error: the argument '--like' cannot be used with '--sizes'" sums --like
 
 # Random volumes of both editions, of which random blocks are lost and have random bytes: each member is in the whole volume with the same header and
 # bytes, each file that is no member has a line, and of damaged files the bytes outside the ranges are right. Each line of a manifest that has a digest is
-# one of the whole volume's, the others but for the digest; and each path below whole directories has the i-number that it has there.
+# one of the whole volume's, the others but for the digest; and each path below whole directories has the i-number that it has there. Each use of a block that is
+# shown is its use there.
 python3 - "$program" > error << 'PYTHON'
 import json, os, random, re, subprocess, sys, tarfile
 
-program, count, digests, bodies, listings = sys.argv[1], 0, 0, 0, 0
+program, count, digests, bodies, listings, uses = sys.argv[1], 0, 0, 0, 0, 0
 random.seed(1979)
+chosen = random.Random(1979)
 
 def run(*words, **more):
     return subprocess.run([program, *words], stdin=subprocess.DEVNULL, capture_output=True, **more)
@@ -666,6 +668,7 @@ def lose(at):
         print(f"0x00000000  {512 * at:#010x}  ?", file=file)
         for k in range(blocks):
             print(f"{512 * (at + k):#010x}  0x00000200  {random.choice('?*/-') if k in lost else '+'}", file=file)
+    return lost
 
 def listed(edition, image, *words):
     """The lines of a manifest, as pairs of a digest and the rest."""
@@ -685,7 +688,7 @@ def outside(body, line):
 for round in range(50 * int(os.environ.get('TIMES', 1))):
     edition, at = "67"[round % 2], random.choice((0, 0, 9))
     volume(edition)
-    lose(at)
+    lost = lose(at)
     whole = exported(edition, "r.img", "r.tar")[1]
     words = ("--at", str(at), "--bad", "r.map")
     done, kept = exported(edition, "r.bad", "k.tar", *words)
@@ -729,6 +732,13 @@ for round in range(50 * int(os.environ.get('TIMES', 1))):
         bodies += printed.returncode == 1
         if printed.returncode not in (1, 5) or printed.stdout != (wanted if printed.returncode == 1 else b""):
             print(round, "what cat prints is wrong:", ino)
+    for block in chosen.sample(range(os.path.getsize("r.img") // 512), 8) + lost[:2]:
+        wanted, printed = json.loads(run("block", "--json", edition, "r.img", str(block)).stdout), run("block", "--json", edition, "r.bad", str(block), *words)
+        shown = json.loads(printed.stdout)
+        known = shown["uses"] != [{"use": "unknown"}]
+        uses += known
+        if known and shown["uses"] != wanted["uses"] or shown["unreadable"] != (block in lost) or printed.returncode != (1 if known and block not in lost else 5):
+            print(round, "a use is wrong:", block, shown)
     again, damaged = exported(edition, "r.bad", "d.tar", *words, "--damaged")
     if again.stderr != done.stderr:
         print(round, "other lines with --damaged")
@@ -738,7 +748,7 @@ for round in range(50 * int(os.environ.get('TIMES', 1))):
             continue
         if member[:5] != whole[name][:5] or member[5] != outside(whole[name][5], line):
             print(round, "a damaged file is wrong outside its ranges:", name)
-print(count > 500 and digests > 500 and bodies > 50 and listings > 500)
+print(count > 500 and digests > 500 and bodies > 50 and listings > 500 and uses > 200)
 PYTHON
 has 'members of volumes of which random blocks are lost' True "$(cat error)"
 
@@ -1029,6 +1039,93 @@ for round in range(150 * int(os.environ.get('TIMES', 1))):
 print(named > 20)
 PYTHON
 has 'violations that are named although blocks are lost' True "$(cat error)"
+
+# `block`: a volume of the seventh edition with 100 blocks, of which the last 93 were freed one by one from block 99 down to block 7. Block 50 was freed when the
+# array of 50 was full, with a 0 and blocks 99 to 51 in it; it continues the list, and blocks 49 to 7 are after it in the super-block. I-node 3 points to blocks
+# 60 and 61, and entry 3 of that to block 62.
+"$program" mkfs 7 m.img 100 4 0 0 0
+put m.img $((1024 + 64 * 2)) 'a481 0100 0000 0000 0000 0018 003c00'
+put m.img $((1024 + 64 * 2 + 12 + 3 * 10)) 003d00
+put m.img $((512 * 61 + 4 * 3)) '00003e00'
+echo 'unixvol: 1 of 100 blocks are lost' > count
+# owned STATUS BLOCK LOST USE..: with these blocks lost, BLOCK has these lines, and this status
+owned() {
+    local block=$2 lost=$3
+    runs block --bad-blocks "$lost" 7 m.img "$block"
+    printf "block $block: %s\n" "${@:4}" > wanted
+    sed "s/ 1 / $(tr , '\n' <<< "$lost" | wc -l) /" count > line
+    wants "block --bad-blocks $lost 7 m.img $block" "$1" wanted line
+}
+listed='free, listed in block 50 free[40]'
+pointed='data of i-node 3, logical 0, addr[0]'
+owned 1 60 99 "$listed" "$pointed"
+owned 1 60 50 "$pointed"
+owned 1 60 2 "$listed"
+owned 5 60 2,50 'use unknown, nothing that is left uses it'
+owned 5 60 60 unreadable "$listed" "$pointed"
+owned 5 60 2,50,60 unreadable 'use unknown, nothing that is left uses it'
+owned 1 61 99 'free, listed in block 50 free[39]' 'indirect block of i-node 3, from logical 10, addr[10]'
+owned 5 61 61 unreadable 'free, listed in block 50 free[39]' 'indirect block of i-node 3, from logical 10, addr[10]'
+owned 1 62 50 'data of i-node 3, logical 13, addr[10][3]'
+owned 1 62 61 'free, listed in block 50 free[38]'
+owned 5 62 50,61 'use unknown, nothing that is left uses it'
+owned 5 50 50 unreadable 'free, listed in super-block free[0]'
+owned 1 7 50 'free, listed in super-block free[43]'
+owned 5 6 2 'use unknown, nothing that is left uses it'
+owned 5 6 6 unreadable 'data of i-node 2, logical 0, addr[0]'
+owned 1 0 50 'boot block'
+owned 1 1 50 super-block
+owned 1 3 2 'i-list, i-nodes 9 to 16'
+owned 5 3 3 unreadable 'i-list, i-nodes 9 to 16'
+owned 1 100 50 'outside the volume'
+# Without a lost block all is as without the options.
+printf '%s\n' "block 60: $listed" "block 60: $pointed" > wanted
+runs block --cut 7 m.img 60
+wants 'block --cut of a whole image' 0 wanted none
+echo '{"block":60,"format":1,"uses":[{"index":40,"listed_in":50,"use":"free"},{"ino":3,"level":0,"logical":0,"use":"i-node"}]}' > wanted
+runs block --json --cut 7 m.img 60
+wants 'block --json --cut of a whole image' 0 wanted none
+# A block that nothing uses is lost then, as ever: that of the root's names, without its address.
+changed m.img lost.img $((1024 + 64 + 12)) 000000
+echo 'block 6: lost' > wanted
+runs block --cut 7 lost.img 6
+wants 'block --cut of a whole image that has lost a block' 0 wanted none
+# As JSON, by a map, of an image that was cut off in block 58, and with given sizes, which leave nothing of the super-block.
+echo '{"block":60,"format":1,"unreadable":true,"uses":[{"index":40,"listed_in":50,"use":"free"},{"ino":3,"level":0,"logical":0,"use":"i-node"}]}' > wanted
+printf '%s\n' '# Mapfile' '0x0 ? 1' '0x0 0x7800 +' '0x7800 0x200 -' '0x7A00 0x4E00 +' > block.map
+runs block --json --bad block.map 7 m.img 60
+wants 'block --json of a block that is lost' 5 wanted count
+echo '{"block":60,"format":1,"unreadable":false,"uses":[{"use":"unknown"}]}' > wanted
+sed 's/ 1 / 2 /' count > line
+runs block --json --bad-blocks 2,50 7 m.img 60
+wants 'block --json of a block whose use is unknown' 5 wanted line
+head -c 30000 m.img > cut-m.img
+printf 'block 60: %s\n' unreadable "$listed" "$pointed" > wanted
+sed 's/ 1 / 42 /' count > line
+runs block --cut 7 cut-m.img 60
+wants 'block of an image that was cut off' 5 wanted line
+refuses 1 'unixvol: unsound, rule 1' block 7 cut-m.img 60
+echo "block 60: $pointed" > wanted
+runs block --sizes 100,4 7 m.img 60
+wants 'block with given sizes' 1 wanted count
+echo 'block 7: use unknown, nothing that is left uses it' > wanted
+runs block --sizes 100,4 7 m.img 7
+wants 'block of a free block with given sizes' 5 wanted count
+printf 'block 1: %s\n' unreadable super-block > wanted
+runs block --sizes 100,4 7 m.img 1
+wants 'block of the super-block with given sizes' 5 wanted count
+# In the sixth edition all 93 are in the super-block.
+"$program" mkfs 6 s.img 100 4 0 0 0
+echo 'block 20: free, listed in super-block free[80]' > wanted
+runs block --bad-blocks 99 6 s.img 20
+wants 'block of a volume of the sixth edition' 1 wanted count
+refuses 1 'unixvol: unsound, rule 2' block --bad-blocks 1 7 m.img 60
+refuses 2 'unixvol: no volume has 5 blocks with an i-list of 9' block --sizes 5,9 7 m.img 1
+refuses 3 'unixvol: cannot read missing.map' block --bad missing.map 7 m.img 1
+refuses 6 'unixvol: the image has 40 of 16000000 blocks' block --cut 7 long.img 1
+misread "error: the argument '--bad-blocks' cannot be used with '--bad'" block --bad-blocks 12 --bad half.map 7 m.img 1
+misread "error: the argument '--like' cannot be used with '--sizes'" block --like rk05 --sizes 4872,100 7 m.img 1
+misread "error: invalid value '5-3' for '--bad-blocks <LIST>'" block --bad-blocks 5-3 7 m.img 1
 
 echo "$passed passed, $failed failed"
 [ "$failed" = 0 ]

@@ -1,5 +1,6 @@
--- Statements on what `find`, `sums`, `ls`, `get` and `cat` print of an image of which some blocks couldn't be read, and on where its paths lead.
-use Rattle.std.specs.Prelude.{◌≡◌, ℕ, Bool, false, true, List, Option, All, None, Some, Ok}
+-- Statements on what `find`, `sums`, `ls`, `get`, `cat`, `check` and `block` print of an image of which some blocks couldn't be read, and on where its paths lead.
+use Rattle.std.specs.Prelude.{◌≡◌, ◌≤◌, ℕ, Bool, false, true, List, Option, All, None, Some, Ok}
+use Rattle.std.specs.List.{Any}
 use Rattle.bad_maps.specs.declared.maps.ReadRange.{ReadRange}
 use Rattle.vol_archive.specs.Laws.{members_of}
 use Rattle.vol_dir.specs.declared.directories.FoundDirectory.{FoundDirectory}
@@ -14,7 +15,11 @@ use Rattle.vol_file.specs.Rules.{HasKinds, HasSizes}
 use Rattle.vol_findings.specs.Outcomes.{Tells}
 use Rattle.vol_findings.specs.declared.outcome.RuleOutcome.TheVariants.{Broken}
 use Rattle.vol_findings.specs.declared.outcome.RuleOutcomes.{RuleOutcomes}
+use Rattle.vol_inspect.specs.Extents.{holdings}
+use Rattle.vol_inspect.specs.Owners.{naming}
+use Rattle.vol_inspect.specs.declared.extent.Extent.{Extent}
 use Rattle.vol_judge.specs.declared.finding.Finding.{Finding}
+use Rattle.vol_layout.specs.BlockPointers.{form_at}
 use Rattle.vol_layout.specs.Body.{body}
 use Rattle.vol_layout.specs.Geometry.{Fits, geometry_read}
 use Rattle.vol_layout.specs.declared.edition.Edition.{Edition}
@@ -73,6 +78,14 @@ BadFindingsAreRight = (edition : Edition) (ranges : List ReadRange) (at : ℕ) (
     (known.kinds ≡ Broken finding → HasKinds geometry volume → ⊥)
     × (known.sizes ≡ Broken finding → HasSizes geometry volume → ⊥)
     × (known.entries ≡ Broken finding → HasEntries geometry volume → ⊥)
+
+-- an i-node that `block` prints as an owner of block b has that block at the position that is printed in every volume that has the bytes of the known blocks,
+-- whatever the lost blocks held (this project)
+abbrev pub BadOwnersAreRight : Type 0
+BadOwnersAreRight = (edition : Edition) (ranges : List ReadRange) (at : ℕ) (sizes : Option VolumeSizes) (bytes volume image : List ℕ) (lost : List Bool)
+    (geometry : Geometry) (b i : ℕ) (e : Extent) → IsRescued edition ranges at sizes bytes image lost → HasRead sizes ranges at bytes volume → Fits geometry image
+    → 1 ≤ i → i ≤ geometry.last_inode → naming geometry image b i ≡ Some e
+    → (e.block ≡ b) × (form_at geometry volume i ≡ form_at geometry image i) × Any (λ held. held ≡ e) (holdings geometry volume i)
 
 -- the bytes that `cat` prints of an i-node of which nothing is lost, by its number or a path, are those of the i-node in every volume that has the bytes of the
 -- known blocks, whatever the lost blocks held (this project)

@@ -20,6 +20,7 @@ use Rattle.command_faults.specs.Streams.{Streams}
 use Rattle.command_faults.specs.declared.fault.Fault.{Fault}
 use Rattle.command_reads.specs.BadFiles.{cat_sights, get_sights}
 use Rattle.command_reads.specs.BadLists.{list_sights}
+use Rattle.command_reads.specs.BadOwners.{block_sights}
 use Rattle.command_reads.specs.Check.{check_sights}
 use Rattle.command_reads.specs.Export.{ExportsFrom, begun}
 use Rattle.command_reads.specs.Find.{found_sights}
@@ -114,6 +115,7 @@ ShowsRescued edition image lost screen streams status (bad_looks.Sums path form 
     Shows (sums_sights edition image lost path.now form orphans) streams status
 ShowsRescued edition image lost screen streams status (bad_looks.Check graded form) =
     Shows (check_sights edition image lost graded form) streams status
+ShowsRescued edition image lost screen streams status (bad_looks.Block block form) = Shows (block_sights edition image lost block form) streams status
 ShowsRescued edition image lost screen streams status (bad_looks.List path listing) =
     Shows (list_sights edition image lost path.now listing screen) streams status
 ShowsRescued edition image lost screen streams status (bad_looks.Read path damaged) =

@@ -6,6 +6,7 @@ ghost use Rattle.command_reads.specs.BadLooks.{IsMisreadEnding, IsUnrescuedEndin
 use crate::bad_files::{print_in, read_in};
 use crate::bad_images::rescue_image;
 use crate::bad_lists::list_in;
+use crate::bad_owners::block_in;
 use crate::check::check_in;
 use crate::export::{export_read, unread};
 use crate::find::find_in;
@@ -112,6 +113,10 @@ fn show_rescued<O: Sink>(
         }
         BadLook::Check { graded, form } => {
             let shown = check_in(alloc, edition, &read.image, &read.lost, graded, form);
+            print(shown, output)
+        }
+        BadLook::Block { block, form } => {
+            let shown = block_in(alloc, edition, &read.image, &read.lost, block, form);
             print(shown, output)
         }
         BadLook::List { path, listing } => {

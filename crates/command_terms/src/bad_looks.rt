@@ -29,6 +29,11 @@ pub enum BadLook<'a> {
         graded: bool,
         form: OutputForm,
     },
+    /// The owners of a block that are known, as for [`Look::Block`](crate::Look::Block).
+    Block {
+        block: u32,
+        form: OutputForm,
+    },
     /// The names in a directory, or a file, as for [`Look::ListUnsound`](crate::Look::ListUnsound).
     List {
         path: &'a str,

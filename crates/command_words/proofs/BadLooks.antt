@@ -10,6 +10,7 @@ use Rattle.vol_listing.specs.Depths.{goes_below}
 use Rattle.vol_listing.specs.declared.options.ListOptions.{ListOptions}
 use Rattle.command_words.specs.BadWords.{IsBadImageGiven}
 use Rattle.command_terms.specs.declared.options.Repairing.{Repairing}
+use Rattle.command_words.specs.Decimal.{IsNumberGiven}
 use Rattle.command_words.specs.Invocations.{AreLinesGiven, AsksFor, IsDepthGiven, IsExportGiven, IsFormGiven, IsNodeGiven, IsOnePathGiven, IsRepairGiven, IsVolumeGiven, Words, is_set, look_at, repair_at, the_word}
 use Rattle.command_words.specs.declared.invocation.BadImage.{BadImage}
 use Rattle.command_words.specs.declared.invocation.MadeFile.{MadeFile}
@@ -79,3 +80,11 @@ pub cat_asked : (clock : Option ℕ) (given : Words) (volume : VolumeFile) (node
     → AsksFor clock verbs.Cat given (look_at volume (bad_looks.Body node damaged) bad)
 cat_asked clock given volume node damaged None named is shown none = (refl, (named, is, none))
 cat_asked clock given volume node damaged (Some image) named is shown bad = (refl, (named, (is, shown, bad)))
+
+-- the words of `block` ask for its invocation
+pub block_asked : (clock : Option ℕ) (given : Words) (volume : VolumeFile) (block : ℕ) (form : OutputForm) (bad : Option BadImage) → IsVolumeGiven given volume
+    → IsNumberGiven 4294967295 (the_word given (codes "BLOCK")) block → IsFormGiven given form
+    → IsBadImageGiven given volume.edition (is_set (given (codes "cut"))) bad
+    → AsksFor clock verbs.Block given (look_at volume (bad_looks.Block block form) bad)
+block_asked clock given volume block form None named is shown none = (refl, (named, (is, shown, none)))
+block_asked clock given volume block form (Some image) named is shown bad = (refl, (named, (is, shown, bad)))

@@ -27,6 +27,7 @@ AreTwoGiven given = AreBothGiven given (codes "bad") (codes "bad-blocks") ⊎ Ar
 
 -- true if the command reads words about an image of which some blocks couldn't be read
 is_rescuer : Verb → Bool
+is_rescuer verbs.Block = true
 is_rescuer verbs.Cat = true
 is_rescuer verbs.Check = true
 is_rescuer verbs.Export = true
@@ -75,6 +76,8 @@ one_way clock given (invocations.Look volume (looks.Find path name lost form)) r
 one_way clock given (invocations.Look volume (looks.Sums path form lost)) read is both = none_two given V7 is.1.3 both
 one_way clock given (invocations.Look volume (looks.Check graded form)) read is both = none_two given V7 is.1.2 both
 one_way clock given (invocations.LookBad volume image (bad_looks.Check graded form)) read is both = image_two given volume.edition _ image is.1.2 both
+one_way clock given (invocations.Look volume (looks.Block block form)) read is both = none_two given V7 is.1.2 both
+one_way clock given (invocations.LookBad volume image (bad_looks.Block block form)) read is both = image_two given volume.edition _ image is.1.2 both
 one_way clock given (invocations.LookBad volume image (bad_looks.Export p options)) read is both = image_two given volume.edition false image is.1.1 both
 one_way clock given (invocations.LookBad volume image (bad_looks.Find p name lost form)) read is both = image_two given volume.edition _ image is.1.4 both
 one_way clock given (invocations.Repair volume copy repairing) read is both = none_two given V7 is.1 both
@@ -110,6 +113,13 @@ check_wrong clock given (inl list) = no_value clock verbs.Check given (inr (inr 
 check_wrong clock given (inr (inl sizes)) = no_value clock verbs.Check given (inr (inr (inr (inr (inr (inr (inr (inl sizes))))))))
 check_wrong clock given (inr (inr (inl disk))) = no_value clock verbs.Check given (inr (inr (inr (inr (inr (inr (inr (inr (inl disk)))))))))
 check_wrong clock given (inr (inr (inr both))) = λ invocation asks. one_way clock given invocation (sym (ap is_rescuer asks.0)) asks.1 both
+
+pub block_wrong : (clock : Option ℕ) (given : Words) → IsBadWrong given → AsksForNothing clock verbs.Block given
+unfolding AsksForNothing is_rescuer
+block_wrong clock given (inl list) = no_value clock verbs.Block given (inr (inr (inr (inr (inr (inr (inl list)))))))
+block_wrong clock given (inr (inl sizes)) = no_value clock verbs.Block given (inr (inr (inr (inr (inr (inr (inr (inl sizes))))))))
+block_wrong clock given (inr (inr (inl disk))) = no_value clock verbs.Block given (inr (inr (inr (inr (inr (inr (inr (inr (inl disk)))))))))
+block_wrong clock given (inr (inr (inr both))) = λ invocation asks. one_way clock given invocation (sym (ap is_rescuer asks.0)) asks.1 both
 
 pub repair_wrong : (clock : Option ℕ) (given : Words) → IsBadWrong given → AsksForNothing clock verbs.Repair given
 unfolding AsksForNothing is_rescuer

@@ -74,6 +74,9 @@ values_given clock given (invocations.LookBad volume image (bad_looks.Read path 
 values_given clock given (invocations.Look volume (looks.Check graded form)) is = let whole = none_values given is.1.2 in search (rules, whole)
 values_given clock given (invocations.LookBad volume image (bad_looks.Check graded form)) is =
     let whole = image_values given volume.edition image is.1.2 in search (rules, whole)
+values_given clock given (invocations.Look volume (looks.Block block form)) is = let whole = none_values given is.1.2 in search (rules, whole)
+values_given clock given (invocations.LookBad volume image (bad_looks.Block block form)) is =
+    let whole = image_values given volume.edition image is.1.2 in search (rules, whole)
 values_given clock given invocation is = search (rules, scripts_value)
 
 -- if all words are valid, none of them is wrong

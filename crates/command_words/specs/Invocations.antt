@@ -248,6 +248,7 @@ bad_look_verb (bad_looks.Export path options) = verbs.Export
 bad_look_verb (bad_looks.Find path name lost form) = verbs.Find
 bad_look_verb (bad_looks.Sums path form lost) = verbs.Sums
 bad_look_verb (bad_looks.Check graded form) = verbs.Check
+bad_look_verb (bad_looks.Block block form) = verbs.Block
 bad_look_verb (bad_looks.List path listing) = verbs.Ls
 bad_look_verb (bad_looks.Read path damaged) = verbs.Get
 bad_look_verb (bad_looks.Body node damaged) = verbs.Cat
@@ -496,6 +497,7 @@ IsLookGiven given (looks.Inode node form) = IsNodeGiven (the_word given (codes "
 IsLookGiven given (looks.Super form) = IsFormGiven given form
 IsLookGiven given (looks.Free form) = IsFormGiven given form
 IsLookGiven given (looks.Block block form) = IsNumberGiven 4294967295 (the_word given (codes "BLOCK")) block × IsFormGiven given form
+    × IsBadImageGiven given V7 (is_set (given (codes "cut"))) None
 IsLookGiven given (looks.Dump target form) =
     IsTargetGiven (the_word given (codes "BLOCK")) (is_set (given (codes "inode"))) target × IsDumpFormGiven given form
 IsLookGiven given (looks.Df form) = IsFormGiven given form
@@ -531,6 +533,8 @@ IsBadLookGiven given edition image (bad_looks.Sums path form lost) = (path.now �
     × (lost ≡ is_set (given (codes "lost"))) × IsBadImageGiven given edition (is_set (given (codes "cut"))) (Some image)
 IsBadLookGiven given edition image (bad_looks.Check graded form) = (graded ≡ is_set (given (codes "status"))) × IsFormGiven given form
     × IsBadImageGiven given edition (is_set (given (codes "cut"))) (Some image)
+IsBadLookGiven given edition image (bad_looks.Block block form) = IsNumberGiven 4294967295 (the_word given (codes "BLOCK")) block × IsFormGiven given form
+    × IsBadImageGiven given edition (is_set (given (codes "cut"))) (Some image)
 IsBadLookGiven given edition image (bad_looks.List path listing) = (path.now ≡ the_word given (codes "PATH")) × AreLinesGiven given listing.lines
     × IsDepthGiven given listing.depth × (is_set (given (codes "slots")) ≡ false) × (goes_below listing.depth ≡ false)
     × IsBadImageGiven given edition (is_set (given (codes "cut"))) (Some image)
@@ -545,6 +549,7 @@ whole_at volume (bad_looks.Export path options) = invocations.Look volume (looks
 whole_at volume (bad_looks.Find path name lost form) = invocations.Look volume (looks.Find path name lost form)
 whole_at volume (bad_looks.Sums path form lost) = invocations.Look volume (looks.Sums path form lost)
 whole_at volume (bad_looks.Check graded form) = invocations.Look volume (looks.Check graded form)
+whole_at volume (bad_looks.Block block form) = invocations.Look volume (looks.Block block form)
 whole_at volume (bad_looks.List path listing) = invocations.Look volume (looks.ListUnsound path listing)
 whole_at volume (bad_looks.Read path damaged) = invocations.Look volume (looks.ReadUnsound path)
 whole_at volume (bad_looks.Body node damaged) = invocations.Cat volume node

@@ -116,6 +116,7 @@ fn whole_at<'a>(volume: VolumeFile<'a>, look: BadLook<'a>) -> Invocation<'a>
         },
         BadLook::Sums { path, form, lost } => Look::Sums { path, form, lost },
         BadLook::Check { graded, form } => Look::Check { graded, form },
+        BadLook::Block { block, form } => Look::Block { block, form },
         BadLook::List { path, listing } => Look::ListUnsound { path, listing },
         BadLook::Read { path, .. } => Look::ReadUnsound { path },
         BadLook::Body { node, .. } => return Invocation::Cat { volume, node },

@@ -8,6 +8,7 @@ use Rattle.command_faults.specs.Streams.{Streams}
 use Rattle.command_reads.specs.BadFiles.{cat_sights, get_sights}
 use Rattle.command_reads.specs.BadLists.{list_sights}
 use Rattle.command_reads.specs.BadLooks.{LooksBad, LooksRescued, ShowsRescued, TellsUnrescued}
+use Rattle.command_reads.specs.BadOwners.{block_sights}
 use Rattle.command_reads.specs.Check.{check_sights, verdict_status}
 use Rattle.command_reads.specs.Export.{begun, told_status}
 use Rattle.command_reads.specs.Find.{found_sights}
@@ -90,6 +91,11 @@ ends_rescued edition image [] screen streams status (bad_looks.Check graded form
 ends_rescued edition image (mark ∷ lost) screen streams status (bad_looks.Check graded form) shows =
     ends_shows 6 (check_sights edition image (mark ∷ lost) graded form) streams status (omega arith)
     (λ text wanted lines is. (subst (λ n. n ≤ 6) (sym is.0.3) (verdict_six graded (is_ok (geometry_read edition image)) false), λ e. is.1)) shows
+ends_rescued edition image [] screen streams status (bad_looks.Block block form) shows =
+    ends_shows 6 (block_sights edition image [] block form) streams status (omega arith) (λ text wanted lines is. (omega (arith, is.0.1), λ e. is.1)) shows
+ends_rescued edition image (mark ∷ lost) screen streams status (bad_looks.Block block form) shows =
+    ends_shows 6 (block_sights edition image (mark ∷ lost) block form) streams status (omega arith)
+    (λ text wanted lines is. known_few is.2.short wanted lines is.2.graded) shows
 ends_rescued edition image [] screen streams status (bad_looks.List path listing) shows =
     ends_shows 6 (list_sights edition image [] path.now listing screen) streams status (omega arith)
     (λ text wanted lines is. lines_few 6 1 wanted lines (omega arith) (omega arith) is.1) shows

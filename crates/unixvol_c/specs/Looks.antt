@@ -142,6 +142,7 @@ IsExportOf path options (bad_looks.Export word chosen) = (word.now ≡ path) × 
 IsExportOf path options (bad_looks.Find word name lost form) = ⊥
 IsExportOf path options (bad_looks.Sums word form lost) = ⊥
 IsExportOf path options (bad_looks.Check graded form) = ⊥
+IsExportOf path options (bad_looks.Block block form) = ⊥
 IsExportOf path options (bad_looks.List word listing) = ⊥
 IsExportOf path options (bad_looks.Read word damaged) = ⊥
 IsExportOf path options (bad_looks.Body node damaged) = ⊥

@@ -8,6 +8,7 @@ pub mod MemberOrder
 pub mod MetOnce
 pub mod NameOrder
 pub mod NamedEntries
+pub mod NotedMembers
 pub mod PlainPaths
 pub mod Outputs
 pub mod ProperPaths

@@ -9,6 +9,7 @@ pub mod Export
 pub mod Laws
 pub mod Marks
 pub mod Members
+pub mod Notes
 pub mod Rescue
 pub mod Walk
 pub mod Write

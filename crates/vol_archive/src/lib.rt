@@ -13,7 +13,7 @@ pub mod tree_walk;
 pub mod write;
 
 pub use export_tree::{export, is_directory, lost_start_of};
-pub use members::put_archive;
+pub use members::{put_archive, put_noted};
 pub use met_entries::{MetEntry, Reason, Role};
 pub use rescue::{Rescue, rescue_below};
 pub use tree_walk::walk;

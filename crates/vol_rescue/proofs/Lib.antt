@@ -3,3 +3,4 @@ pub mod KnownEntries
 pub mod KnownFindings
 pub mod RightMembers
 pub mod RightPaths
+pub mod Unnoted

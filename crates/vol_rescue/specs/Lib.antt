@@ -3,4 +3,5 @@ pub mod KnownOutcomes
 pub mod Laws
 pub mod Lines
 pub mod Repaired
+pub mod Notes
 pub mod Paths

@@ -11,6 +11,14 @@ exports() {
     has "the status of export ${*:3}" "$1" $?
 }
 
+# comments ARCHIVE: a line for each member that has a comment, with its name and the comment, as Python reads them
+comments() {
+    python3 -c 'import sys, tarfile
+for member in tarfile.open(sys.argv[1]):
+    if "comment" in member.pax_headers:
+        print(member.name, member.pax_headers["comment"], sep=": ")' "$1"
+}
+
 # same ARCHIVE NAME FILE: the member NAME has the bytes of FILE
 same() {
     tar -xOf "$1" "$2" | cmp -s - "$3"
@@ -37,6 +45,17 @@ for edition in 6 7; do
     has "the lines with damaged files of edition $edition" 0 $?
     has "the members with damaged files of edition $edition" 'f1 f2 f3 f4 f5 f6 f7 f8' "$(tar -tf damaged.tar | paste -s -d ' ' -)"
     for n in 1 2 3; do same damaged.tar "f$n" "f$n"; done
+    # The archive has the words of the lines as comments, and is imported with them; without damaged files there are none.
+    has "the comments on damaged files of edition $edition" "$(sed -n 's/^unixvol: f/f/p' told)" "$(comments damaged.tar)"
+    for name in whole cut; do has "the comments of $name.tar of edition $edition" '' "$(comments "$name.tar")"; done
+    tar -xOf damaged.tar f1 2> error > /dev/null
+    has "what GNU tar says of comments of edition $edition" '' "$(cat error)"
+    "$program" mkfs "$edition" into.img 4872 100 0 0 0
+    "$program" import "$edition" into.img / 2000 < damaged.tar > output 2> error
+    echo $? > status
+    wants "import of comments of edition $edition" 0 none none
+    tar -xOf damaged.tar f4 > zeros
+    prints zeros get "$edition" into.img /f4
     # `get` prints the files of which nothing is lost, and a damaged one only if it is told to; each line is about that file.
     echo 'unixvol: 3994 of 4872 blocks are lost' > count
     for n in 1 2 3; do
@@ -124,6 +143,37 @@ unixvol: f5: 100000 of 100000 bytes are lost: 0-99999
 unixvol: f6: 100000 of 100000 bytes are lost: 0-99999
 unixvol: f7: 100000 of 100000 bytes are lost: 0-99999
 unixvol: f8: 100000 of 100000 bytes are lost: 0-99999' "$(cat told)"
+
+# The record counts its own length: 7 of the keyword, 43 of the comment, a space, an equals sign, a newline and two digits. The header before it has that size.
+has 'the record of f4' 1 "$(grep -a -c '^55 comment=10400 of 100000 bytes are lost: 89600-99999$' <(tr '\0' '\n' < damaged.tar))"
+has 'the headers of comments' 5 "$(grep -a -o 'PaxHeader' damaged.tar | wc -l)"
+has 'the size in the header of a comment' '00000000067' "$(LC_ALL=C grep -a -o -b '././@PaxHeader' damaged.tar | head -n 1 | { IFS=: read -r at _; tail -c "+$((at + 125))" damaged.tar | head -c 11; })"
+
+# A path that doesn't fit a header and a comment are in one extended header; each further name of a damaged file has the comment too.
+"$program" mkfs 7 long.img 400 40 0 0 0
+path=
+for n in $(seq 20); do path=$path/directory.$(printf %04d "$n"); done
+"$program" mkdir 7 long.img -p "$path" 1
+"$program" put 7 long.img "$path/file" f1 1
+"$program" ln 7 long.img "$path/file" /zz 1
+at=$("$program" inode 7 long.img "$path/file" | awk '$1 == "addr" { print $2 }')
+exports 5 damaged.tar 7 long.img --bad-blocks "$at" --damaged
+python3 - damaged.tar > got << 'PYTHON'
+import sys, tarfile
+
+with open(sys.argv[1], "rb") as file:
+    print(file.read().count(b"././@PaxHeader"))
+for member in tarfile.open(sys.argv[1]):
+    if "comment" in member.pax_headers:
+        print(member.islnk(), sorted(member.pax_headers), len(member.name), member.pax_headers["comment"])
+PYTHON
+# The directories 17 to 20 have extended headers for their paths alone.
+cat > want << 'END'
+6
+False ['comment', 'path'] 304 512 of 100000 bytes are lost: 0-511
+True ['comment', 'linkpath'] 2 512 of 100000 bytes are lost: 0-511
+END
+has 'one extended header for a path and a comment' "$(cat want)" "$(cat got)"
 
 # Blocks are lost in which nothing is stored: everything is exported, and a line says so.
 "$program" mkfs 7 free.img 400 10 0 0 0

@@ -1,11 +1,10 @@
 -- Looks at images of which some blocks couldn't be read.
-use Rattle.std.proofs.Common.{◌≡◌, ℕ, Bool, true, List, Option, inl, inr, ap, ◌∙◌, sym}
+use Rattle.std.proofs.Common.{◌≡◌, ℕ, Bool, true, List, Option, inl, inr, ◌∙◌, sym}
 use Rattle.std.specs.Prelude.{Err}
 use Rattle.bad_maps.specs.Maps.{ranges_in, ReadsMap}
 use Rattle.bad_maps.specs.declared.maps.MapFault.{MapFault}
 use Rattle.bad_maps.specs.declared.maps.MapFault.TheVariants as maps
 use Rattle.bad_maps.specs.declared.maps.ReadRange.{ReadRange}
-use Rattle.vol_archive.specs.Members.{archive_bytes}
 use Rattle.vol_layout.specs.declared.edition.Edition.{Edition}
 use Rattle.vol_losses.specs.BadImages.{IsRescued, IsUnrescued}
 use Rattle.vol_losses.specs.declared.bad_images.RescueFault.{RescueFault}
@@ -13,7 +12,6 @@ use Rattle.vol_losses.specs.declared.bad_images.RescueFault.TheVariants as rescu
 use Rattle.vol_losses.specs.declared.cut_images.CutFault.TheVariants as cuts
 use Rattle.vol_losses.specs.declared.given_sizes.VolumeSizes.{VolumeSizes}
 use Rattle.vol_losses.proofs.BadLaws.{rescue_agrees}
-use Rattle.vol_rescue.specs.Damage.{kept_entries}
 use Rattle.vol_rescue.proofs.RightMembers.{archives_right}
 use Rattle.command_faults.specs.Streams.{still}
 use Rattle.command_faults.specs.declared.fault.Fault.{Fault}
@@ -21,7 +19,7 @@ use Rattle.command_reads.proofs.Printed.{told_only}
 use Rattle.command_reads.specs.BadLooks.{IsMisreadEnding, IsUnrescuedEnding, IsUnsizedEnding, TellsMisread, TellsUnrescued, is_unsized}
 use Rattle.command_reads.specs.Laws.{BadExportsAreRight}
 use Rattle.command_reads.specs.declared.bad_looks.BadMap.{BadMap}
-use Rattle.command_reads.proofs.Exported.{told_incomplete}
+use Rattle.command_reads.proofs.Exported.{told_incomplete, unnoted}
 
 -- an image that isn't rescued was reported, and nothing was printed
 pub told_unrescued : (edition : Edition) (ranges : List ReadRange) (at : ℕ) (sizes : Option VolumeSizes) (bytes : List ℕ) (known : Option (List ℕ)) (failed : Bool)
@@ -77,7 +75,7 @@ told_misread map known failed (maps.Line number flaw) status fault cause (inr is
 
 -- an export without the damaged files is right, whatever the lost blocks held
 pub bad_exports_right : BadExportsAreRight
-bad_exports_right edition ranges at sizes bytes volume image path lost options start founds rescued has fits begins damaged =
-    ap (λ (d : Bool). archive_bytes start.geometry image (kept_entries start.geometry image lost d founds)) damaged
+bad_exports_right edition ranges at sizes bytes volume image path lost options start founds notes rescued has fits begins damaged noted =
+    unnoted start image lost options founds notes damaged noted
     ∙ sym (archives_right start.geometry lost image volume founds fits
     (rescue_agrees start.geometry edition ranges at sizes bytes volume image lost fits rescued has))

@@ -13,13 +13,12 @@ use Rattle.vol_dir.specs.declared.refusal.Refusal.{Refusal}
 use Rattle.vol_losses.specs.CutImages.{IsCompleted, IsCompletedIf, IsFilled, has_size}
 use Rattle.vol_archive.specs.Export.{lost_directory_at, lost_start_read}
 use Rattle.vol_dir.specs.Directories.{directory_at, found_in, found_read}
-use Rattle.vol_archive.specs.Members.{archive_bytes}
 use Rattle.vol_dir.specs.declared.directories.FoundDirectory.{FoundDirectory}
 use Rattle.vol_dir.specs.declared.directories.DirectoryFault.{DirectoryFault}
-use Rattle.vol_rescue.specs.Damage.{kept_entries}
 use Rattle.vol_rescue.proofs.RightMembers.{cut_archives_right}
 use Rattle.command_reads.specs.Export.{begun}
 use Rattle.command_reads.specs.Laws.{CutExportsAreRight}
+use Rattle.command_reads.proofs.Exported.{unnoted}
 
 -- the geometry with which an export starts, or another one if it doesn't start
 abbrev geometry_in : Result FoundDirectory DirectoryFault → Geometry → Geometry
@@ -90,10 +89,10 @@ completed_size edition bytes image lost completed =
     ] refl completed
 
 pub exports_right : CutExportsAreRight
-exports_right edition bytes rest image path lost options start founds completed fits begins damaged =
+exports_right edition bytes rest image path lost options start founds notes completed fits begins damaged noted =
     let is : geometry_of edition image ≡ start.geometry = geometry_is edition image start.geometry (read_begun options.lost edition image path start begins) in
     let own : edition ≡ start.geometry.edition = ap (λ (g : Geometry). g.edition) is in
     let end : start.geometry.zone_end ≡ block_count start.geometry.edition bytes =
     sym (ap (λ (g : Geometry). g.zone_end) is) ∙ (completed_size edition bytes image lost completed ∙ ap (λ (e : Edition). block_count e bytes) own) in
-    ap (λ (d : Bool). archive_bytes start.geometry image (kept_entries start.geometry image lost d founds)) damaged
+    unnoted start image lost options founds notes damaged noted
     ∙ sym (cut_archives_right start.geometry bytes rest image lost founds fits end (subst (λ (e : Edition). IsCompleted e bytes image lost) own completed))

@@ -4,11 +4,12 @@ use Rattle.vol_layout.specs.declared.edition.Edition.{Edition}
 use Rattle.vol_losses.specs.CutImages.{IsCompleted, IsIncomplete}
 use Rattle.vol_losses.specs.declared.cut_images.CutFault.{CutFault}
 use Rattle.vol_losses.specs.declared.cut_images.CutFault.TheVariants as cuts
-use Rattle.vol_archive.specs.Members.{archive_bytes}
+use Rattle.vol_archive.specs.Notes.{noted_archive}
 use Rattle.vol_dir.specs.declared.directories.FoundDirectory.{FoundDirectory}
 use Rattle.vol_archive.specs.declared.met_entries.MetEntry.{MetEntry}
 use Rattle.vol_rescue.specs.Damage.{kept_entries}
 use Rattle.vol_rescue.specs.Lines.{TellsLosses}
+use Rattle.vol_rescue.specs.Notes.{HasNotes}
 use Rattle.command_faults.specs.Faults.{fault_line, no_memory}
 use Rattle.command_faults.specs.Streams.{Streams}
 use Rattle.command_faults.specs.declared.fault.Fault.{Fault}
@@ -40,10 +41,14 @@ TellsIncomplete edition bytes streams status =
     × IsToldWith 6 streams fault status)
     ⊎ IsTold streams no_memory status
 
--- the bytes of the archive of the entries found, without those that are damaged (this project)
-abbrev pub exported_bytes : FoundDirectory → List ℕ → List Bool → ExportOptions → List MetEntry → List ℕ
-exported_bytes start image lost options founds =
-    archive_bytes start.geometry image (kept_entries start.geometry image lost options.losses.damaged founds)
+-- the bytes of the archive of the entries found, without those that are damaged, with these notes on files (this project)
+abbrev pub exported_bytes : FoundDirectory → List ℕ → List Bool → ExportOptions → List MetEntry → List (List ℕ) → List ℕ
+exported_bytes start image lost options founds notes =
+    noted_archive start.geometry image (kept_entries start.geometry image lost options.losses.damaged founds) notes
+
+-- the notes of an export: with the damaged files, the text that names the lost bytes of each; else none (this project)
+abbrev pub AreExportNotes : FoundDirectory → List ℕ → List Bool → ExportOptions → List (List ℕ) → Type 0
+AreExportNotes start image lost options notes = HasNotes start.geometry image lost options.losses.damaged notes
 
 -- all remarks on an export, and whether something isn't exported: if there are lost blocks, what is lost, else what is wrong with the volume (this
 -- project)

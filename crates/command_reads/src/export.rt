@@ -19,13 +19,13 @@ use command_faults::{Ending, Fault};
 use command_terms::ExportOptions;
 use pdp_words::{Image, Sink};
 use std::alloc::{AllocError, Global};
-use vol_archive::{Rescue, WriteFault, lost_start_of, put_archive, rescue_below, walk};
+use vol_archive::{Rescue, WriteFault, lost_start_of, put_noted, rescue_below, walk};
 use vol_dir::{DirectoryFault, FoundDirectory, Refusal, find_directory};
 use vol_inspect::lost_inodes;
 use vol_layout::{Edition, Geometry};
 use vol_listing::Screen;
 use vol_losses::{CutFault, CutImage};
-use vol_rescue::without_damaged;
+use vol_rescue::{notes_on, without_damaged};
 
 /// Writes an archive of everything below the directory at a path. As an option, the archive also has the i-nodes that no entry names and those that are
 /// out of reach, as in a ring of directories, with everything below them, under `lost+found`; then the path may lead to a root that is no directory,
@@ -36,7 +36,7 @@ use vol_rescue::without_damaged;
 /// of reach, and for each other flaw of the image. An archive is never written to a terminal.
 ///
 /// As another option, the image may be shorter than its volume. If blocks of it are lost, each file that isn't whole is left out, or is exported with
-/// zeros in place of the lost bytes; the fault then has the lines about what is lost, and no others, and the status is 5 if anything is damaged or left
+/// zeros in place of the lost bytes and a comment that names them; the fault then has the lines about what is lost, and no others, and the status is 5 if anything is damaged or left
 /// out, else 1. If the path leads to no directory but something is lost on the way, nothing is exported, the lines are about that, and the status is 5. If
 /// more than [`vol_losses::MOST_MISSING`] blocks are missing, the status is 6.
 ///
@@ -173,7 +173,7 @@ fn export_below<O: Sink>(
     }
 }
 
-/// Writes the archive of everything below a directory, without the damaged files, and returns the remarks on it.
+/// Writes the archive of everything below a directory, without the damaged files or with notes on them, and returns the remarks on it.
 fn write_below<O: Sink>(
     alloc: Global,
     edition: Edition,
@@ -192,8 +192,9 @@ fn write_below<O: Sink>(
     let rescue = walk_all(alloc, image, geometry, start.inode, options.lost)?;
     let remarks = remarks_on(alloc, edition, image, lost, start, &rescue, options)?;
     let damaged = options.losses.damaged;
+    let notes = notes_on(alloc, image, geometry, lost, damaged)?;
     let kept = without_damaged(alloc, image, geometry, lost, damaged, rescue.founds)?;
-    match put_archive(alloc, image, geometry, &kept, output) {
+    match put_noted(alloc, image, geometry, &kept, &notes, output) {
         Ok(()) => Ok(remarks),
         Err(fault) => Err(unwritten(fault)),
     }

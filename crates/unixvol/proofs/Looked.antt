@@ -146,8 +146,8 @@ ends_below : (most : ℕ) (edition : Edition) (image : List ℕ) (lost : List Bo
 ends_below most edition image lost start options streams status is_most (whole founds walk is) =
     ends_lines most (told_status (is_graded options.graded lost) is.short) streams status is.lines (told_few (is_graded options.graded lost) is.short).0
     (is_most.told is.short) is.working is.said is.status
-ends_below most edition image lost start options streams status is_most (broken founds walk is) = ends_broken most streams _ status is_most.four is
-ends_below most edition image lost start options streams status is_most (short founds walk is) =
+ends_below most edition image lost start options streams status is_most (broken founds notes walk noted is) = ends_broken most streams _ status is_most.four is
+ends_below most edition image lost start options streams status is_most (short founds notes walk noted is) =
     let few = is_most.four in
     ends_badly most streams status (omega (arith, is.status)) (omega (arith, is.status, few))
 ends_below most edition image lost start options streams status is_most (unbegun told) = ends_told most streams no_memory status is_most.four told

@@ -28,7 +28,8 @@ Examples:
 A POSIX ustar archive is written to standard output: files, directories and special files, with their permissions,
 owners and times of modification. The second and further names of a file are links to the first. Members are
 sorted by name, with paths that start at PATH, and no path occurs twice. A header of pax comes before a member whose
-path or link is too long for its own header, and before no other. Paths above 4096 bytes are left out.
+path or link is too long for its own header, with --damaged before one with lost bytes, and before no other. Paths
+above 4096 bytes are left out.
 
 The volume need not be sound. Only rules 1 and 2 are checked: the image's size, and the sizes in its super-block.
 Everything that entries lead to, from PATH on, is exported. Anything left out, and anything wrong with the volume,
@@ -55,6 +56,9 @@ lost, the lines on standard error say what is lost, and no more:
   unixvol: usr: names may be missing: 512 of 1024 bytes are lost: 512-1023
   unixvol: bin/ls: i-node 17 is lost
   unixvol: f4: 10400 of 100000 bytes are lost: 89600-99999
+With --damaged the archive tells it too: before a file with lost bytes, and before each further name of it, a header
+of pax has the words of its line as a comment, as `comment=10400 of 100000 bytes are lost: 89600-99999`.
+
 A path through a directory with lost bytes may not be found, and with --lost files whose names are lost are below
 lost+found. If PATH isn't found and something is lost on the way, nothing is exported, and a line says what is lost:
   unixvol: /usr: i-node 17 is lost

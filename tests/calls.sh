@@ -120,8 +120,9 @@ done
 # first eight, two bytes each.
 owned=volumes/owned
 # Each row: the edition; the offsets of the i-nodes of the root and of /hello; the greatest number of a user or group; the i-node of /hello after put,
-# after chmod, after chown, and after chown to the greatest numbers; and the root's.
-while IFS=: read -r edition root_at at greatest put_as permitted given greatly top; do
+# after chmod, after chown, and after chown to the greatest numbers; the root's; and the i-nodes of /hello after a put with the owner of the chown, and
+# with the greatest one, and of a directory made in its place with the first.
+while IFS=: read -r edition root_at at greatest put_as permitted given greatly top put_given put_greatly made_given; do
     prints none mkfs "$edition" "$owned" 100 2 0 0 1000
     prints none put "$edition" "$owned" /hello hello 1001
     holds 'the i-node of a file that was put' "$owned" "$at" "$put_as"
@@ -147,10 +148,34 @@ while IFS=: read -r edition root_at at greatest put_as permitted given greatly t
     prints hello get "$edition" "$owned" /hello
     prints none put "$edition" "$owned" /hello none 1006
     prints none rm "$edition" "$owned" /hello 1007
+    # Owners of what is put and made; a file that is there gets one too.
+    prints none put "$edition" "$owned" /hello hello 1008 --owner 3:17
+    holds 'the i-node of a file that was put with an owner' "$owned" "$at" "$put_given"
+    prints none put "$edition" "$owned" /hello none 1009 -o "$greatest:$greatest"
+    holds 'the i-node of a file that got the greatest owner by put' "$owned" "$at" "$put_greatly"
+    cp "$owned" before
+    for owner in "$((greatest + 1)):17" "3:$((greatest + 1))" 65535:65535; do
+        refuses 1 'unixvol: 104 BadId' put "$edition" "$owned" /hello hello 2000 --owner "$owner"
+        refuses 1 'unixvol: 104 BadId: /hello' put "$edition" "$owned" -t / hello 2000 --owner "$owner"
+        refuses 1 'unixvol: 104 BadId' mkdir "$edition" "$owned" /d 2000 --owner "$owner"
+        refuses 1 'unixvol: 104 BadId' mkdir -p "$edition" "$owned" /d/e 2000 --owner "$owner"
+    done
+    refuses 1 'unixvol: 17 Exists' mkdir "$edition" "$owned" /hello 2000 --owner 3:17
+    refuses 1 'unixvol: 2 NoEntry' put "$edition" "$owned" /none/a hello 2000 --owner 3:17
+    saves 'a volume in which nothing got an owner' "$owned" before
+    prints none rm "$edition" "$owned" /hello 1010
+    prints none mkdir "$edition" "$owned" /hello 1011 --owner 3:17
+    holds 'the i-node of a directory that was made with an owner' "$owned" "$at" "$made_given"
 done << 'END'
-6:1024:2016:255:A4 81 01 00 00:E9 89 01 00 00:E9 89 01 03 11:E9 89 01 FF FF:C0 C1 02 00 00
-7:1088:1984:32767:A4 81 01 00 00 00 00 00:E9 89 01 00 00 00 00 00:E9 89 01 00 03 00 11 00:E9 89 01 00 FF 7F FF 7F:C0 41 02 00 00 00 00 00
+6:1024:2016:255:A4 81 01 00 00:E9 89 01 00 00:E9 89 01 03 11:E9 89 01 FF FF:C0 C1 02 00 00:A4 81 01 03 11:A4 81 01 FF FF:ED C1 02 03 11
+7:1088:1984:32767:A4 81 01 00 00 00 00 00:E9 89 01 00 00 00 00 00:E9 89 01 00 03 00 11 00:E9 89 01 00 FF 7F FF 7F:C0 41 02 00 00 00 00 00:A4 81 01 00 03 00 11 00:A4 81 01 00 FF 7F FF 7F:ED 41 02 00 03 00 11 00
 END
+for owner in '' : 3 3: :3 x:3 65536:3 3:65536 3:3:3 -3:3; do
+    for words in 'put 7 volumes/owned /x hello' 'put 7 volumes/owned -t / hello' 'mkdir 7 volumes/owned /d' 'mkdir -p 7 volumes/owned /d'; do
+        # shellcheck disable=SC2086 # the words of a command
+        misread "error: invalid value '$owner' for '--owner <UID:GID>': not two numbers from 0 to 65535 with a colon between them" $words "--owner=$owner"
+    done
+done
 
 # Refusals that need a volume of their own: i-nodes, links, sizes, special files.
 edition=6

@@ -244,6 +244,33 @@ END
     (umask 027 && "$program" get "$edition" marked.img -o given /d/run)
     has 'a file that was got without its marks' '640 yes' "$(stat -c %a given/run) $([ "$(stat -c %Y given/run)" -gt 1000000000 ] && echo yes)"
 
+    # Owners of what is put and made; a directory that is there keeps its own. Permissions stay, and the times that are kept come last.
+    cp tree.img owners.img
+    prints none chmod "$edition" owners.img /d/f 6750 2000
+    prints none put "$edition" owners.img /d/f in/user 3000 --owner 3:5
+    prints none put -p "$edition" owners.img -t / in/run in/bare 3000 -o 0:255
+    prints none mkdir "$edition" owners.img /e 3000 --owner 255:0
+    prints none mkdir -p "$edition" owners.img /e/./x/y/ 3000 --owner 3:5
+    cp owners.img owned.img
+    prints none mkdir -p "$edition" owners.img /e/x 3000 --owner 7:7
+    saves 'a directory that keeps its owner' owners.img owned.img
+    refuses 1 'unixvol: 17 Exists' mkdir -p "$edition" owners.img /run 3000 --owner 7:7
+    saves 'a file that keeps its owner' owners.img owned.img
+    answers owners.img << 'END'
+stat /d/f:stat * file 6750 1 3 5 4
+read /d/f 0 9:read 75736572
+stat /run:stat * file 7751 1 0 255 3
+stat /bare:stat * file 0000 1 0 255 0
+stat /e:stat * dir 0755 3 255 0 48
+stat /e/x:stat * dir 0755 3 3 5 48
+stat /e/x/y:stat * dir 0755 2 3 5 32
+END
+    for row in /run:1000000000 /bare:0; do
+        has "the times of ${row%:*}" "3000 ${row#*:}" "$("$program" inode "$edition" owners.img "${row%:*}" | awk '/^[am]time/ { print $2 }' | paste -s -d ' ' -)"
+    done
+    has 'the rows of what has an owner' '-rwsr-s--- 1 3 5 4 /d/f|drwxr-xr-x 2 3 5 32 /e/x/y' \
+        "$(for path in /d/f /e/x/y; do "$program" ls -l -d "$edition" owners.img "$path"; done | awk '{ print $2, $3, $4, $5, $6, $9 }' | paste -s -d '|' -)"
+
     # Changes of permissions in letters are those of the host's chmod without a umask.
     prints none mkfs "$edition" letters.img 100 2 0 0 1000
     prints none put "$edition" letters.img /f in/run 1001

@@ -58,6 +58,8 @@ head -c 300000 /dev/zero > great
 explains 1 'unixvol: 28 NoSpace' 'unixvol: /great: more blocks are needed than are free' put 6 "$image" /great great
 explains 1 'unixvol: 101 NotEmpty' 'unixvol: /d: there are names in it beside . and ..' rmdir 6 "$image" /d
 explains 1 'unixvol: 104 BadId' "unixvol: /d: the user or the group is above the edition's highest, 255 in the sixth and 32767 in the seventh" chown 6 "$image" /d 256 0
+explains 1 'unixvol: 104 BadId' "unixvol: /new: the user or the group is above the edition's highest, 255 in the sixth and 32767 in the seventh" put 6 "$image" /new hello --owner 256:0
+explains 1 'unixvol: 104 BadId' "unixvol: /new: the user or the group is above the edition's highest, 255 in the sixth and 32767 in the seventh" mkdir 6 "$image" /new --owner 0:256
 head -c 16777216 /dev/zero > great
 explains 1 'unixvol: 27 TooBig' 'unixvol: /great: the edition has no file, or no directory, of that size' put 6 "$image" /great great
 saves 'an image on which commands were refused' "$image" before

@@ -189,9 +189,37 @@ traces put -t /d hello other 3000 <<< "3000 0 0 create /d/hello 644
 3000 0 0 write /d/hello 0 $hex
 3000 0 0 create /d/other 644
 3000 0 0 write /d/other 0 $more"
+# With an owner, and with what is kept of a file, which comes after it.
+cp other marked
+cp other x
+chmod 4750 marked
+chmod 711 x
+touch -d @2500 marked
+traces put /n hello 3000 --owner 3:5 <<< "3000 0 0 create /n 644
+3000 0 0 write /n 0 $hex
+3000 0 0 chown /n 3 5"
+traces put -p /f marked 3000 -o 255:0 <<< "3000 0 0 truncate /f 0
+3000 0 0 write /f 0 $more
+3000 0 0 chown /f 255 0
+3000 0 0 chmod /f 4750
+3000 0 0 times /f 3000 2500"
+traces put -x -t /d marked x 3000 --owner=0:5 <<< "3000 0 0 create /d/marked 644
+3000 0 0 write /d/marked 0 $more
+3000 0 0 chown /d/marked 0 5
+3000 0 0 chmod /d/marked 754
+3000 0 0 truncate /d/x 0
+3000 0 0 write /d/x 0 $more
+3000 0 0 chown /d/x 0 5
+3000 0 0 chmod /d/x 755"
 traces mkdir /e 3000 <<< '3000 0 0 mkdir /e 755'
+traces mkdir /e 3000 --owner 3:5 <<< '3000 0 0 mkdir /e 755
+3000 0 0 chown /e 3 5'
 traces mkdir -p /e/g 3000 <<< '3000 0 0 mkdir /e 755
 3000 0 0 mkdir /e/g 755'
+traces mkdir -p /d/e/g 3000 -o 3:5 <<< '3000 0 0 mkdir /d/e 755
+3000 0 0 chown /d/e 3 5
+3000 0 0 mkdir /d/e/g 755
+3000 0 0 chown /d/e/g 3 5'
 traces rm /f 3000 <<< '3000 0 0 unlink /f'
 traces rm -r /d 3000 <<< '3000 0 0 unlink /d/x
 3000 0 0 rmdir /d'

@@ -10,7 +10,6 @@ use Rattle.vol_volume.specs.declared.calls.Call.TheVariants as calls
 use Rattle.vol_check.specs.SalvagedImages.{IsSalvaged}
 use Rattle.vol_import.specs.Make.{Imports}
 use Rattle.vol_batch.specs.Remove.{Removes}
-use Rattle.vol_batch.specs.Paths.{HasDirectory}
 use Rattle.vol_import.specs.MadeMembers.{HasArchive}
 use Rattle.vol_import.specs.Members.{members}
 use Rattle.vol_import.specs.Options.{calls_with, chosen_members, left_out}
@@ -22,7 +21,7 @@ use Rattle.command_changes.specs.Chmod.{HasPermissions, chmod_call}
 use Rattle.command_changes.specs.Lookup.{last_name}
 use Rattle.command_changes.specs.Import.{IsUnimported}
 use Rattle.command_changes.specs.ImportLines.{left_lines}
-use Rattle.command_changes.specs.Mkdir.{mkdir_all_calls, mkdir_call}
+use Rattle.command_changes.specs.Mkdir.{HasMade, HasMissing, mkdir_all_calls, mkdir_calls}
 use Rattle.command_changes.specs.Mv.{HasMoved, move_calls}
 use Rattle.command_changes.specs.Put.{HasPut, put_calls}
 use Rattle.command_changes.specs.Rm.{IsCause}
@@ -71,22 +70,23 @@ of_archive edition image archive path options now trace = record {
 
 -- the outcomes of a change, with these bytes of its file or archive, and with the trace of its calls if it is wanted: its calls are made, all or none,
 -- or the free list is rebuilt. Afterwards PATH of `import` has the members of the archive that aren't left out below it; PATH of `put` leads to a file
--- of these bytes, with what is kept; PATH of `mkdir` leads to a directory, and so does PATH of `mkdir -p` unless its last name is `.` or `..`; FROM of
--- `mv` leads nowhere, and the new path leads to the file that FROM led to; the permissions at PATH of `chmod` are those that its change makes of the old
--- ones; both times of the node at PATH of `touch` are NOW. `boot` changes block 0 alone. `salvage` and `boot` have no trace (this project)
+-- of these bytes, with what is kept, and the owner if one is given; PATH of `mkdir` leads to a directory with the owner, and so does PATH of `mkdir -p`
+-- unless its last name is `.` or `..`, but for the owner if the directory was there; FROM of `mv` leads nowhere, and the new path leads to the file that
+-- FROM led to; the permissions at PATH of `chmod` are those that its change makes of the old ones; both times of the node at PATH of `touch` are NOW.
+-- `boot` changes block 0 alone. `salvage` and `boot` have no trace (this project)
 abbrev pub changed : Edition → List ℕ → GivenFile → Change → Bool → Outcomes
-changed edition image given (changes.Put path file keep now) trace =
-    of_calls_leaving edition image (put_calls (reads_as edition image).tree now path.now given.bytes.items given.kept)
-    (λ tree. HasPut tree path.now given.bytes.items given.kept) trace
+changed edition image given (changes.Put path file keep owner now) trace =
+    of_calls_leaving edition image (put_calls (reads_as edition image).tree now path.now given.bytes.items given.kept owner)
+    (λ tree. HasPut tree path.now given.bytes.items given.kept owner) trace
 changed edition image given (changes.Import path options now) trace = of_archive edition image given.bytes.items path.now options now trace
 changed edition image given (changes.Rm path now) trace = of_calls edition image (calls.Unlink user now path.now ∷ []) trace
 changed edition image given (changes.RmAll path now) trace = of_removal edition image path.now now trace
 changed edition image given (changes.Rmdir path now) trace = of_calls edition image (calls.Rmdir user now path.now ∷ []) trace
-changed edition image given (changes.Mkdir path now) trace =
-    of_calls_leaving edition image (mkdir_call now path.now ∷ []) (λ tree. HasDirectory tree path.now) trace
-changed edition image given (changes.MkdirAll path now) trace =
-    of_calls_leaving edition image (mkdir_all_calls (reads_as edition image).tree now path.now)
-    (λ tree. is_dots (last_name path.now) ≡ false → HasDirectory tree path.now) trace
+changed edition image given (changes.Mkdir path owner now) trace =
+    of_calls_leaving edition image (mkdir_calls now owner path.now) (λ tree. HasMade tree path.now owner) trace
+changed edition image given (changes.MkdirAll path owner now) trace =
+    of_calls_leaving edition image (mkdir_all_calls (reads_as edition image).tree now owner path.now)
+    (λ tree. is_dots (last_name path.now) ≡ false → HasMissing (reads_as edition image).tree tree path.now owner) trace
 changed edition image given (changes.Ln from to now) trace = of_calls edition image (calls.Link user now from.now to.now ∷ []) trace
 changed edition image given (changes.Mv from to now) trace =
     of_calls_leaving edition image (move_calls (reads_as edition image).tree now from.now to.now) (HasMoved (reads_as edition image).tree now from.now to.now)

@@ -68,17 +68,24 @@ pub fn perform(
         }
         Change::Salvage => return unremarked(alloc, salvage(alloc, edition, image)),
         Change::Boot { .. } => return unremarked(alloc, boot(alloc, edition, image, &bytes)),
-        Change::Put { path, now, .. } => {
+        Change::Put {
+            path,
+            owner,
+            now,
+            ..
+        } => {
             let file = GivenFile { bytes, kept };
-            put(alloc, edition, image, path, file, now)
+            put(alloc, edition, image, path, file, owner, now)
         }
         Change::RmAll { path, now } => rm_all(alloc, edition, image, path, now),
-        Change::MkdirAll { path, now } => mkdir_all(alloc, edition, image, path, now),
+        Change::MkdirAll { path, owner, now } => {
+            mkdir_all(alloc, edition, image, path, owner, now)
+        }
         Change::Mv { from, to, now } => mv(alloc, edition, image, from, to, now),
         Change::Touch { path, now } => touch(alloc, edition, image, path, now),
         Change::Rm { path, now } => rm(alloc, edition, image, path, now),
         Change::Rmdir { path, now } => rmdir(alloc, edition, image, path, now),
-        Change::Mkdir { path, now } => mkdir(alloc, edition, image, path, now),
+        Change::Mkdir { path, owner, now } => mkdir(alloc, edition, image, path, owner, now),
         Change::Ln { from, to, now } => ln(alloc, edition, image, from, to, now),
         Change::Chmod { path, change, now } => chmod(alloc, edition, image, path, change, now),
         Change::Chown {

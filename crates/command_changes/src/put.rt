@@ -14,6 +14,7 @@ ghost use Rattle.command_changes.specs.Put.{calls_to_put, emptying_by, kept_call
 ghost use Rattle.command_changes.specs.Traced.{ImportsVolume, MakesVolume};
 
 use crate::calls::{make_calls, push};
+use crate::chown::push_owner;
 use crate::import_lines::fault_of;
 use crate::kept::{GivenFile, Kept};
 use crate::lookup::name_in;
@@ -58,8 +59,8 @@ pub(crate) enum Target {
     Unknown,
 }
 
-/// Empties a file, or makes an empty one, writes the bytes of `file` into it, and gives it what is kept of the host's file, for `put`. Nothing is saved
-/// unless all calls are accepted.
+/// Empties a file, or makes an empty one, writes the bytes of `file` into it, and gives it its owner, if one is given, and what is kept of the host's
+/// file, for `put`. Nothing is saved unless all calls are accepted.
 ///
 /// Takes the memory of [`Volume::mount`], and memory for a copy of the path per call, which the journal keeps; the file's bytes are in memory only once.
 /// Walks the path once per call, and once more first.
@@ -69,14 +70,16 @@ pub(crate) fn put(
     image: Vec<u8>,
     path: &str,
     file: GivenFile,
+    owner: Option<Cred>,
     now: u32,
 ) -> Result<Volume, Fault>
-    ensures made { IfOk result (MakesVolume edition image.items (put_calls (reads_as edition image.items).tree now path.now file.bytes.items file.kept)) }
+    ensures made { IfOk result (MakesVolume edition image.items
+        (put_calls (reads_as edition image.items).tree now path.now file.bytes.items file.kept owner)) }
     ensures fault { IfErr result (IsReason edition image.items
-        (put_calls (reads_as edition image.items).tree now path.now file.bytes.items file.kept)) }
+        (put_calls (reads_as edition image.items).tree now path.now file.bytes.items file.kept owner)) }
 {
     let mut volume = mount(alloc, edition, image)?;
-    let calls = calls_for(alloc, &volume, path.as_bytes(), file, now)?;
+    let calls = calls_for(alloc, &volume, path.as_bytes(), file, owner, now)?;
     make_calls(alloc, &mut volume, calls)?;
     Ok(volume)
 }
@@ -87,12 +90,14 @@ fn calls_for(
     volume: &Volume,
     path: &[u8],
     file: GivenFile,
+    owner: Option<Cred>,
     now: u32,
 ) -> Result<Vec<Call>, AllocError>
-    ensures { IfOk result (λ calls. calls.items ≡ put_calls (reads_as volume.now.edition volume.now.image).tree now path.now file.bytes.items file.kept) }
+    ensures { IfOk result (λ calls. calls.items
+        ≡ put_calls (reads_as volume.now.edition volume.now.image).tree now path.now file.bytes.items file.kept owner) }
 {
     let mut calls = Vec::new(alloc);
-    push_calls(alloc, volume, path, file, now, &mut calls)?;
+    push_calls(alloc, volume, path, file, owner, now, &mut calls)?;
     Ok(calls)
 }
 
@@ -103,24 +108,26 @@ pub fn put_all<O: Sink, E: Sink>(
     image: Vec<u8>,
     directory: &str,
     files: Vec<NewFile<'_>>,
+    owner: Option<Cred>,
     now: u32,
     trace: bool,
     _output: &mut O,
     errors: &mut E,
 ) -> Answer
-    ensures outcome { Concludes (of_import edition image.items (told (calls_to_put (reads_as edition image.items).tree now directory.now files.entry.items)) trace)
+    ensures outcome { Concludes (of_import edition image.items (told (calls_to_put (reads_as edition image.items).tree now directory.now owner files.entry.items)) trace)
         (streams O.contents O.failed _output.old _output.new result.fault) result }
     ensures told { Hears (heard E.contents E.failed errors.old errors.new) result.fault }
 {
-    let answer = conclude(put_files(alloc, edition, image, directory, files, now, trace));
+    let answer = conclude(put_files(alloc, edition, image, directory, files, owner, now, trace));
     tell(&answer.fault, errors);
     answer
 }
 
 /// Puts files into a directory, each as `put` does, for `put -t`: a missing file is made with permissions 0644, an existing one is emptied, then the
-/// bytes are written, and then the file gets what is kept of the host's file. If one of the files can't be put, nothing is saved, and the fault is the
-/// rule that the image breaks, the first name above 14 bytes, or the refusal of a call with its path. If two files have the same name, the second is
-/// refused as `Exists` if the name is new, and otherwise replaces the first. If `trace` is true, the outcome has the trace of the calls.
+/// bytes are written, and then the file gets its owner, if one is given, and what is kept of the host's file. If one of the files can't be put, nothing
+/// is saved, and the fault is the rule that the image breaks, the first name above 14 bytes, or the refusal of a call with its path. If two files have
+/// the same name, the second is refused as `Exists` if the name is new, and otherwise replaces the first. If `trace` is true, the outcome has the trace
+/// of the calls.
 ///
 /// Moves the files' bytes into the calls. Takes memory to mount the image and for two paths per file, and walks each file's path. For a trace, takes the
 /// memory and the time of [`vol_trace::trace_of`] too.
@@ -130,12 +137,13 @@ pub fn put_files(
     image: Vec<u8>,
     directory: &str,
     files: Vec<NewFile<'_>>,
+    owner: Option<Cred>,
     now: u32,
     trace: bool,
 ) -> Result<Remarked, Fault>
-    ensures { IsAmong (of_import edition image.items (told (calls_to_put (reads_as edition image.items).tree now directory.now files.entry.items)) trace) result }
+    ensures { IsAmong (of_import edition image.items (told (calls_to_put (reads_as edition image.items).tree now directory.now owner files.entry.items)) trace) result }
 {
-    let made = put_into(alloc, edition, image, directory, files, now);
+    let made = put_into(alloc, edition, image, directory, files, owner, now);
     traced(alloc, made, trace)
 }
 
@@ -146,12 +154,21 @@ fn put_into(
     image: Vec<u8>,
     directory: &str,
     files: Vec<NewFile<'_>>,
+    owner: Option<Cred>,
     now: u32,
 ) -> Result<Volume, Fault>
-    ensures made { IfOk result (ImportsVolume edition image.items (told (calls_to_put (reads_as edition image.items).tree now directory.now files.entry.items))) }
-    ensures fault { IfErr result (IsUnimported edition image.items (told (calls_to_put (reads_as edition image.items).tree now directory.now files.entry.items))) }
+    ensures made { IfOk result (ImportsVolume edition image.items (told (calls_to_put (reads_as edition image.items).tree now directory.now owner files.entry.items))) }
+    ensures fault { IfErr result (IsUnimported edition image.items (told (calls_to_put (reads_as edition image.items).tree now directory.now owner files.entry.items))) }
 {
-    match make_puts(alloc, edition, image, directory.as_bytes(), files, now) {
+    match make_puts(
+        alloc,
+        edition,
+        image,
+        directory.as_bytes(),
+        files,
+        owner,
+        now,
+    ) {
         Ok(volume) => Ok(volume),
         Err(why) => Err(fault_of(alloc, &why)),
     }
@@ -164,13 +181,14 @@ fn make_puts(
     image: Vec<u8>,
     directory: &[u8],
     files: Vec<NewFile<'_>>,
+    owner: Option<Cred>,
     now: u32,
 ) -> Result<Volume, ImportFault>
-    ensures made { IfOk result (ImportsVolume edition image.items (told (calls_to_put (reads_as edition image.items).tree now directory.now files.entry.items))) }
-    ensures fault { IfErr result (IsStopped edition image.items (told (calls_to_put (reads_as edition image.items).tree now directory.now files.entry.items))) }
+    ensures made { IfOk result (ImportsVolume edition image.items (told (calls_to_put (reads_as edition image.items).tree now directory.now owner files.entry.items))) }
+    ensures fault { IfErr result (IsStopped edition image.items (told (calls_to_put (reads_as edition image.items).tree now directory.now owner files.entry.items))) }
 {
     let mut volume = make::mount(alloc, edition, image)?;
-    let calls = match calls_to_put(alloc, &volume, directory, files, now) {
+    let calls = match calls_to_put(alloc, &volume, directory, files, owner, now) {
         Ok(calls) => calls,
         Err(fault) => return Err(make::unplanned(fault)),
     };
@@ -185,16 +203,17 @@ fn calls_to_put(
     volume: &Volume,
     directory: &[u8],
     files: Vec<NewFile<'_>>,
+    owner: Option<Cred>,
     now: u32,
 ) -> Result<Vec<Call>, PlanFault>
-    ensures ok { IfOk result (λ calls. calls_to_put (reads_as volume.now.edition volume.now.image).tree now directory.now files.entry.items ≡ Ok calls.items) }
-    ensures fault { IfErr result (Tells (calls_to_put (reads_as volume.now.edition volume.now.image).tree now directory.now files.entry.items)) }
+    ensures ok { IfOk result (λ calls. calls_to_put (reads_as volume.now.edition volume.now.image).tree now directory.now owner files.entry.items ≡ Ok calls.items) }
+    ensures fault { IfErr result (Tells (calls_to_put (reads_as volume.now.edition volume.now.image).tree now directory.now owner files.entry.items)) }
 {
     let mut calls = Vec::new(alloc);
     let mut left = files;
     left.reverse();
     'files: while let Some(file) = left.pop() {
-        push_file(alloc, volume, directory, file, now, &mut calls)?;
+        push_file(alloc, volume, directory, file, owner, now, &mut calls)?;
     }
     Ok(calls)
 }
@@ -205,18 +224,27 @@ fn push_file(
     volume: &Volume,
     directory: &[u8],
     file: NewFile<'_>,
+    owner: Option<Cred>,
     now: u32,
     calls: &mut Vec<Call>,
 ) -> Result<(), PlanFault>
-    ensures ok { OnOk result (onto (reads_as volume.now.edition volume.now.image).tree now directory.now calls.old.items file.entry ≡ Ok calls.new.items) }
-    ensures fault { IfErr result (Tells (onto (reads_as volume.now.edition volume.now.image).tree now directory.now calls.old.items file.entry)) }
+    ensures ok { OnOk result (onto (reads_as volume.now.edition volume.now.image).tree now directory.now owner calls.old.items file.entry ≡ Ok calls.new.items) }
+    ensures fault { IfErr result (Tells (onto (reads_as volume.now.edition volume.now.image).tree now directory.now owner calls.old.items file.entry)) }
 {
     if file.name.len() > NAME {
         let name = Bytes::from_slice(alloc, file.name.as_bytes())?;
         return Err(PlanFault::Member(name, MemberFault::LongName));
     }
     let path = name_in(alloc, directory, file.name.as_bytes())?;
-    push_calls(alloc, volume, path.as_slice(), file.content, now, calls)?;
+    push_calls(
+        alloc,
+        volume,
+        path.as_slice(),
+        file.content,
+        owner,
+        now,
+        calls,
+    )?;
     Ok(())
 }
 
@@ -226,11 +254,12 @@ fn push_calls(
     volume: &Volume,
     path: &[u8],
     file: GivenFile,
+    owner: Option<Cred>,
     now: u32,
     calls: &mut Vec<Call>,
 ) -> Result<(), AllocError>
     ensures { OnOk result (calls.new.items ≡ calls.old.items
-        ++ put_calls (reads_as volume.now.edition volume.now.image).tree now path.now file.bytes.items file.kept) }
+        ++ put_calls (reads_as volume.now.edition volume.now.image).tree now path.now file.bytes.items file.kept owner) }
 {
     let target = find_target(alloc, volume, path)?;
     let GivenFile { bytes, kept } = file;
@@ -244,6 +273,7 @@ fn push_calls(
         bytes: Bytes::from_vec(bytes),
     };
     push(calls, write)?;
+    push_owner(alloc, path, owner, now, calls)?;
     push_kept(alloc, target, path, kept, now, calls)
 }
 

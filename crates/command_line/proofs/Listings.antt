@@ -199,8 +199,8 @@ asks_listing clock given edition image path (invocations.Look volume (looks.List
   subst (λ (words : List (List ℕ)). IsNumberOr 4294967295 0 words volume.at) none.at is.0.2,
   (given_is volume.edition volume.is_any edition (subst (IsEditionGiven volume.edition volume.is_any) e_is is.0.0)).1,
 )
-asks_listing clock given edition image path (invocations.Change volume (changes.Put p file keep now) trace) test e_is i_is p_is none is = absurd (true≢false (sym test))
-asks_listing clock given edition image path (invocations.Copy volume (copies.Put directory files keep now trace)) test e_is i_is p_is none is = absurd (true≢false (sym test))
+asks_listing clock given edition image path (invocations.Change volume (changes.Put p file keep owner now) trace) test e_is i_is p_is none is = absurd (true≢false (sym test))
+asks_listing clock given edition image path (invocations.Copy volume (copies.Put directory files keep owner now trace)) test e_is i_is p_is none is = absurd (true≢false (sym test))
 asks_listing clock given edition image path (invocations.Work volume (works.Check checkers.Blocks workers form)) test e_is i_is p_is none is = absurd (true≢false (sym test))
 asks_listing clock given edition image path (invocations.LookBad volume bad (bad_looks.List p listing)) test e_is i_is p_is none is =
     absurd (not_whole given volume.edition (is_set (given (codes "cut"))) bad is.1.5 (none_lost given none))

@@ -68,8 +68,8 @@ unfolding is_rescuer
 one_way clock given (invocations.Look volume (looks.List path listing)) read is both = none_two given V7 is.1.5 both
 one_way clock given (invocations.Look volume (looks.Slots path form)) read is both = none_two given V7 is.1.3 both
 one_way clock given (invocations.Look volume (looks.ListUnsound path listing)) read is both = none_two given V7 is.1.6 both
-one_way clock given (invocations.Change volume (changes.Put p file keep now) trace) read is both = absurd (true≢false (sym read))
-one_way clock given (invocations.Copy volume (copies.Put directory files keep now trace)) read is both = absurd (true≢false (sym read))
+one_way clock given (invocations.Change volume (changes.Put p file keep owner now) trace) read is both = absurd (true≢false (sym read))
+one_way clock given (invocations.Copy volume (copies.Put directory files keep owner now trace)) read is both = absurd (true≢false (sym read))
 one_way clock given (invocations.Work volume (works.Check checkers.Blocks workers form)) read is both = absurd (true≢false (sym read))
 one_way clock given (invocations.Look volume (looks.Export path options)) read is both = none_two given V7 is.1.1 both
 one_way clock given (invocations.Look volume (looks.Find path name lost form)) read is both = none_two given V7 is.1.4 both

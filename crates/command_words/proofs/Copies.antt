@@ -47,8 +47,8 @@ is_get _ = false
 -- every invocation of `put` puts one file or several
 puts : (clock : Option ℕ) (given : Words) (invocation : Invocation) → is_put (verb_of invocation) ≡ true → IsGiven clock given invocation → IsPut clock given
 unfolding is_put
-puts clock given (invocations.Change volume (changes.Put path file keep now) trace) put is = inl (file.now, now, is.1.1, is.1.2, is.1.3, is.1.4)
-puts clock given (invocations.Copy volume (copies.Put directory files keep now trace)) put is =
+puts clock given (invocations.Change volume (changes.Put path file keep owner now) trace) put is = inl (file.now, now, is.1.1, is.1.2, is.1.3, is.1.4)
+puts clock given (invocations.Copy volume (copies.Put directory files keep owner now trace)) put is =
     inr (directory.now, map (λ file. file.now) files.items, now.seconds, option_map (λ word. word.now) now.word, is.1.0, is.1.1)
 puts clock given (invocations.Work volume (works.Check checkers.Blocks workers form)) put is = absurd (true≢false (sym put))
 puts clock given (invocations.Look volume (looks.Export path options)) put is = absurd (true≢false (sym put))
@@ -62,7 +62,7 @@ gets clock given (invocations.Get volume path) got is = inl (is.1.1, is.1.2, is.
 gets clock given (invocations.Look volume (looks.ReadUnsound path)) got is = inl (is.1.0.1, is.1.0.2, is.1.0.3)
 gets clock given (invocations.LookBad volume image (bad_looks.Read path damaged)) got is = inl (is.1.0.1, is.1.0.2, is.1.0.3)
 gets clock given (invocations.Copy volume (copies.Get folder paths keeps)) got is = inr (folder.now, map (λ path. path.now) paths.items, is.1.0, is.1.1, is.1.3, is.1.4)
-gets clock given (invocations.Change volume (changes.Put p file keep now) trace) got is = absurd (true≢false (sym got))
+gets clock given (invocations.Change volume (changes.Put p file keep owner now) trace) got is = absurd (true≢false (sym got))
 gets clock given (invocations.Work volume (works.Check checkers.Blocks workers form)) got is = absurd (true≢false (sym got))
 gets clock given (invocations.Look volume (looks.Export path options)) got is = absurd (true≢false (sym got))
 gets clock given (invocations.LookBad volume image (bad_looks.Export path options)) got is = absurd (true≢false (sym got))

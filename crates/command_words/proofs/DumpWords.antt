@@ -29,8 +29,8 @@ dumps_one : (clock : Option ℕ) (given : Words) (invocation : Invocation) → i
     → AreDigitsOfJson given → ⊥
 unfolding is_dump
 dumps_one clock given (invocations.Look volume (looks.Dump target form)) dumped is both = one_form given form is.1.1 both
-dumps_one clock given (invocations.Change volume (changes.Put p file keep now) trace) dumped is both = absurd (true≢false (sym dumped))
-dumps_one clock given (invocations.Copy volume (copies.Put directory files keep now trace)) dumped is both = absurd (true≢false (sym dumped))
+dumps_one clock given (invocations.Change volume (changes.Put p file keep owner now) trace) dumped is both = absurd (true≢false (sym dumped))
+dumps_one clock given (invocations.Copy volume (copies.Put directory files keep owner now trace)) dumped is both = absurd (true≢false (sym dumped))
 dumps_one clock given (invocations.Work volume (works.Check checkers.Blocks workers form)) dumped is both = absurd (true≢false (sym dumped))
 dumps_one clock given (invocations.LookBad volume image (bad_looks.Export p options)) dumped is both = absurd (true≢false (sym dumped))
 dumps_one clock given invocation dumped is both = absurd (true≢false (sym dumped))

@@ -46,8 +46,8 @@ unfolding is_mkfs is_identify
 chosen (invocations.Mkfs place volume) = inl (place, volume, refl)
 chosen (invocations.Identify images form is_deep) = inr (inl (images, form, is_deep, refl))
 chosen (invocations.Look volume (looks.List path listing)) = inr (inr (refl, refl))
-chosen (invocations.Change volume (changes.Put p file keep now) trace) = inr (inr (refl, refl))
-chosen (invocations.Copy volume (copies.Put directory files keep now trace)) = inr (inr (refl, refl))
+chosen (invocations.Change volume (changes.Put p file keep owner now) trace) = inr (inr (refl, refl))
+chosen (invocations.Copy volume (copies.Put directory files keep owner now trace)) = inr (inr (refl, refl))
 chosen (invocations.Work volume (works.Check checkers.Blocks workers form)) = inr (inr (refl, refl))
 chosen (invocations.LookBad volume image (bad_looks.Export p options)) = inr (inr (refl, refl))
 chosen invocation = inr (inr (refl, refl))
@@ -111,8 +111,8 @@ unfolding is_repair
 repairs clock given (invocations.Repair volume copy repairing) repaired is missing = names_copy given copy is.0.1 missing
 repairs clock given (invocations.RepairBad volume image copy repairing) repaired is missing = names_copy given copy is.0.1 missing
 repairs clock given (invocations.Look volume (looks.List path listing)) repaired is missing = absurd (true≢false (sym repaired))
-repairs clock given (invocations.Change volume (changes.Put p file keep now) trace) repaired is missing = absurd (true≢false (sym repaired))
-repairs clock given (invocations.Copy volume (copies.Put directory files keep now trace)) repaired is missing = absurd (true≢false (sym repaired))
+repairs clock given (invocations.Change volume (changes.Put p file keep owner now) trace) repaired is missing = absurd (true≢false (sym repaired))
+repairs clock given (invocations.Copy volume (copies.Put directory files keep owner now trace)) repaired is missing = absurd (true≢false (sym repaired))
 repairs clock given (invocations.Work volume (works.Check checkers.Blocks workers form)) repaired is missing = absurd (true≢false (sym repaired))
 repairs clock given (invocations.LookBad volume image (bad_looks.Export p options)) repaired is missing = absurd (true≢false (sym repaired))
 repairs clock given invocation repaired is missing = absurd (true≢false (sym repaired))

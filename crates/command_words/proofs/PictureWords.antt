@@ -23,8 +23,8 @@ draws : (clock : Option ℕ) (given : Words) (invocation : Invocation) → is_ma
 unfolding is_map
 draws clock given (invocations.Look volume (looks.Map picture file)) drawn is json svg = true≢false (sym json ∙ is.1.1)
 draws clock given (invocations.Look volume looks.Uses) drawn is json svg = true≢false (sym svg ∙ is.1.1)
-draws clock given (invocations.Change volume (changes.Put p file keep now) trace) drawn is json svg = absurd (true≢false (sym drawn))
-draws clock given (invocations.Copy volume (copies.Put directory files keep now trace)) drawn is json svg = absurd (true≢false (sym drawn))
+draws clock given (invocations.Change volume (changes.Put p file keep owner now) trace) drawn is json svg = absurd (true≢false (sym drawn))
+draws clock given (invocations.Copy volume (copies.Put directory files keep owner now trace)) drawn is json svg = absurd (true≢false (sym drawn))
 draws clock given (invocations.Work volume (works.Check checkers.Blocks workers form)) drawn is json svg = absurd (true≢false (sym drawn))
 draws clock given (invocations.LookBad volume image (bad_looks.Export p options)) drawn is json svg = absurd (true≢false (sym drawn))
 draws clock given invocation drawn is json svg = absurd (true≢false (sym drawn))
@@ -35,8 +35,8 @@ shows_file : (clock : Option ℕ) (given : Words) (invocation : Invocation) → 
 unfolding is_map
 shows_file clock given (invocations.Look volume (looks.Map picture word)) drawn is json file = true≢false (sym json ∙ is.1.1)
 shows_file clock given (invocations.Look volume looks.Uses) drawn is json file = file is.1.2
-shows_file clock given (invocations.Change volume (changes.Put p word keep now) trace) drawn is json file = absurd (true≢false (sym drawn))
-shows_file clock given (invocations.Copy volume (copies.Put directory files keep now trace)) drawn is json file = absurd (true≢false (sym drawn))
+shows_file clock given (invocations.Change volume (changes.Put p word keep owner now) trace) drawn is json file = absurd (true≢false (sym drawn))
+shows_file clock given (invocations.Copy volume (copies.Put directory files keep owner now trace)) drawn is json file = absurd (true≢false (sym drawn))
 shows_file clock given (invocations.Work volume (works.Check checkers.Blocks workers form)) drawn is json file = absurd (true≢false (sym drawn))
 shows_file clock given (invocations.LookBad volume image (bad_looks.Export p options)) drawn is json file = absurd (true≢false (sym drawn))
 shows_file clock given invocation drawn is json file = absurd (true≢false (sym drawn))

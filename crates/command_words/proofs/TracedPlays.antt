@@ -31,8 +31,8 @@ unfolding is_play
 prints clock given (invocations.Work volume (works.Play scripts journal form)) played is both = form_one given form is.1.4 both
 prints clock given (invocations.Work volume (works.Check checkers.Blocks workers form)) played is both = absurd (true≢false (sym played))
 prints clock given (invocations.Look volume (looks.List path listing)) played is both = absurd (true≢false (sym played))
-prints clock given (invocations.Change volume (changes.Put p file keep now) trace) played is both = absurd (true≢false (sym played))
-prints clock given (invocations.Copy volume (copies.Put directory files keep now trace)) played is both = absurd (true≢false (sym played))
+prints clock given (invocations.Change volume (changes.Put p file keep owner now) trace) played is both = absurd (true≢false (sym played))
+prints clock given (invocations.Copy volume (copies.Put directory files keep owner now trace)) played is both = absurd (true≢false (sym played))
 prints clock given (invocations.LookBad volume image (bad_looks.Export p options)) played is both = absurd (true≢false (sym played))
 prints clock given invocation played is both = absurd (true≢false (sym played))
 

@@ -52,8 +52,8 @@ lists clock given edition bad depth (invocations.Look volume (looks.ListUnsound 
     one_depth given depth listing.depth chosen below is.1.2 is.1.5
 lists clock given edition bad depth (invocations.LookBad volume image (bad_looks.List path listing)) listed is plain read unsound chosen below =
     one_depth given depth listing.depth chosen below is.1.2 is.1.4
-lists clock given edition bad depth (invocations.Change volume (changes.Put p file keep now) trace) listed is plain read unsound chosen below = absurd (true≢false (sym listed))
-lists clock given edition bad depth (invocations.Copy volume (copies.Put directory files keep now trace)) listed is plain read unsound chosen below = absurd (true≢false (sym listed))
+lists clock given edition bad depth (invocations.Change volume (changes.Put p file keep owner now) trace) listed is plain read unsound chosen below = absurd (true≢false (sym listed))
+lists clock given edition bad depth (invocations.Copy volume (copies.Put directory files keep owner now trace)) listed is plain read unsound chosen below = absurd (true≢false (sym listed))
 lists clock given edition bad depth (invocations.Work volume (works.Check checkers.Blocks workers form)) listed is plain read unsound chosen below = absurd (true≢false (sym listed))
 lists clock given edition bad depth (invocations.LookBad volume image (bad_looks.Export p options)) listed is plain read unsound chosen below = absurd (true≢false (sym listed))
 lists clock given edition bad depth invocation listed is plain read unsound chosen below = absurd (true≢false (sym listed))
@@ -75,8 +75,8 @@ shows clock given edition bad (invocations.Look volume (looks.Slots path form)) 
     not_whole given edition (is_set (given (codes "cut"))) bad read is.1.3
 shows clock given edition bad (invocations.Look volume (looks.ListUnsound path listing)) listed is slots read = true≢false (sym slots ∙ is.1.3)
 shows clock given edition bad (invocations.LookBad volume image (bad_looks.List path listing)) listed is slots read = true≢false (sym slots ∙ is.1.3)
-shows clock given edition bad (invocations.Change volume (changes.Put p file keep now) trace) listed is slots read = absurd (true≢false (sym listed))
-shows clock given edition bad (invocations.Copy volume (copies.Put directory files keep now trace)) listed is slots read = absurd (true≢false (sym listed))
+shows clock given edition bad (invocations.Change volume (changes.Put p file keep owner now) trace) listed is slots read = absurd (true≢false (sym listed))
+shows clock given edition bad (invocations.Copy volume (copies.Put directory files keep owner now trace)) listed is slots read = absurd (true≢false (sym listed))
 shows clock given edition bad (invocations.Work volume (works.Check checkers.Blocks workers form)) listed is slots read = absurd (true≢false (sym listed))
 shows clock given edition bad (invocations.LookBad volume image (bad_looks.Export p options)) listed is slots read = absurd (true≢false (sym listed))
 shows clock given edition bad invocation listed is slots read = absurd (true≢false (sym listed))

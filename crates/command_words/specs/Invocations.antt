@@ -208,13 +208,13 @@ work_verb (works.Play scripts journal form) = verbs.Play
 
 -- the command for a change (this project)
 abbrev pub change_verb : Change → Verb
-change_verb (changes.Put path file keep now) = verbs.Put
+change_verb (changes.Put path file keep owner now) = verbs.Put
 change_verb (changes.Import path options now) = verbs.Import
 change_verb (changes.Rm path now) = verbs.Rm
 change_verb (changes.RmAll path now) = verbs.Rm
 change_verb (changes.Rmdir path now) = verbs.Rmdir
-change_verb (changes.Mkdir path now) = verbs.Mkdir
-change_verb (changes.MkdirAll path now) = verbs.Mkdir
+change_verb (changes.Mkdir path owner now) = verbs.Mkdir
+change_verb (changes.MkdirAll path owner now) = verbs.Mkdir
 change_verb (changes.Ln from to now) = verbs.Ln
 change_verb (changes.Mv from to now) = verbs.Mv
 change_verb (changes.Chmod path change now) = verbs.Chmod
@@ -255,7 +255,7 @@ bad_look_verb (bad_looks.Body node damaged) = verbs.Cat
 
 -- the command that copies files (this project)
 abbrev pub copying_verb : Copying → Verb
-copying_verb (copies.Put directory files keep now trace) = verbs.Put
+copying_verb (copies.Put directory files keep owner now trace) = verbs.Put
 copying_verb (copies.Get folder paths keeps) = verbs.Get
 
 -- the command of an invocation (this project)
@@ -400,9 +400,9 @@ IsKeepGiven given keeps.Nothing = (is_set (given (codes "preserve")) ≡ false) 
 
 -- the words describe this change (this project)
 abbrev pub IsChangeGiven : Option ℕ → Words → Change → Type 0
-IsChangeGiven clock given (changes.Put path file keep now) = (path.now ≡ the_word given (codes "PATH")) × IsFirstWord given (codes "FILE") file.now
+IsChangeGiven clock given (changes.Put path file keep owner now) = (path.now ≡ the_word given (codes "PATH")) × IsFirstWord given (codes "FILE") file.now
     × IsMomentGiven clock (given (codes "NOW")) now × IsLeftOut given (codes "MORE") × IsLeftOut given (codes "target-directory")
-    × IsKeepGiven given keep
+    × IsKeepGiven given keep × IsOwnerGiven (given (codes "owner")) owner
 IsChangeGiven clock given (changes.Import path options now) = IsPathGiven (given (codes "PATH")) path.now
     × IsMomentGiven clock (given (codes "NOW")) now × IsImportGiven given options
 IsChangeGiven clock given (changes.Rm path now) =
@@ -411,10 +411,12 @@ IsChangeGiven clock given (changes.RmAll path now) =
     (path.now ≡ the_word given (codes "PATH")) × IsMomentGiven clock (given (codes "NOW")) now × (is_set (given (codes "recursive")) ≡ true)
 IsChangeGiven clock given (changes.Rmdir path now) =
     (path.now ≡ the_word given (codes "PATH")) × IsMomentGiven clock (given (codes "NOW")) now
-IsChangeGiven clock given (changes.Mkdir path now) =
+IsChangeGiven clock given (changes.Mkdir path owner now) =
     (path.now ≡ the_word given (codes "PATH")) × IsMomentGiven clock (given (codes "NOW")) now × (is_set (given (codes "parents")) ≡ false)
-IsChangeGiven clock given (changes.MkdirAll path now) =
+    × IsOwnerGiven (given (codes "owner")) owner
+IsChangeGiven clock given (changes.MkdirAll path owner now) =
     (path.now ≡ the_word given (codes "PATH")) × IsMomentGiven clock (given (codes "NOW")) now × (is_set (given (codes "parents")) ≡ true)
+    × IsOwnerGiven (given (codes "owner")) owner
 IsChangeGiven clock given (changes.Ln from to now) = (from.now ≡ the_word given (codes "FROM"))
     × (to.now ≡ the_word given (codes "TO")) × IsMomentGiven clock (given (codes "NOW")) now
 IsChangeGiven clock given (changes.Mv from to now) = (from.now ≡ the_word given (codes "FROM"))
@@ -607,9 +609,9 @@ ArePathsGiven words paths = (1 ≤ length paths) × (are_apart paths ≡ true) �
 
 -- the words describe this copying (this project)
 abbrev pub IsCopyGiven : Option ℕ → Words → Copying → Type 0
-IsCopyGiven clock given (copies.Put directory files keep now trace) = IsNonEmptyWord given (codes "target-directory") directory.now
+IsCopyGiven clock given (copies.Put directory files keep owner now trace) = IsNonEmptyWord given (codes "target-directory") directory.now
     × AreFilesGiven clock (put_words given) (map (λ file. file.now) files.items) now.seconds (option_map (λ word. word.now) now.word)
-    × IsKeepGiven given keep × (trace ≡ is_set (given (codes "trace")))
+    × IsKeepGiven given keep × IsOwnerGiven (given (codes "owner")) owner × (trace ≡ is_set (given (codes "trace")))
 IsCopyGiven clock given (copies.Get folder paths keeps) = IsNonEmptyWord given (codes "output") folder.now
     × ArePathsGiven (get_words given) (map (λ path. path.now) paths.items) × (keeps ≡ is_set (given (codes "preserve")))
     × (is_set (given (codes "unsound")) ≡ false) × IsBadImageGiven given V7 (is_set (given (codes "cut"))) None

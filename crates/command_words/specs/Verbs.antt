@@ -86,6 +86,10 @@ at = (codes "at", kinds.LongOr, needs.Value None values.Block)
 abbrev pub on_volume : List Argument → List Argument
 on_volume more = edition ∷ word (codes "IMAGE") ∷ at ∷ more
 
+-- the option `--owner`, with a user and a group (this project)
+abbrev pub owner : Argument
+owner = (codes "owner", kinds.Owner, needs.Value (Some 111) values.Owner)
+
 -- the words of a checker's command (this project)
 abbrev pub of_checker : List Argument
 of_checker = on_volume ((codes "WORKERS", kinds.Threads, needs.Once) ∷ option (codes "json") ∷ [])
@@ -139,16 +143,15 @@ row_of verbs.Mkfs = (
 row_of verbs.Put = (
   codes "put",
   on_volume (word (codes "PATH") ∷ maybe_word (codes "FILE") ∷ maybe_word (codes "NOW") ∷ more_words
-      ∷ valued (codes "target-directory") 116 values.Directory ∷ lettered (codes "preserve") 112 ∷ lettered (codes "executable") 120 ∷ option (codes "trace") ∷ []),
+      ∷ valued (codes "target-directory") 116 values.Directory ∷ lettered (codes "preserve") 112 ∷ lettered (codes "executable") 120 ∷ owner ∷ option (codes "trace") ∷ []),
 )
 row_of verbs.Import = (
   codes "import",
-  on_volume (path needs.Maybe ∷ moment ∷ option (codes "skip-special")
-      ∷ (codes "owner", kinds.Owner, needs.Value (Some 111) values.Owner) ∷ option (codes "trace") ∷ []),
+  on_volume (path needs.Maybe ∷ moment ∷ option (codes "skip-special") ∷ owner ∷ option (codes "trace") ∷ []),
 )
 row_of verbs.Rm = (codes "rm", on_volume (word (codes "PATH") ∷ moment ∷ lettered (codes "recursive") 114 ∷ option (codes "trace") ∷ []))
 row_of verbs.Rmdir = (codes "rmdir", on_volume (word (codes "PATH") ∷ moment ∷ option (codes "trace") ∷ []))
-row_of verbs.Mkdir = (codes "mkdir", on_volume (word (codes "PATH") ∷ moment ∷ lettered (codes "parents") 112 ∷ option (codes "trace") ∷ []))
+row_of verbs.Mkdir = (codes "mkdir", on_volume (word (codes "PATH") ∷ moment ∷ lettered (codes "parents") 112 ∷ owner ∷ option (codes "trace") ∷ []))
 row_of verbs.Ln = (codes "ln", on_volume (word (codes "FROM") ∷ word (codes "TO") ∷ moment ∷ option (codes "trace") ∷ []))
 row_of verbs.Mv = (codes "mv", on_volume (word (codes "FROM") ∷ word (codes "TO") ∷ moment ∷ option (codes "trace") ∷ []))
 row_of verbs.Chmod = (codes "chmod", on_volume (path needs.Once ∷ (codes "PERM", kinds.Permissions, needs.Once) ∷ moment ∷ option (codes "trace") ∷ []))

@@ -7,6 +7,7 @@ use command_terms::{
     BadLook, Change, Comparison, Keep, Look, Migration, NodeName, OutputForm, PlayForm, Repairing,
 };
 use vol_check::Checker;
+use vol_dir::Cred;
 use vol_layout::Edition;
 use vol_losses::VolumeSizes;
 use vol_mkfs::NewVolume;
@@ -100,12 +101,13 @@ pub struct Moment<'a> {
 /// Copying between a volume and files outside it.
 #[derive(Drop)]
 pub enum Copying<'a> {
-    /// Put files into a directory of the volume, each under its last name, and keep this of each; `now` is the time of the calls; if `trace`, print
-    /// what each call changed.
+    /// Put files into a directory of the volume, each under its last name, keep this of each, and give each this owner, if any; `now` is the time of the
+    /// calls; if `trace`, print what each call changed.
     Put {
         directory: &'a str,
         files: Vec<&'a str>,
         keep: Keep,
+        owner: Option<Cred>,
         now: Moment<'a>,
         trace: bool,
     },

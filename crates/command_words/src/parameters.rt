@@ -243,6 +243,13 @@ pub(crate) const TO: Parameter = Parameter {
     help: "The new path in the volume",
 };
 
+pub(crate) const OWNER: Parameter = Parameter {
+    name: "owner",
+    kind: WordKind::Owner,
+    need: Need::Value(Some('o'), ValueName::Owner),
+    help: "Give each file or directory that is made or put to this user and group",
+};
+
 pub(crate) const TRACE: Parameter = Parameter {
     name: "trace",
     kind: WordKind::Flag,

@@ -4,6 +4,7 @@ use Rattle.std.specs.Global.{Vec}
 use Rattle.std.specs.Borrow.{Bor}
 use Rattle.std.specs.Io.KnownBytes.{Keeps}
 use Rattle.std.specs.Path.{path_file_name}
+use Rattle.vol_dir.specs.declared.cred.Cred.{Cred}
 use Rattle.vol_import.specs.Make.{told}
 use Rattle.vol_volume.specs.Volume.{reads_as}
 use Rattle.command_faults.specs.Faults.{fault_line, fault_status}
@@ -54,23 +55,23 @@ LeavesMoment streams stands now status =
     (status ≡ 2) × ((word : Bor (List ℕ)) × IsFileToo stands now word)
     × Keeps streams.old streams.new × (streams.failed ≡ streams.had_failed) × (streams.lines ≡ [])
 
--- files with these names are put into a directory: nothing is done; or their bytes are read from files and put into an image, which is read from a
--- file and may be changed, and the result of the calls is saved if the system reported that some file had the stamp of the image's file; their trace is
--- printed after that, if it is wanted, and nothing otherwise (this project)
-abbrev pub PutsFiles : Streams → HostFiles → Edition → List ℕ → List (List ℕ) → Keep → ℕ → Bool → ℕ → Type 0
-PutsFiles streams files edition directory names keep now trace status =
+-- files with these names are put into a directory, and given this owner, if any: nothing is done; or their bytes are read from files and put into an
+-- image, which is read from a file and may be changed, and the result of the calls is saved if the system reported that some file had the stamp of the
+-- image's file; their trace is printed after that, if it is wanted, and nothing otherwise (this project)
+abbrev pub PutsFiles : Streams → HostFiles → Edition → List ℕ → List (List ℕ) → Keep → Option Cred → ℕ → Bool → ℕ → Type 0
+PutsFiles streams files edition directory names keep owner now trace status =
     RunsNothing streams files status
     ⊎ ((image : List ℕ) × (stamp : Stamp) × (news : List NewFile) × (outcome : Result Remarked Fault) × files.opened edition image stamp
     × AreGiven (files.put edition) keep names news
-    × IsAmong (of_import edition image (told (calls_to_put (reads_as edition image).tree now directory news)) trace) outcome
+    × IsAmong (of_import edition image (told (calls_to_put (reads_as edition image).tree now directory owner news)) trace) outcome
     × EndsTraced (λ saved. files.stored saved × files.stood stamp) outcome streams status)
 
 -- several files are put at a time: if the word that was read as the time is also a file's path, nothing is done; otherwise the files are put (this
 -- project)
-abbrev pub RunsPut : Streams → HostFiles → Standing → Edition → List ℕ → List (List ℕ) → Keep → Moment → Bool → ℕ → Type 0
-RunsPut streams files stands edition directory names keep now trace status =
+abbrev pub RunsPut : Streams → HostFiles → Standing → Edition → List ℕ → List (List ℕ) → Keep → Option Cred → Moment → Bool → ℕ → Type 0
+RunsPut streams files stands edition directory names keep owner now trace status =
     LeavesMoment streams stands now status
-    ⊎ (IsMomentAlone stands now × PutsFiles streams files edition directory names keep now.seconds trace status)
+    ⊎ (IsMomentAlone stands now × PutsFiles streams files edition directory names keep owner now.seconds trace status)
 
 -- all bytes of each of these files were written to a file of the host (this project)
 abbrev pub AreSaved : (List ℕ → Type 0) → List FileRead → Type 0
@@ -92,8 +93,8 @@ RunsGet streams files edition paths status =
 
 -- several files are copied (this project)
 abbrev pub RunsCopy : Streams → HostFiles → Standing → Edition → Copying → ℕ → Type 0
-RunsCopy streams files stands edition (copyings.Put directory paths keep now trace) status =
-    RunsPut streams files stands edition directory.now (map (λ path. name_of path.now) paths.items) keep now trace status
+RunsCopy streams files stands edition (copyings.Put directory paths keep owner now trace) status =
+    RunsPut streams files stands edition directory.now (map (λ path. name_of path.now) paths.items) keep owner now trace status
 RunsCopy streams files stands edition (copyings.Get folder paths keeps) status = RunsGet streams files edition (map (λ path. path.now) paths.items) status
 
 -- a command that copies several files runs to its end, as a plain command does (this project)

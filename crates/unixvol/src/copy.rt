@@ -26,6 +26,7 @@ use std::io::{self, Write};
 use std::path::Path;
 use std::process::ExitCode;
 use std::rt::Clock;
+use vol_dir::Cred;
 use vol_layout::Edition;
 
 /// The message if a file's name in the folder belongs to a pipe or a socket.
@@ -67,9 +68,12 @@ fn run<'a, R: ImageFiles + Clock + Eprint + AllocGlobal, O: Sink>(
             directory,
             files,
             keep,
+            owner,
             now,
             trace,
-        } => run_put(host, output, volume, directory, &files, keep, now, trace),
+        } => run_put(
+            host, output, volume, directory, &files, keep, owner, now, trace,
+        ),
         Copying::Get {
             folder,
             paths,
@@ -88,11 +92,12 @@ fn run_put<'a, R: ImageFiles + Clock + Eprint + AllocGlobal, O: Sink>(
     directory: &str,
     paths: &[&'a str],
     keep: Keep,
+    owner: Option<Cred>,
     now: Moment<'a>,
     trace: bool,
 ) -> Result<Ending, FailedRun<'a>>
     ensures runs { RunsPut (streams O.contents O.failed output.old output.new (run_fault result)) (host_files volume.entry.at R.File.remaining R.File.contents R.had R.stood) R.stands volume.entry.edition directory.now
-        (map (λ path. name_of path.now) paths.now) keep now.entry trace (run_status result) }
+        (map (λ path. name_of path.now) paths.now) keep owner now.entry trace (run_status result) }
     ensures ends { Ends (streams O.contents O.failed output.old output.new (run_fault result)) (run_status result) }
 {
     if let Some(word) = moment_file(host.rt, now) {
@@ -108,6 +113,7 @@ fn run_put<'a, R: ImageFiles + Clock + Eprint + AllocGlobal, O: Sink>(
         image,
         directory,
         files,
+        owner,
         now.seconds,
         trace,
     );

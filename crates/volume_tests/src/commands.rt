@@ -65,6 +65,7 @@ fn make_directory(rt: &impl Abort, alloc: Global, image: Vec<u8>) -> (Answer, St
     };
     let mkdir = Change::Mkdir {
         path: "/d",
+        owner: None,
         now: NOW,
     };
     let (mut output, mut errors) = (stream(alloc), stream(alloc));
@@ -101,6 +102,7 @@ fn put_hello(rt: &impl Abort, alloc: Global, image: Vec<u8>) -> Vec<u8> {
         image,
         "/d",
         files,
+        None,
         NOW,
         false,
         &mut output,

@@ -7,9 +7,7 @@ ghost use Rattle.command_words.specs.declared.verbs.Verb.TheVariants as verbs;
 use crate::fault::WordFault;
 use crate::given::{Given, flag_in, moment_in, owner_in, path_in};
 use crate::invocation::Invocation;
-use crate::parameters::{
-    AT, CALL_NOW, EDITION, IMAGE, Need, Parameter, TRACE, ValueName, WordKind,
-};
+use crate::parameters::{AT, CALL_NOW, EDITION, IMAGE, Need, OWNER, Parameter, TRACE, WordKind};
 use crate::read_words::volume_in;
 use command_terms::Change;
 use std::alloc::Global;
@@ -76,13 +74,6 @@ const SKIP_SPECIAL: Parameter = Parameter {
     kind: WordKind::Flag,
     need: Need::Flag(None),
     help: "Leave out special files, and list them on standard error",
-};
-
-const OWNER: Parameter = Parameter {
-    name: "owner",
-    kind: WordKind::Owner,
-    need: Need::Value(Some('o'), ValueName::Owner),
-    help: "Give every member to this user and group",
 };
 
 /// The words that `import` takes.

@@ -4,9 +4,9 @@ ghost use Rattle.command_words.specs.Invocations.{AsksFor, AsksForNothing, IsKee
 ghost use Rattle.command_words.specs.declared.verbs.Verb.TheVariants as verbs;
 
 use crate::fault::WordFault;
-use crate::given::{Given, flag_in, moment_in, text_in};
+use crate::given::{Given, flag_in, moment_in, owner_in, text_in};
 use crate::invocation::{Copying, Invocation};
-use crate::parameters::{AT, EDITION, IMAGE, Need, Parameter, TRACE, ValueName, WordKind};
+use crate::parameters::{AT, EDITION, IMAGE, Need, OWNER, Parameter, TRACE, ValueName, WordKind};
 use crate::read_words::volume_in;
 use crate::several::{PutFiles, file_in, files_in, no_more, not_empty};
 use crate::texts;
@@ -27,13 +27,18 @@ Examples:
   unixvol put 7 disk.img /etc/motd motd 173750400
   unixvol put 7 disk.img -t /usr/src a.c b.c c.c
   unixvol put 7 disk.img -p -t /bin pwd who
+  unixvol put 7 disk.img /usr/ken/profile profile --owner 3:1
 
 PATH is in the volume, and comes before FILE, which is outside it. A new file is made with permissions 0644, user
-0 and group 0. An existing file is emptied first, and keeps its i-number, links and permissions.
+0 and group 0. An existing file is emptied first, and keeps its i-number, links, permissions and owner.
+
+With --owner, each file is given to this user and group, an existing one too; its permissions stay. User and group
+numbers go up to 255 in the sixth edition, and up to 32767 in the seventh.
 
 With -p, the file then gets FILE's permissions, also the set-user-ID and set-group-ID bits and the sticky bit, and
 the time of FILE's last modification in whole seconds; its time of access becomes NOW. The user and the group of
-FILE are not kept. With -x it gets FILE's execute bits alone; its other permissions stay as they are.
+FILE are not kept; --owner sets them. With -x it gets FILE's execute bits alone; its other permissions stay as
+they are.
 
 With -t, each file is put into DIR, a directory of the volume, under its last name. No two files may have the same
 last name, and a last name longer than 14 bytes is refused, never cut. An existing file gets the new bytes, as
@@ -53,6 +58,7 @@ Status:
      `unixvol: 2 NoEntry`, `unixvol: 20 NotDirectory`: the parent of PATH doesn't exist, or isn't a directory
      `unixvol: 21 IsDirectory`, `unixvol: 102 NotRegular`: PATH is a directory, or a special file
      `unixvol: 27 TooBig`: the file, or its directory, would be larger than the edition allows
+     `unixvol: 104 BadId`: UID or GID of --owner is above the edition's highest
      `unixvol: 28 NoSpace`, `unixvol: 103 NoInode`: there are too few free blocks, or there is no free i-node
      With -t, all of these lines but the first end with the path in the volume, as in
      `unixvol: 28 NoSpace: /src/a.c`; and `unixvol: NAME: a name above 14 bytes` has the last name of a file
@@ -118,7 +124,7 @@ const EXECUTABLE: Parameter = Parameter {
 
 /// The words that `put` takes.
 pub(crate) const WORDS: &[Parameter] = &[
-    EDITION, IMAGE, AT, FIRST, FILE, NOW, MORE_FILES, TARGET, PRESERVE, EXECUTABLE, TRACE,
+    EDITION, IMAGE, AT, FIRST, FILE, NOW, MORE_FILES, TARGET, PRESERVE, EXECUTABLE, OWNER, TRACE,
 ];
 
 /// Reads the words of `put`.
@@ -131,6 +137,7 @@ pub(crate) fn read<'a, G: Given<'a>>(
     ensures refused { IfErr result (TellsOf (AsksForNothing clock verbs.Put (G.words given.now))) }
 {
     let volume = volume_in(given)?;
+    let owner = owner_in(given)?;
     match given.first("target-directory") {
         Some(directory) => {
             not_empty("DIR", directory, EMPTY_TARGET)?;
@@ -139,6 +146,7 @@ pub(crate) fn read<'a, G: Given<'a>>(
                 directory,
                 files,
                 keep: keep_in(given),
+                owner,
                 now,
                 trace: flag_in(given, "trace"),
             };
@@ -153,6 +161,7 @@ pub(crate) fn read<'a, G: Given<'a>>(
                 path,
                 file,
                 keep: keep_in(given),
+                owner,
                 now,
             };
             Ok(Invocation::Change {

@@ -25,10 +25,10 @@ returns-in-Boot c = rw c.in-Boot.is
 pub returns : goal.returns
 returns c = elim c.match-change.branch [
   | in-Put w ↦
-      rw w.in-Put.is (leaving_among _ _ _ _ _ _ _ _ w.made-is (λ bytes makes. put_leaves _ _ bytes _ _ _ _ makes) w.put-made.ensures.made w.put-made.ensures.fault (c.traced.ensures.made, c.traced.ensures.memory, c.traced.ensures.fault))
+      rw w.in-Put.is (leaving_among _ _ _ _ _ _ _ _ w.made-is (λ bytes makes. put_leaves _ _ bytes _ _ _ _ _ makes) w.put-made.ensures.made w.put-made.ensures.fault (c.traced.ensures.made, c.traced.ensures.memory, c.traced.ensures.fault))
   | in-RmAll w ↦ rw w.in-RmAll.is (removal_among _ _ _ _ _ _ _ _ w.made-is w.rm_all-made.ensures.removed w.rm_all-made.ensures.fault (c.traced.ensures.made, c.traced.ensures.memory, c.traced.ensures.fault))
   | in-MkdirAll w ↦
-      rw w.in-MkdirAll.is (leaving_among _ _ _ _ _ _ _ _ w.made-is (λ bytes makes. directories_leave _ _ bytes _ _ makes) w.mkdir_all-made.ensures.made w.mkdir_all-made.ensures.fault (c.traced.ensures.made, c.traced.ensures.memory, c.traced.ensures.fault))
+      rw w.in-MkdirAll.is (leaving_among _ _ _ _ _ _ _ _ w.made-is (λ bytes makes. directories_leave _ _ bytes _ _ _ makes) w.mkdir_all-made.ensures.made w.mkdir_all-made.ensures.fault (c.traced.ensures.made, c.traced.ensures.memory, c.traced.ensures.fault))
   | in-Mv w ↦
       rw w.in-Mv.is (leaving_among _ _ _ _ _ _ _ _ w.made-is (λ bytes makes. move_leaves _ _ bytes _ _ _ makes) w.mv-made.ensures.made w.mv-made.ensures.fault (c.traced.ensures.made, c.traced.ensures.memory, c.traced.ensures.fault))
   | in-Touch w ↦
@@ -36,7 +36,7 @@ returns c = elim c.match-change.branch [
   | in-Rm w ↦ rw w.in-Rm.is (calls_among _ _ _ _ _ _ _ w.made-is w.rm-made.ensures.made w.rm-made.ensures.fault (c.traced.ensures.made, c.traced.ensures.memory, c.traced.ensures.fault))
   | in-Rmdir w ↦ rw w.in-Rmdir.is (calls_among _ _ _ _ _ _ _ w.made-is w.rmdir-made.ensures.made w.rmdir-made.ensures.fault (c.traced.ensures.made, c.traced.ensures.memory, c.traced.ensures.fault))
   | in-Mkdir w ↦
-      rw w.in-Mkdir.is (leaving_among _ _ _ _ _ _ _ _ w.made-is (λ bytes makes. directory_leaves _ _ bytes _ _ makes) w.mkdir-made.ensures.made w.mkdir-made.ensures.fault (c.traced.ensures.made, c.traced.ensures.memory, c.traced.ensures.fault))
+      rw w.in-Mkdir.is (leaving_among _ _ _ _ _ _ _ _ w.made-is (λ bytes makes. directory_leaves _ _ bytes _ _ _ makes) w.mkdir-made.ensures.made w.mkdir-made.ensures.fault (c.traced.ensures.made, c.traced.ensures.memory, c.traced.ensures.fault))
   | in-Ln w ↦ rw w.in-Ln.is (calls_among _ _ _ _ _ _ _ w.made-is w.ln-made.ensures.made w.ln-made.ensures.fault (c.traced.ensures.made, c.traced.ensures.memory, c.traced.ensures.fault))
   | in-Chmod w ↦
       rw w.in-Chmod.is (leaving_among _ _ _ _ _ _ _ _ w.made-is (λ bytes makes. chmod_leaves _ _ bytes _ _ _ makes) w.chmod-made.ensures.made w.chmod-made.ensures.fault (c.traced.ensures.made, c.traced.ensures.memory, c.traced.ensures.fault))

@@ -11,17 +11,17 @@ returns-in_err-volume-clause-fault c =
 
 pub returns-in-Err-clause-fault : goal.returns-in-Err-clause-fault
 returns-in-Err-clause-fault c =
-    no_calls _ _ (λ (tree : Tree). calls_to_put tree c.args.now c.args.directory.now c.args.files.items) _ _ _
+    no_calls _ _ (λ (tree : Tree). calls_to_put tree c.args.now c.args.directory.now c.args.owner c.args.files.items) _ _ _
     c.in_ok-volume.ensures.sound c.in_ok-volume.ensures.mounted c.in-Err.ensures.fault c.unplanned.ensures
 
 pub returns-in_err-make-clause-fault : goal.returns-in_err-make-clause-fault
 returns-in_err-make-clause-fault c =
     let p = err_from_is_err_and c.from_residual-in_err-make.result c.from_residual-in_err-make.ensures.1 in
     rw (p.1, p.2)
-    (not_put _ _ (λ (tree : Tree). calls_to_put tree c.args.now c.args.directory.now c.args.files.items) _ _ _ _
+    (not_put _ _ (λ (tree : Tree). calls_to_put tree c.args.now c.args.directory.now c.args.owner c.args.files.items) _ _ _ _
     c.in_ok-volume.ensures.sound c.in_ok-volume.ensures.mounted c.in-Ok.ensures.ok c.in_err-make.ensures.fault)
 
 pub returns-clause-made : goal.returns-clause-made
 returns-clause-made c =
-    all_put _ _ (λ (tree : Tree). calls_to_put tree c.args.now c.args.directory.now c.args.files.items) _ _ _
+    all_put _ _ (λ (tree : Tree). calls_to_put tree c.args.now c.args.directory.now c.args.owner c.args.files.items) _ _ _
     c.in_ok-volume.ensures.sound c.in_ok-volume.ensures.mounted c.in-Ok.ensures.ok c.in_ok-make.ensures.made c.check.ensures

@@ -5,4 +5,4 @@ use Rattle.command_changes.proofs.put.put.Goals as goal
 
 pub returns-in_err-volume-clause-fault : goal.returns-in_err-volume-clause-fault
 returns-in_err-volume-clause-fault c =
-    search (rules, c.in_err-volume.ensures.fault (put_calls (reads_as c.args.edition c.args.image.items).tree c.args.now c.args.path.now c.args.file.bytes.items c.args.file.kept))
+    search (rules, c.in_err-volume.ensures.fault (put_calls (reads_as c.args.edition c.args.image.items).tree c.args.now c.args.path.now c.args.file.bytes.items c.args.file.kept c.args.owner))

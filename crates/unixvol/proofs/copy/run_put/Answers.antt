@@ -83,5 +83,5 @@ pub returns-clause-ends : goal.returns-clause-ends
 returns-clause-ends g c =
     ends_traced
     (of_import c.args.volume.edition c.in_ok-image.image.items
-    (told (calls_to_put (reads_as c.args.volume.edition c.in_ok-image.image.items).tree c.args.now.seconds c.args.directory.now c.in_ok-files.files.items)) c.args.trace)
+    (told (calls_to_put (reads_as c.args.volume.edition c.in_ok-image.image.items).tree c.args.now.seconds c.args.directory.now c.args.owner c.in_ok-files.files.items)) c.args.trace)
     _ _ c.put_files-outcome.result _ c.put_files-outcome.ensures c.save_traced.ensures

@@ -1,4 +1,4 @@
-use Rattle.std.proofs.Common.{drop, sym}
+use Rattle.std.proofs.Common.{drop, inl, inr, sym}
 use Rattle.command_words.proofs.Copies.{empty_target, no_file, no_files, no_moment, too_many_put}
 use Rattle.command_words.proofs.Faults.{hands_on}
 use Rattle.command_words.proofs.Values.{no_value, volume_wrong}
@@ -35,3 +35,8 @@ pub returns-in_err-not_empty-in-Some-clause-refused : goal.returns-in_err-not_em
 returns-in_err-not_empty-in-Some-clause-refused g c =
     hands_on _ _ _ _ c.from_residual-in_err-not_empty-in-Some.ensures.1 c.in_err-not_empty-in-Some.ensures.refused
     (empty_target c.args.clock (g.G.Given.words c.args.given.now) c.in-Some.directory.now (sym c.in-Some.ensures))
+
+pub returns-in_err-owner-clause-refused : goal.returns-in_err-owner-clause-refused
+returns-in_err-owner-clause-refused g c =
+    hands_on _ _ _ _ c.from_residual-in_err-owner.ensures.1 c.in_err-owner.ensures.refused
+    (λ wrong. no_value c.args.clock verbs.Put (g.G.Given.words c.args.given.now) (inr (inr (inr (inr (inr (inr (inr (inr (inr (inr (inl wrong))))))))))))

@@ -1,12 +1,12 @@
 -- Looks at images of which some blocks couldn't be read.
-use Rattle.std.proofs.Common.{◌≡◌, ℕ, Bool, true, List, Option, inl, inr, ◌∙◌, sym}
+use Rattle.std.proofs.Common.{ℕ, Bool, List, Option, inl, inr, ◌∙◌, sym}
 use Rattle.std.specs.Prelude.{Err}
 use Rattle.bad_maps.specs.Maps.{ranges_in, ReadsMap}
 use Rattle.bad_maps.specs.declared.maps.MapFault.{MapFault}
 use Rattle.bad_maps.specs.declared.maps.MapFault.TheVariants as maps
 use Rattle.bad_maps.specs.declared.maps.ReadRange.{ReadRange}
 use Rattle.vol_layout.specs.declared.edition.Edition.{Edition}
-use Rattle.vol_losses.specs.BadImages.{IsRescued, IsUnrescued}
+use Rattle.vol_losses.specs.BadImages.{IsUnrescued}
 use Rattle.vol_losses.specs.declared.bad_images.RescueFault.{RescueFault}
 use Rattle.vol_losses.specs.declared.bad_images.RescueFault.TheVariants as rescues
 use Rattle.vol_losses.specs.declared.cut_images.CutFault.TheVariants as cuts
@@ -16,7 +16,7 @@ use Rattle.vol_rescue.proofs.RightMembers.{archives_right}
 use Rattle.command_faults.specs.Streams.{still}
 use Rattle.command_faults.specs.declared.fault.Fault.{Fault}
 use Rattle.command_reads.proofs.Printed.{told_only}
-use Rattle.command_reads.specs.BadLooks.{IsMisreadEnding, IsUnrescuedEnding, IsUnsizedEnding, TellsMisread, TellsUnrescued, is_unsized}
+use Rattle.command_reads.specs.BadLooks.{IsMisreadEnding, IsUnrescuedEnding, TellsMisread, TellsUnrescued}
 use Rattle.command_reads.specs.Laws.{BadExportsAreRight}
 use Rattle.command_reads.specs.declared.bad_looks.BadMap.{BadMap}
 use Rattle.command_reads.proofs.Exported.{told_incomplete, unnoted}
@@ -42,21 +42,6 @@ told_unrescued edition ranges at sizes bytes known failed (rescues.Sizes wrong) 
   told_only (is.3, is.1),
 )))
 told_unrescued edition ranges at sizes bytes known failed (rescues.Sizes wrong) status fault cause (inr is) = inr (inr (inr (told_only is)))
-
--- a lost super-block was reported, and nothing was printed
-pub told_unsized : (edition : Edition) (ranges : List ReadRange) (at : ℕ) (sizes : Option VolumeSizes) (bytes : List ℕ) (known : Option (List ℕ)) (failed : Bool)
-    (image : List ℕ) (lost : List Bool) (status : ℕ) (fault : Option Fault) → IsRescued edition ranges at sizes bytes image lost → is_unsized sizes lost ≡ true
-    → IsUnsizedEnding status fault → TellsUnrescued edition ranges at sizes bytes (still known failed fault) status
-told_unsized edition ranges at sizes bytes known failed image lost status fault rescued none (inl is) = inr (inl (
-  image,
-  lost,
-  is.0,
-  rescued,
-  none,
-  is.2,
-  told_only (is.3, is.1),
-))
-told_unsized edition ranges at sizes bytes known failed image lost status fault rescued none (inr is) = inr (inr (inr (told_only is)))
 
 -- a map that can't be read was reported, and nothing was printed
 pub told_misread : (map : BadMap) (known : Option (List ℕ)) (failed : Bool) (why : MapFault) (status : ℕ) (fault : Option Fault)

@@ -1,5 +1,5 @@
 -- What `ls` shows of an image with lost blocks.
-use Rattle.std.specs.Prelude.{◌≡◌, ◌⊎◌, ◌==◌, ◌++◌, ◌∷◌, ℕ, Bool, false, true, if◌then◌else◌, List, [], length, Some, Result, Ok}
+use Rattle.std.specs.Prelude.{◌≡◌, ◌⊎◌, ◌==◌, ◌++◌, ◌∷◌, ℕ, Bool, false, true, if◌then◌else◌, List, [], length, Some, Ok}
 use Rattle.std.specs.List.{flat_map}
 use Rattle.vol_archive.specs.Export.{is_directory}
 use Rattle.vol_archive.specs.declared.met_entries.MetEntry.{MetEntry}

@@ -44,7 +44,11 @@ pub fn run_to_end<R: ImageFiles + Eprint + AllocGlobal, O: Write + Drop, E: Writ
     let subject = Subject::of_bad_look(volume, look);
     let status = tell_end(host, &mut errors, &ended, output.error(), Some(subject));
     let is_reported = matches!(&ended, Ok(ending) if ending.fault.is_none());
-    explain_rules(host, is_reported && matches!(look, BadLook::Check { .. }), status);
+    explain_rules(
+        host,
+        is_reported && matches!(look, BadLook::Check { .. }),
+        status,
+    );
     ExitCode::from(finish_printed(host, output.into_inner().into_inner(), status))
 }
 

@@ -45,7 +45,7 @@ _unixvol() {
         inode) kinds='6,7,any file any' options='--at --json --explain -h --help' valued='--at=any' ;;
         super) kinds='6,7,any file' options='--at --json --explain -h --help' valued='--at=any' ;;
         free) kinds='6,7,any file' options='--at --json --explain -h --help' valued='--at=any' ;;
-        block) kinds='6,7,any file any' options='--at --json --explain -h --help' valued='--at=any' ;;
+        block) kinds='6,7,any file any' options='--at --cut --bad --bad-blocks --sizes --like --json --explain -h --help' valued='--at=any --bad=file --bad-blocks=any --sizes=any --like=rk05,rk06,rk07,rl01,rl02,rm03,rp03,rp04,rp06,rx01,rx02' ;;
         dump) kinds='6,7,any file any' options='--at -i --inode --octal --json --explain -h --help' valued='--at=any' ;;
         diff) kinds='6,7,any file file' options='--at --times --fields --all --json --explain -h --help' valued='--at=any' ;;
         df) kinds='6,7,any file' options='--at --json --explain -h --help' valued='--at=any' ;;
@@ -55,11 +55,11 @@ _unixvol() {
         dcheck) kinds='6,7,any file any' options='--at --json --explain -h --help' valued='--at=any' ;;
         ncheck) kinds='6,7,any file any' options='--at --json --explain -h --help' valued='--at=any' ;;
         mkfs) kinds='6,7 file rk05,rk06,rk07,rl01,rl02,rm03,rp03,rp04,rp06,rx01,rx02 any any any any' options='--new --at --explain -h --help' valued='--at=any' ;;
-        put) kinds='6,7,any file path file any any...' options='--at -t --target-directory -p --preserve -x --executable --trace --explain -h --help' valued='--at=any -t=path --target-directory=path' changing='-t --target-directory' others='6,7,any file file...' ;;
+        put) kinds='6,7,any file path file any any...' options='--at -t --target-directory -p --preserve -x --executable -o --owner --trace --explain -h --help' valued='--at=any -t=path --target-directory=path -o=any --owner=any' changing='-t --target-directory' others='6,7,any file file...' ;;
         import) kinds='6,7,any file path any' options='--at --skip-special -o --owner --trace --explain -h --help' valued='--at=any -o=any --owner=any' ;;
         rm) kinds='6,7,any file path any' options='--at -r --recursive --trace --explain -h --help' valued='--at=any' ;;
         rmdir) kinds='6,7,any file path any' options='--at --trace --explain -h --help' valued='--at=any' ;;
-        mkdir) kinds='6,7,any file path any' options='--at -p --parents --trace --explain -h --help' valued='--at=any' ;;
+        mkdir) kinds='6,7,any file path any' options='--at -p --parents -o --owner --trace --explain -h --help' valued='--at=any -o=any --owner=any' ;;
         ln) kinds='6,7,any file path path any' options='--at --trace --explain -h --help' valued='--at=any' ;;
         mv) kinds='6,7,any file path path any' options='--at --trace --explain -h --help' valued='--at=any' ;;
         chmod) kinds='6,7,any file path any any' options='--at --trace --explain -h --help' valued='--at=any' ;;

@@ -555,7 +555,7 @@ keys_of() {
 for command in ls 'ls --slots' find map super df free; do keys_of "$command" ''; done
 for command in sums check; do keys_of $command '' '--bad-blocks 10-30'; done
 for command in icheck dcheck ncheck inode; do keys_of $command 1; done
-keys_of block 0 2 5 19
+keys_of block 0 2 5 19 '5 --bad-blocks 5'
 
 # Multiplexor files, which the seventh edition has: `c` is one of type 030000, and `k` one of type 070000.
 changed special.v7 multiplexed.v7 $((1024 + 12 * 64)) 'A4 31'

@@ -1053,7 +1053,7 @@ has 'the report as JSON' 'False [{"at": {"block": 878, "count": 3994}, "finding"
 report = json.load(sys.stdin)
 print(report["sound"], json.dumps([{key: rule[key] for key in ("at", "finding", "holds")} for rule in report["rules"][:3]]))' < output)"
 runs check --status --cut 7 cut.img
-has 'the status of check --status, if rule 1 alone is broken' 1 "$status"
+has 'the status of check --status, if rule 1 alone is broken' 1 "$(cat status)"
 runs check --explain --cut 7 cut.img
 has 'the second line of check of a volume that was cut off' \
     'unixvol: docs/FORMATS.md has the twelve rules, and docs/PROOFS.md the file that defines each, under "Where each definition is"' "$(cat error)"
@@ -1169,7 +1169,7 @@ wants 'block of the super-block with given sizes' 5 wanted count
 echo 'block 20: free, listed in super-block free[80]' > wanted
 runs block --bad-blocks 99 6 s.img 20
 wants 'block of a volume of the sixth edition' 1 wanted count
-refuses 1 'unixvol: unsound, rule 2' block --bad-blocks 1 7 m.img 60
+refuses 6 'unixvol: the super-block is lost: give --sizes or --like' block --bad-blocks 1 7 m.img 60
 refuses 2 'unixvol: no volume has 5 blocks with an i-list of 9' block --sizes 5,9 7 m.img 1
 refuses 3 'unixvol: cannot read missing.map' block --bad missing.map 7 m.img 1
 refuses 6 'unixvol: the image has 40 of 16000000 blocks' block --cut 7 long.img 1

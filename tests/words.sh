@@ -207,7 +207,7 @@ export 7 disk --bad | a value is required for '--bad <MAPFILE>'
 put 7 disk -t /d -t /d a | '--target-directory <DIR>' cannot be used multiple times
 put 7 disk -t /d x/a b y/a | invalid value 'a' for '<FILE>': two files have this last name
 put 7 disk -t /d a a/. 8 | invalid value 'a' for '<FILE>'
-put 7 disk -o /d a | unexpected argument '-o'
+put 7 disk -o /d a | invalid value '/d' for '--owner <UID:GID>': not two numbers from 0 to 65535 with a colon between them
 get 7 disk /d/f /d/g | invalid value '/d/g' for '<MORE>': one file is printed, as by > FILE; several need -o FOLDER
 get 7 disk -p /d/f | no value for '<FOLDER>': -p is for files in a folder: it needs -o FOLDER
 get 7 disk /d/f --preserve /d/g | invalid value '/d/g' for '<MORE>': one file is printed, as by > FILE; several need -o FOLDER

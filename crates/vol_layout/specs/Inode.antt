@@ -1,5 +1,5 @@
 -- The i-nodes of both layouts, field by field.
-use Rattle.std.specs.Prelude.{◌≡◌, ℕ, ◌+◌, ◌-◌, ◌*◌, ◌/◌, ◌%◌, ◌<◌, ◌≤◌, Bool, false, ◌==◌, nat_lt, if◌then◌else◌, List, map, replicate, slice_index, Option, None, Some, IsSome}
+use Rattle.std.specs.Prelude.{◌≡◌, ℕ, ◌+◌, ◌-◌, ◌*◌, ◌/◌, ◌%◌, ◌<◌, ◌≤◌, Bool, false, ◌==◌, nat_lt, if◌then◌else◌, List, ◌∷◌, map, replicate, slice_index, Option, None, Some, IsSome}
 use Rattle.std.specs.List.{range_with_len}
 use Rattle.pdp_words.specs.Words.{word, long, addr3}
 use Rattle.vol_layout.specs.Edition.{constants}
@@ -8,6 +8,9 @@ use Rattle.vol_layout.specs.declared.edition.Edition.TheVariants.{V6, V7}
 use Rattle.vol_layout.specs.declared.mode.Kind.{Kind}
 use Rattle.vol_layout.specs.declared.mode.Kind.TheVariants as kinds
 use Rattle.vol_layout.specs.declared.mode.Mode.{Mode}
+use Rattle.vol_layout.specs.declared.mode.DeviceKind.{DeviceKind}
+use Rattle.vol_layout.specs.declared.mode.DeviceKind.TheVariants as devices
+use Rattle.vol_layout.specs.declared.mode.DeviceId.{DeviceId}
 use Rattle.vol_layout.specs.declared.i_node.Inode.{Inode}
 
 -- the kind of an allocated i-node with the type bits 060000 of a mode (manual section 5 of the sixth edition, file system)
@@ -40,6 +43,17 @@ is_block_type type = type / 2 % 4 == 3
 -- true if the mode of a special file is that of a block special file, by the same bits (stat.h; the multiplexor types are this project's)
 abbrev pub is_block : ℕ → Bool
 is_block mode = mode / 8192 % 4 == 3
+
+-- the type bits 0170000 of the mode of a new special file (manual section 5, file system; stat.h)
+abbrev pub device_type : Edition → DeviceKind → ℕ
+device_type V6 devices.Character = 10
+device_type V6 devices.Block = 14
+device_type V7 devices.Character = 2
+device_type V7 devices.Block = 6
+
+-- the number of a device: its major number in the high byte, its minor number in the low one (mknod, section 2 of the manual)
+abbrev pub device_number : DeviceId → ℕ
+device_number device = 256 * device.major + device.minor
 
 -- the device number of a special file: the low 16 bits of its first address (ino.h; inode.h of the seventh edition)
 abbrev pub device_of : Inode → ℕ
@@ -152,6 +166,11 @@ new_inode edition bits count uid gid now = record {
   modified = now;
   changed = first_change edition now;
 }
+
+-- the i-node of a new special file with one link: its first address is the number of its device (mknod, section 2 of the manual; Lions on mknod)
+abbrev pub special_inode : Edition → Mode → DeviceId → ℕ → ℕ → ℕ → Inode
+special_inode edition bits device uid gid now =
+    record (new_inode edition bits 1 uid gid now) { addresses = device_number device ∷ replicate 12 0 }
 
 -- the values of an i-node fit the fields of the edition, and fields that the edition lacks are zero or None (manual section 5, file system; ino.h)
 pub data IsStorable : Edition → Inode → Type 0 where

@@ -2,7 +2,7 @@
 ghost use Rattle.std.specs.Prelude.{◌≡◌, ◌≤◌};
 
 use crate::edition::Edition;
-use crate::mode::Mode;
+use crate::mode::{DeviceId, Mode};
 
 /// An i-node of either edition.
 #[derive(Clone, Copy)]
@@ -28,7 +28,7 @@ pub struct Inode {
 }
 
 impl Inode {
-    ghost use Rattle.vol_layout.specs.Inode.{new_inode, raised_inode, device_of, IsStorable};
+    ghost use Rattle.vol_layout.specs.Inode.{new_inode, special_inode, raised_inode, device_of, IsStorable};
 
     /// Returns a new i-node: its size is 0, it has no addresses, and all its times are `now`, in seconds.
     pub fn new(edition: Edition, mode: Mode, links: u16, uid: u16, gid: u16, now: u32) -> Inode
@@ -47,6 +47,25 @@ impl Inode {
                 Edition::V6 => None,
                 Edition::V7 => Some(now),
             },
+        }
+    }
+
+    /// Returns the i-node of a new special file for this device: it has one link, its size is 0, and all its times are `now`, in seconds.
+    pub fn special(
+        edition: Edition,
+        mode: Mode,
+        device: DeviceId,
+        uid: u16,
+        gid: u16,
+        now: u32,
+    ) -> Inode
+        ensures { result ≡ special_inode edition mode device uid gid now }
+    {
+        let mut addresses = [0; 13];
+        addresses[0] = u32::from(device.number());
+        Inode {
+            addresses,
+            ..Inode::new(edition, mode, 1, uid, gid, now)
         }
     }
 

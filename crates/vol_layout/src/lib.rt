@@ -21,7 +21,7 @@ pub use i_list::{
 };
 pub use i_node::Inode;
 pub use ids::is_bad_id;
-pub use mode::{Kind, Mode};
+pub use mode::{DeviceId, DeviceKind, Kind, Mode};
 pub use numbers::{number, put_number};
 pub use slot::Slot;
 pub use super_block::{Flag, Super};

@@ -18,6 +18,37 @@ pub enum Kind {
     Odd,
 }
 
+/// The kind of a special file.
+#[derive(Clone, Copy, PartialEq, Eq)]
+pub enum DeviceKind {
+    /// Read and written by characters.
+    Character,
+    /// Read and written by blocks.
+    Block,
+}
+
+/// The device that a special file stands for.
+#[derive(Clone, Copy, PartialEq, Eq)]
+pub struct DeviceId {
+    /// The kind of the special file.
+    pub kind: DeviceKind,
+    /// The major number, which names the driver.
+    pub major: u8,
+    /// The minor number, which the driver is given.
+    pub minor: u8,
+}
+
+impl DeviceId {
+    ghost use Rattle.vol_layout.specs.Inode.{device_number};
+
+    /// Returns the number of the device: the major number times 256, plus the minor number.
+    pub fn number(self) -> u16
+        ensures { result ≡ device_number self }
+    {
+        256 * u16::from(self.major) + u16::from(self.minor)
+    }
+}
+
 /// The mode word of an i-node.
 #[derive(Clone, Copy)]
 pub struct Mode {
@@ -41,7 +72,7 @@ const SEVENTH_TYPE: u16 = 0o170000;
 const PERMISSIONS: u16 = 0o7777;
 
 impl Mode {
-    ghost use Rattle.vol_layout.specs.Inode.{kind_of, permissions_of, is_block, is_large, with_large, raised_mode};
+    ghost use Rattle.vol_layout.specs.Inode.{kind_of, device_type, permissions_of, is_block, is_large, with_large, raised_mode};
 
     /// Returns the kind of an i-node with this mode.
     #[tactic(auto, using(crate::proofs::BitLaws::type_v6, crate::proofs::BitLaws::allocated_bit), unfolding(crate::specs::Inode::kind_of))]
@@ -116,6 +147,25 @@ impl Mode {
         let kind = match edition {
             Edition::V6 => 0o140000,
             Edition::V7 => 0o040000,
+        };
+        Mode {
+            bits: kind | (permissions & PERMISSIONS),
+        }
+    }
+
+    /// Returns the mode of a new special file of this kind with these permission bits (octal 7777).
+    #[tactic(auto, unfolding(crate::specs::Inode::kind_of))]
+    pub fn special(edition: Edition, device: DeviceKind, permissions: u16) -> Mode
+        ensures kind { kind_of edition result.bits ≡ Kind.Special }
+        ensures device { result.bits / 4096 ≡ device_type edition device }
+        ensures permissions { permissions_of result.bits ≡ permissions % 4096 }
+        ensures small { is_large edition result.bits ≡ false }
+    {
+        let kind = match (edition, device) {
+            (Edition::V6, DeviceKind::Character) => 0o120000,
+            (Edition::V6, DeviceKind::Block) => 0o160000,
+            (Edition::V7, DeviceKind::Character) => 0o020000,
+            (Edition::V7, DeviceKind::Block) => 0o060000,
         };
         Mode {
             bits: kind | (permissions & PERMISSIONS),

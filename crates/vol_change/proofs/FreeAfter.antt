@@ -16,6 +16,7 @@ use Rattle.vol_dir.specs.Entries.{IsDirectory}
 use Rattle.vol_dir.specs.Names.{get, remove}
 use Rattle.vol_dir.specs.Tree.{Node, Shape, State, no_shape, form_in, place_count, free_count, shapes, tree, state}
 use Rattle.vol_dir.specs.declared.cred.Cred.{Cred}
+use Rattle.vol_change.specs.declared.new_nodes.NewFile.{NewFile}
 use Rattle.vol_change.specs.Edits.{set_at, at_time, modified, change_names, remove_entry, remove_node, drop_link, release, after_write, after_truncate}
 use Rattle.vol_change.specs.Nodes.{no_node, node_at, names_at, number_of_name}
 use Rattle.vol_change.specs.Shapes.{need_in, stored_shape, entry_blocks, shape_with_entry, shape_without_entry, cut_shape, cut_count, new_directory_shape}
@@ -56,11 +57,11 @@ lost_blocks geometry image d i name ready =
     ∙ free_gone geometry image i (ready_whole geometry image ready)
 
 -- creating a file takes the blocks that its entry needs
-pub free_after_create : (geometry : Geometry) (image : List ℕ) (owner : Cred) (now perm made d : ℕ) (name : List ℕ)
+pub free_after_create : (geometry : Geometry) (image : List ℕ) (owner : Cred) (now perm : ℕ) (file : NewFile) (made d : ℕ) (name : List ℕ)
     → IsFreeNumber geometry image made → IsDirectory geometry image d
-    → free_in (at_time now (after_create (state geometry image) owner now perm made d name)) ≡ free_in (state geometry image) - entry_need (state geometry image) d
+    → free_in (at_time now (after_create (state geometry image) owner now perm file made d name)) ≡ free_in (state geometry image) - entry_need (state geometry image) d
 unfolding tree
-free_after_create geometry image owner now perm made d name free is =
+free_after_create geometry image owner now perm file made d name free is =
     let e = geometry.edition in
     let old : ℕ → Shape = shapes geometry image in
     let mid : ℕ → Shape = set_at old made no_shape in

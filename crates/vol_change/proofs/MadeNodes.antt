@@ -23,7 +23,7 @@ use Rattle.vol_file.proofs.Fronts.{front_zero}
 use Rattle.vol_file.proofs.PlaceLists.{front_first}
 use Rattle.vol_dir.specs.Entries.{entry_at, slots, slot_count}
 use Rattle.vol_dir.specs.Names.{names_of, names_in}
-use Rattle.vol_dir.specs.Tree.{Content, Body, Directory, no_shape, content_of, node_with, node_of, shape_of, is_place, is_named_place, state}
+use Rattle.vol_dir.specs.Tree.{Content, Body, Device, Directory, no_shape, content_of, node_with, node_of, shape_of, is_place, is_named_place, state}
 use Rattle.vol_dir.proofs.ReadSlots.{entry_at_past}
 use Rattle.vol_judge.specs.Graph.{graph_of}
 use Rattle.vol_judge.proofs.ImageGraphs.{kind_inside, empty_by}
@@ -39,10 +39,6 @@ use Rattle.vol_change.proofs.FreeLists.{inode_free}
 use Rattle.vol_change.proofs.UnusedBytes.{other_unused}
 use Rattle.vol_change.proofs.NewRules.{bare_whole}
 use Rattle.vol_change.proofs.OneNode.{only_inode, only_makes, only_graph, only_links}
-
--- a kind with a block map isn't odd
-odd_none : (kind : Kind) → has_places kind ≡ true → kind ≢ kinds.Odd
-odd_none kind file odd = false≢true (sym (ap has_places odd) ∙ file)
 
 module _ (geometry : Geometry) (old new : List ℕ) (i : ℕ) (node : Inode) (rules : Rules3To8 geometry old) (makes : MakesInode geometry old new i node) where
   -- i is at least 1
@@ -74,7 +70,7 @@ module _ (geometry : Geometry) (old new : List ℕ) (i : ℕ) (node : Inode) (ru
       let few : first_count (form_at geometry new i) ≤ 13 = addresses_of geometry.edition (mode_of geometry new i) in
       front_zero geometry new i (base.0 ∷ []) p (fits_len geometry old new makes.same.len rules.sound.fits)
       (sym (inode_address geometry.edition new (inode_place geometry.edition i) base.0 (omega (arith, base.1, few)))
-      ∙ (ap (λ n. get_or n.addresses base.0 0) makes.is ∙ makes.empty base.0))
+      ∙ (ap (λ n. get_or n.addresses base.0 0) makes.is ∙ makes.empty (sym (ap has_places kind_new) ∙ place.file.kind) base.0))
       base.2
 
   -- the i-node had no addresses before
@@ -90,7 +86,7 @@ module _ (geometry : Geometry) (old new : List ℕ) (i : ℕ) (node : Inode) (ru
         rules = bare_whole geometry old new i rules (record {
           above = makes.above;
           others = made_only.others;
-          known = λ odd. odd_none (kind_of geometry.edition node.mode.bits) makes.file (sym kind_new ∙ odd);
+          known = λ odd. makes.known (sym kind_new ∙ odd);
           size = λ file. size_new;
           links = λ used. rw makes.is makes.links;
           before = none_old;
@@ -126,12 +122,12 @@ module _ (geometry : Geometry) (old new : List ℕ) (i : ℕ) (node : Inode) (ru
   no_entries = ap (λ n. map (entry_at geometry new i) (range_with_len 0 n)) no_slots
 
   -- the new node has no addresses other than 0
-  no_names : is_named_place geometry new i ≡ (λ p. false)
-  no_names =
+  no_names : has_places (kind_of geometry.edition node.mode.bits) ≡ true → is_named_place geometry new i ≡ (λ p. false)
+  no_names has =
       let each : (p : List ℕ) → is_named_place geometry new i p ≡ false = λ p.
       elim (is_place (form_at geometry new i) p) as (λ t. is_place (form_at geometry new i) p ≡ t → (t && is_named geometry new i p) ≡ false) [
         | true ↦ λ test. ap (λ n. not (n == 0)) (named_new p (record {
-          file = record { first = first; last = makes.last; kind = ap has_places kind_new ∙ makes.file };
+          file = record { first = first; last = makes.last; kind = ap has_places kind_new ∙ has };
           place = place_passed (form_at geometry new i) p test;
         }))
         | false ↦ λ test. refl
@@ -139,17 +135,17 @@ module _ (geometry : Geometry) (old new : List ℕ) (i : ℕ) (node : Inode) (ru
       λ k p. each p k
 
   -- the new node's shape is empty
-  shape_by : (kind : Kind) → has_places kind ≡ true → shape_of geometry new i kind ≡ no_shape
+  shape_by : (kind : Kind) → kind_of geometry.edition node.mode.bits ≡ kind → shape_of geometry new i kind ≡ no_shape
   shape_by kinds.Free has = refl
   shape_by kinds.Special has = refl
   shape_by kinds.Odd has = refl
   shape_by kinds.Regular has =
       let large : is_large geometry.edition (mode_of geometry new i) ≡ false = ap (is_large geometry.edition) mode_new ∙ makes.small in
-      λ k. record { names = no_names k; large = large k; slots = [] }
+      λ k. record { names = no_names (ap has_places has) k; large = large k; slots = [] }
   shape_by kinds.Directory has =
       let large : is_large geometry.edition (mode_of geometry new i) ≡ false = ap (is_large geometry.edition) mode_new ∙ makes.small in
       let none : names_in (slots geometry new i) ≡ [] = ap names_in no_entries in
-      λ k. record { names = no_names k; large = large k; slots = none k }
+      λ k. record { names = no_names (ap has_places has) k; large = large k; slots = none k }
 
   -- the new node has the fields of the i-node and the given content
   node_by : (content : Content) → content_of geometry new i (kind_of geometry.edition node.mode.bits) ≡ Some content
@@ -164,7 +160,7 @@ module _ (geometry : Geometry) (old new : List ℕ) (i : ℕ) (node : Inode) (ru
       → state geometry new ≡ put_shape i no_shape (put_node i (Some (node_with node content)) (state geometry old))
   makes_by content is =
       only_makes geometry old new i (Some (node_with node content)) no_shape first makes.last made_only (node_by content is)
-      (ap (shape_of geometry new i) kind_new ∙ shape_by (kind_of geometry.edition node.mode.bits) makes.file)
+      (ap (shape_of geometry new i) kind_new ∙ shape_by (kind_of geometry.edition node.mode.bits) refl)
 
   -- creating a regular file puts a node without bytes into the state
   pub file_makes : kind_of geometry.edition node.mode.bits ≡ kinds.Regular
@@ -177,6 +173,15 @@ module _ (geometry : Geometry) (old new : List ℕ) (i : ℕ) (node : Inode) (ru
       → state geometry new ≡ put_shape i no_shape (put_node i (Some (node_with node (Directory []))) (state geometry old))
   directory_makes kind =
       makes_by (Directory []) (ap (content_of geometry new i) kind ∙ ap (λ xs. Some (Directory (names_of xs))) no_entries)
+
+  -- creating a special file puts a node with its type bits and addresses into the state
+  pub device_makes : kind_of geometry.edition node.mode.bits ≡ kinds.Special
+      → state geometry new ≡ put_shape i no_shape (put_node i (Some (node_with node (Device (node.mode.bits / 4096) node.addresses))) (state geometry old))
+  device_makes kind =
+      makes_by (Device (node.mode.bits / 4096) node.addresses)
+      (ap (content_of geometry new i) kind
+      ∙ (ap (λ bits. Some (Device (bits / 4096) (inode_of geometry.edition new i).addresses)) mode_new
+      ∙ ap (λ (n : Inode). Some (Device (node.mode.bits / 4096) n.addresses)) makes.is))
 
   -- creating a node adds it to the graph
   pub made_graph : (kind : Kind) → kind_of geometry.edition node.mode.bits ≡ kind

@@ -67,15 +67,17 @@ kept_then : (old mid new : Graph) (d i : ℕ) → ((x : ℕ) → x ≢ i → mid
     → (x : ℕ) → x ≢ i → old.kind x ≢ kinds.Free → new.links x ≡ old.links x
 kept_then old mid new d i kind kept beside x other used = beside.links x (λ free. used (sym (kind x other) ∙ free)) ∙ kept x other used
 
--- creating a regular file and then its entry is `AddsFile`
-pub file_added : (old mid new : Graph) (made d s : ℕ) (name : List ℕ) → AddsNode old mid made kinds.Regular 1 → old.kind d ≡ kinds.Directory
+-- creating a node that is no directory and then its entry is `AddsFile`
+pub file_added : (old mid new : Graph) (made d s : ℕ) (name : List ℕ) (kind : Kind) → kind ≢ kinds.Free → kind ≢ kinds.Directory
+    → AddsNode old mid made kind 1 → old.kind d ≡ kinds.Directory
     → ChangesSlot mid new d s None (Some (name, made)) → StaysBeside mid new d → AddsFile old new made d s name
-file_added old mid new made d s name adds is slot beside = record {
-  slot = slot_then old mid new d s None (Some (name, made)) (made_keeps old mid d made kinds.Regular 1 adds is) is slot;
+file_added old mid new made d s name kind used other adds is slot beside = record {
+  slot = slot_then old mid new d s None (Some (name, made)) (made_keeps old mid d made kind 1 adds is) is slot;
   others = others_then old mid new d made adds.others beside;
   was = adds.was;
-  kind = beside.kind made ∙ adds.kind;
-  links = beside.links made (λ free. let clash : kinds.Regular ≡ kinds.Free = sym adds.kind ∙ free in cc) ∙ adds.links;
+  used = λ free. used (sym adds.kind ∙ (sym (beside.kind made) ∙ free));
+  other = λ dir. other (sym adds.kind ∙ (sym (beside.kind made) ∙ dir));
+  links = beside.links made (λ free. used (sym adds.kind ∙ free)) ∙ adds.links;
   kept = kept_then old mid new d made adds.others.kind adds.kept beside;
 }
 

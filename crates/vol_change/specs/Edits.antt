@@ -1,5 +1,5 @@
 -- Changes of one node of the tree. The effects of calls are built from them.
-use Rattle.std.specs.Prelude.{ℕ, ◌+◌, ◌-◌, ◌%◌, ◌==◌, max, nat_le, if◌then◌else◌, List, [], ◌∷◌, length, take, Option, None}
+use Rattle.std.specs.Prelude.{ℕ, ◌+◌, ◌-◌, ◌%◌, ◌==◌, max, nat_le, if◌then◌else◌, List, [], ◌∷◌, length, replicate, take, Option, None}
 use Rattle.std.specs.Option.{option_map}
 use Rattle.vol_file.specs.Changes.{spliced}
 use Rattle.vol_file.specs.Shape.{touched}
@@ -7,9 +7,13 @@ use Rattle.vol_dir.specs.Names.{Names, insert, remove, dot, dot_dot}
 use Rattle.vol_dir.specs.Tree.{Content, Body, Directory, Device, Node, Shape, State, no_shape}
 use Rattle.vol_change.specs.Nodes.{node_at, size_with_entry}
 use Rattle.vol_change.specs.Shapes.{stored_shape, shape_with_entry, shape_without_entry, cut_shape}
-use Rattle.vol_layout.specs.Inode.{first_change}
+use Rattle.vol_layout.specs.Inode.{device_number, device_type, first_change}
 use Rattle.vol_layout.specs.declared.edition.Edition.{Edition}
 use Rattle.vol_dir.specs.declared.cred.Cred.{Cred}
+use Rattle.vol_layout.specs.declared.mode.Kind.{Kind}
+use Rattle.vol_layout.specs.declared.mode.Kind.TheVariants as kinds
+use Rattle.vol_change.specs.declared.new_nodes.NewFile.{NewFile}
+use Rattle.vol_change.specs.declared.new_nodes.NewFile.TheVariants as files
 
 -- a value for each i-number, replaced at i (this project)
 abbrev pub set_at : {X : Type 0} → (ℕ → X) → ℕ → X → ℕ → X
@@ -42,6 +46,17 @@ stamped now node = record node { changed = option_map (λ _. now) node.changed }
 -- a node after a change of its bytes or entries, which also changes its i-node (manual section 5, file system)
 abbrev pub modified : ℕ → Node → Node
 modified now node = record (stamped now node) { modified = now }
+
+-- the kind of a new file (this project)
+abbrev pub new_kind : NewFile → Kind
+new_kind files.Regular = kinds.Regular
+new_kind (files.Special device) = kinds.Special
+
+-- the content of a new file: a regular file is empty, and the first address of a special file is the number of its device (Lions on maknode; mknod,
+-- section 2 of the manual)
+abbrev pub new_content : Edition → NewFile → Content
+new_content edition files.Regular = Body []
+new_content edition (files.Special device) = Device (device_type edition device.kind) (device_number device ∷ replicate 12 0)
 
 -- a new node owned by the caller; all its times are the time of the call (Lions on maknode)
 abbrev pub new_node : Edition → Cred → ℕ → ℕ → Content → ℕ → ℕ → Node

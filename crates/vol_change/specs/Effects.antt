@@ -1,17 +1,18 @@
 -- The effect of each call on a state, once its paths are walked.
-use Rattle.std.specs.Prelude.{ℕ, List, [], Some}
-use Rattle.vol_dir.specs.Tree.{Body, State, no_shape}
-use Rattle.vol_change.specs.Edits.{change_node, with_permission_bits, with_owner, with_times, put_node, put_shape, remove_node, new_node, add_entry, remove_entry, add_link, drop_link, release, new_directory}
+use Rattle.std.specs.Prelude.{ℕ, List, Some}
+use Rattle.vol_dir.specs.Tree.{State, no_shape}
+use Rattle.vol_change.specs.Edits.{change_node, with_permission_bits, with_owner, with_times, put_node, put_shape, remove_node, new_content, new_node, add_entry, remove_entry, add_link, drop_link, release, new_directory}
 use Rattle.vol_change.specs.Nodes.{number_of_name}
 use Rattle.vol_change.specs.Shapes.{new_directory_shape}
 use Rattle.vol_dir.specs.declared.cred.Cred.{Cred}
+use Rattle.vol_change.specs.declared.new_nodes.NewFile.{NewFile}
 
--- an empty regular file is created, with i-number `made` and a name in d (Lions on maknode)
-abbrev pub after_create : State → Cred → ℕ → ℕ → ℕ → ℕ → List ℕ → State
-after_create state cred now perm made d name =
+-- a regular or special file is created, with i-number `made` and a name in d (Lions on maknode; mknod, section 2 of the manual)
+abbrev pub after_create : State → Cred → ℕ → ℕ → NewFile → ℕ → ℕ → List ℕ → State
+after_create state cred now perm file made d name =
     add_entry now d name made
     (put_shape made no_shape
-    (put_node made (Some (new_node state.tree.geometry.edition cred now perm (Body []) 1 0)) state))
+    (put_node made (Some (new_node state.tree.geometry.edition cred now perm (new_content state.tree.geometry.edition file) 1 0)) state))
 
 -- a directory is created, with i-number `made` and a name in d; its `..` adds a link to d (mkdir)
 abbrev pub after_mkdir : State → Cred → ℕ → ℕ → ℕ → ℕ → List ℕ → State

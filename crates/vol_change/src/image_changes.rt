@@ -1,4 +1,4 @@
-//! The changes that the ten calls make, once their paths are walked.
+//! The changes that the calls make, once their paths are walked.
 
 pub mod chmod;
 pub mod chown;

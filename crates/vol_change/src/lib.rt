@@ -1,4 +1,4 @@
-//! The changes that the ten calls make to a volume, once their paths are walked.
+//! The changes that the calls make to a volume, once their paths are walked.
 #![tactic(auto)]
 
 mod entries;
@@ -19,4 +19,4 @@ pub use image_changes::times::utime;
 pub use image_changes::truncate::truncate;
 pub use image_changes::unlink::unlink;
 pub use image_changes::write::write;
-pub use new_nodes::NewNode;
+pub use new_nodes::{NewFile, NewNode};

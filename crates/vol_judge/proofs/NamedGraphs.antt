@@ -145,8 +145,8 @@ added_file_sound old new root last made d s name before after sound fresh from a
       slot = adds.slot;
       others = adds.others;
       was_other = not_directory (old.kind made) adds.was;
-      other = λ e. let clash : kinds.Regular ≡ kinds.Directory = sym adds.kind ∙ e in cc;
-      used = λ e. let clash : kinds.Regular ≡ kinds.Free = sym adds.kind ∙ e in cc;
+      other = adds.other;
+      used = adds.used;
       links = adds.links ∙ ap (λ n. n + 1) (sym (counted_free old root last made sound adds.was));
       kept = adds.kept;
     })

@@ -37,7 +37,8 @@ pub record AddsFile (old new : Graph) (made d s : ℕ) (name : List ℕ) : Type 
   pub slot : ChangesSlot old new d s None (Some (name, made))
   pub others : KeepsOthers old new d made
   pub was : old.kind made ≡ kinds.Free
-  pub kind : new.kind made ≡ kinds.Regular
+  pub used : new.kind made ≢ kinds.Free
+  pub other : new.kind made ≢ kinds.Directory
   pub links : new.links made ≡ 1
   pub kept : (x : ℕ) → x ≢ made → old.kind x ≢ kinds.Free → new.links x ≡ old.links x
 

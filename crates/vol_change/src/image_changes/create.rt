@@ -16,18 +16,19 @@ ghost use Rattle.vol_change.specs.Effects.{after_create};
 ghost use Rattle.vol_change.specs.Ready.{Rules1To12, TakesName, Becomes, entry_need, free_in};
 
 use crate::entries::enter;
-use crate::new_nodes::{NewNode, make_file, pick_number};
+use crate::new_nodes::{NewFile, NewNode, make_file, pick_number};
 use crate::times::put_time;
 use pdp_words::Image;
 use vol_layout::Geometry;
 
-/// Creates an empty regular file with `name` in directory `dir`, in the slot for a new entry. Returns its i-number: the recorded one if given, else a
+/// Creates a regular or special file with `name` in directory `dir`, in the slot for a new entry. Returns its i-number: the recorded one if given, else a
 /// free one.
 ///
 /// Costs writing the entry. The i-list is searched only if no cached i-number is free.
 pub fn create(
     image: &mut Image,
     geometry: &Geometry,
+    file: NewFile,
     node: NewNode,
     dir: u16,
     slot: u32,
@@ -48,7 +49,7 @@ pub fn create(
     ensures free { IsFreeNumber geometry.now image.old result }
     ensures recorded { IfSome recorded (λ i. result ≡ i) }
     ensures changes { Becomes geometry.now image.old image.new
-        (at_time node.moment (after_create (state geometry.now image.old) node.owner node.moment node.permissions result dir name.now)) }
+        (at_time node.moment (after_create (state geometry.now image.old) node.owner node.moment node.permissions file result dir name.now)) }
     ensures list { FreeBecomes geometry.now image.old image.new (drop (entry_need (state geometry.now image.old) dir)) }
     ensures bytes { PutsInBody geometry.now image.old image.new dir (16 * slot) (slot_bytes name.now result) }
     ensures files { KeepsFilesBut geometry.now image.old image.new dir result }
@@ -56,7 +57,7 @@ pub fn create(
     ensures others { KeepsUnusedBut geometry.now image.old image.new result }
 {
     let made = pick_number(image, geometry, recorded);
-    make_file(image, geometry, made, node);
+    make_file(image, geometry, made, file, node);
     enter(image, geometry, dir, slot, name, made, node.moment);
     put_time(image, geometry, node.moment);
     made

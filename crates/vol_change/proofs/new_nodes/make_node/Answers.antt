@@ -15,9 +15,9 @@ put_inode-requires-clause-storable c =
 pub returns-clause-makes : goal.returns-clause-makes
 returns-clause-makes c =
     let node = c.args.node in
-    makes_new c.args.geometry.now c.args.image.now c.clear_inode.new.image c.put_inode.new.image c.args.i c.args.mode c.args.links
-    node.owner.uid node.owner.gid node.moment c.requires.few c.requires.free c.requires.file c.requires.small
-    c.clear_inode.ensures.others c.put_inode.ensures.others (c.put_inode.ensures.put ∙ c.new-inode.ensures)
+    makes_new c.args.geometry.now c.args.image.now c.clear_inode.new.image c.put_inode.new.image c.args.i c.requires.free
+    c.clear_inode.ensures.others c.put_inode.ensures.others c.args.mode c.args.links
+    node.owner.uid node.owner.gid node.moment c.requires.few c.requires.file c.requires.small (c.put_inode.ensures.put ∙ c.new-inode.ensures)
 
 pub returns-clause-unused : goal.returns-clause-unused
 returns-clause-unused c v7 =

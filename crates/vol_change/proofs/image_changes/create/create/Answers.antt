@@ -1,9 +1,8 @@
-use Rattle.std.proofs.Common.{◌∙◌, sym, ap, subst, ◌≤◌, [], Some, arith, ◌≡◌, drop, ◌*◌}
-use Rattle.vol_layout.specs.declared.mode.Kind.TheVariants as kinds
+use Rattle.std.proofs.Common.{◌∙◌, sym, ap, subst, ◌≤◌, Some, arith, ◌≡◌, drop, ◌*◌}
 use Rattle.vol_dir.specs.Entries.{slots}
 use Rattle.vol_dir.specs.Names.{names_in}
 use Rattle.vol_dir.specs.Search.{new_slot}
-use Rattle.vol_dir.specs.Tree.{Body, State, no_shape, tree, state}
+use Rattle.vol_dir.specs.Tree.{State, no_shape, tree, state}
 use Rattle.vol_judge.specs.Graph.{graph_of}
 use Rattle.vol_judge.proofs.ImageGraphs.{directory_to, graph_within}
 use Rattle.vol_free.specs.Stack.{IsFree}
@@ -11,11 +10,12 @@ use Rattle.vol_judge.specs.Directories.{root_of}
 use Rattle.vol_judge.proofs.NamedGraphs.{added_file_sound}
 use Rattle.vol_dir.specs.EntryEdits.{slot_bytes}
 use Rattle.vol_change.proofs.OneNode.{content_then, bytes_put, directory_stays}
-use Rattle.vol_change.specs.Edits.{add_entry, at_time, new_node, put_node, put_shape}
+use Rattle.vol_change.specs.Edits.{add_entry, at_time, new_content, new_kind, new_node, put_node, put_shape}
 use Rattle.vol_change.proofs.UnusedBytes.{unused_then}
 use Rattle.vol_change.proofs.WholeLaws.{keeps_then}
 use Rattle.vol_change.specs.Ready.{TakesName, entry_need, free_in}
 use Rattle.vol_change.proofs.FreeKinds.{free_kept}
+use Rattle.vol_change.proofs.NewInodes.{used_kind, other_kind}
 use Rattle.vol_change.proofs.NamedNodes.{not_made, made_keeps, file_added, named_ready}
 use Rattle.vol_change.proofs.ReadyLaws.{ready_whole, ready_same, directory_kept}
 use Rattle.vol_change.proofs.SideStates.{made_state, takes_ready, takes_kept}
@@ -34,7 +34,7 @@ enter-requires c =
     let d = c.args.dir in
     let i = c.pick_number-made.result in
     let name = c.args.name.now in
-    let node = new_node geometry.edition c.args.node.owner c.args.node.moment c.args.node.permissions (Body []) 1 0 in
+    let node = new_node geometry.edition c.args.node.owner c.args.node.moment c.args.node.permissions (new_content geometry.edition c.args.file) 1 0 in
     let same = c.pick_number-made.ensures.graph in
     let ready = ready_same geometry old mid c.requires.ready c.pick_number-made.ensures.changed.keeps same in
     let takes = takes_ready geometry mid d name ready (directory_kept geometry old mid d (same.kind d) c.requires.directory)
@@ -42,7 +42,7 @@ enter-requires c =
     (subst (λ (s : State). entry_need s d ≤ free_in s) (sym c.pick_number-made.ensures.changed.makes) c.requires.room) in
     let is = directory_to geometry mid d takes.directory in
     let made = takes_kept geometry mid new d i (Some node) name (not_made (graph_of geometry mid) d i is c.make_file.ensures.graph.was)
-    (made_keeps (graph_of geometry mid) (graph_of geometry new) d i kinds.Regular 1 c.make_file.ensures.graph is)
+    (made_keeps (graph_of geometry mid) (graph_of geometry new) d i (new_kind c.args.file) 1 c.make_file.ensures.graph is)
     (c.make_file.ensures.changed.makes ∙ made_state geometry mid i (Some node) c.pick_number-made.ensures.free) takes in
     record {
       slot = c.requires.slot
@@ -75,7 +75,7 @@ returns-clause-changes c =
     let i = c.pick_number-made.result in
     let name = c.args.name.now in
     let moment = c.args.node.moment in
-    let node = new_node geometry.edition c.args.node.owner moment c.args.node.permissions (Body []) 1 0 in
+    let node = new_node geometry.edition c.args.node.owner moment c.args.node.permissions (new_content geometry.edition c.args.file) 1 0 in
     let same = c.pick_number-made.ensures.graph in
     let ready = ready_same geometry old picked c.requires.ready c.pick_number-made.ensures.changed.keeps same in
     let is = directory_kept geometry old picked d (same.kind d) c.requires.directory in
@@ -85,7 +85,7 @@ returns-clause-changes c =
     let file = named_ready geometry picked entered d name ready is takes c.requires.component added
     (λ sound fresh. added_file_sound (graph_of geometry picked) (graph_of geometry entered) (root_of geometry) geometry.last_inode i d s name
     (graph_within geometry picked) (graph_within geometry entered) sound fresh (omega (arith, c.pick_number-made.ensures.free.above))
-    (file_added (graph_of geometry picked) (graph_of geometry mid) (graph_of geometry entered) i d s name c.make_file.ensures.graph
+    (file_added (graph_of geometry picked) (graph_of geometry mid) (graph_of geometry entered) i d s name (new_kind c.args.file) (used_kind c.args.file) (other_kind c.args.file) c.make_file.ensures.graph
     (directory_to geometry picked d is) c.enter.ensures.slot c.enter.ensures.beside)) in
     record {
       ready = ready_same geometry entered new file c.put_time.ensures.changed.keeps c.put_time.ensures.graph;
@@ -104,7 +104,7 @@ returns-clause-list c = λ blocks free.
     let geometry = c.args.geometry.now in
     let d = c.args.dir in
     let i = c.pick_number-made.result in
-    let node = new_node geometry.edition c.args.node.owner c.args.node.moment c.args.node.permissions (Body []) 1 0 in
+    let node = new_node geometry.edition c.args.node.owner c.args.node.moment c.args.node.permissions (new_content geometry.edition c.args.file) 1 0 in
     let same = c.make_file.ensures.changed.makes
     ∙ (made_state geometry c.pick_number-made.new.image i (Some node) c.pick_number-made.ensures.free
     ∙ ap (put_node i (Some node)) c.pick_number-made.ensures.changed.makes) in

@@ -4,7 +4,7 @@ use Rattle.vol_dir.specs.Tree.{Body, no_shape, state}
 use Rattle.vol_change.specs.Edits.{put_node, put_shape}
 use Rattle.vol_change.proofs.MadeNodes.{file_makes, made_keeps, made_only, made_free, made_unused, made_graph}
 use Rattle.vol_change.proofs.NewInodes.{reads_new}
-use Rattle.vol_change.proofs.new_nodes.make_file.Goals as goal
+use Rattle.vol_change.proofs.new_nodes.make_regular.Goals as goal
 
 pub returns-clause-changed : goal.returns-clause-changed
 returns-clause-changed c =

@@ -10,6 +10,8 @@ use Rattle.std.proofs.lemmas.Bool.{cases_eq, true≢false}
 use Rattle.std.proofs.lemmas.Cmp.{nat_list_cmp_total}
 use Rattle.std.proofs.lemmas.Map.Text.{is_eq-slice_cmp}
 use Rattle.vol_file.proofs.PlaceLists.{bytes_same, same_bytes}
+use Rattle.vol_layout.specs.Edition.{constants}
+use Rattle.vol_layout.specs.declared.edition.Edition.{Edition}
 use Rattle.vol_dir.specs.Access.{user}
 use Rattle.vol_dir.specs.Names.{Names, get, insert, is_dots}
 use Rattle.vol_dir.specs.Tree.{Content, Body, Directory, Device, Node, Tree}
@@ -372,17 +374,21 @@ name_linked old mid now d i name node makes =
       stands = set_beside mid d (linked now (mid d)) i makes.apart ∙ makes.stands;
     }
 
+-- two trees of one edition have the same root
+pub same_root : (old new : Tree) → new.geometry.edition ≡ old.geometry.edition → root new ≡ root old
+same_root old new same = ap (λ (edition : Edition). (constants edition).root) same
+
 -- the tree `new` keeps the nodes of `old`, with their names
 pub record Grows (old new : Tree) : Type 0 where
-  pub rooted : root new ≡ root old
+  pub edition : new.geometry.edition ≡ old.geometry.edition
   pub kept : (x : ℕ) → Keeps (old.nodes x) (new.nodes x)
 
 pub grows_same : (tree : Tree) → Grows tree tree
-grows_same tree = record { rooted = refl; kept = λ x. keeps_same (tree.nodes x) }
+grows_same tree = record { edition = refl; kept = λ x. keeps_same (tree.nodes x) }
 
 pub grows_then : (old mid new : Tree) → Grows old mid → Grows mid new → Grows old new
 grows_then old mid new first second = record {
-  rooted = second.rooted ∙ first.rooted;
+  edition = second.edition ∙ first.edition;
   kept = λ x. keeps_then (old.nodes x) (mid.nodes x) (new.nodes x) (first.kept x) (second.kept x);
 }
 
@@ -392,7 +398,7 @@ KeepsOwners old new = (x : ℕ) → KeepsOwner (old.nodes x) (new.nodes x)
 
 -- a path still leads to the same node
 pub grown_path : (old new : Tree) (path : List ℕ) (i : ℕ) → Grows old new → walk old user path ≡ Ok i → walk new user path ≡ Ok i
-grown_path old new path i grows is = path_kept old new path i grows.rooted (λ x. (grows.kept x).0) is
+grown_path old new path i grows is = path_kept old new path i (same_root old new grows.edition) (λ x. (grows.kept x).0) is
 
 -- a path that ends with a new name leads to its node
 pub path_made : (old new : Tree) (path : List ℕ) (d i : ℕ) (name : List ℕ) → root new ≡ root old → Reaches old path d name
@@ -411,7 +417,7 @@ pub record EntersAt (old new : Tree) (path : List ℕ) : Type 0 where
   pub directory : ℕ
   pub name : List ℕ
   pub number : ℕ
-  pub rooted : root new ≡ root old
+  pub edition : new.geometry.edition ≡ old.geometry.edition
   pub reached : Reaches old path directory name
   pub enters : EntersName old.nodes new.nodes directory name number
 
@@ -433,10 +439,10 @@ gains_made old new path node made =
     record {
       leads = record {
         number = at.number;
-        walked = path_made old new path at.directory at.number at.name at.rooted at.reached makes.enters;
+        walked = path_made old new path at.directory at.number at.name (same_root old new at.edition) at.reached makes.enters;
         stands = makes.stands;
       };
       free = makes.free;
-      grows = record { rooted = at.rooted; kept = makes.enters.kept };
+      grows = record { edition = at.edition; kept = makes.enters.kept };
       owners = makes.enters.owners;
     }

@@ -15,7 +15,10 @@ use Rattle.vol_dir.specs.Tree.{Content, Body, Directory, Node, Tree, State, no_s
 use Rattle.vol_dir.specs.Walk.{root, map_of, is_directory, has_zero, walk, walk_parent}
 use Rattle.vol_dir.specs.declared.refusal.Refusal.{Refusal}
 use Rattle.vol_dir.specs.declared.refusal.Refusal.TheVariants as refusals
-use Rattle.vol_change.specs.Edits.{at_time, put_node, put_shape, new_node, new_directory, modified, body_of, set_at, after_write, after_truncate}
+use Rattle.vol_change.specs.Edits.{at_time, put_node, put_shape, new_content, new_node, new_directory, modified, body_of, set_at, after_write, after_truncate}
+use Rattle.vol_change.specs.declared.new_nodes.NewFile.{NewFile}
+use Rattle.vol_change.specs.declared.new_nodes.NewFile.TheVariants.{Regular, Special}
+use Rattle.vol_layout.specs.declared.mode.DeviceId.{DeviceId}
 use Rattle.vol_change.specs.Effects.{after_create, after_mkdir}
 use Rattle.vol_change.specs.Nodes.{no_node, node_at, size_with_entry}
 use Rattle.vol_change.specs.Ready.{TakesName}
@@ -23,14 +26,15 @@ use Rattle.vol_change.specs.Shapes.{new_directory_shape}
 use Rattle.vol_volume.specs.Answer.{answer, kind_of_content, query_refusal, reply_of, reply_at, refused_or, read_bytes, stat_of}
 use Rattle.vol_volume.specs.Journal.{MayAnswer}
 use Rattle.vol_volume.specs.Step.{step, changed_by, on_node, on_parent}
-use Rattle.vol_volume.specs.Verdict.{verdict, is_free_number, is_device, first_of, of_node, of_parent, create_tests, mkdir_tests, truncate_tests}
-use Rattle.vol_volume.specs.declared.calls.Call.TheVariants.{Create, Mkdir, Truncate, Write}
+use Rattle.vol_volume.specs.Verdict.{verdict, is_free_number, is_device, first_of, of_node, of_parent, creation, file_tests, mkdir_tests, truncate_tests}
+use Rattle.vol_volume.specs.declared.calls.Call.TheVariants.{Create, Mkdir, Mknod, Truncate, Write}
 use Rattle.vol_volume.specs.declared.calls.Done.{Done}
 use Rattle.vol_volume.specs.declared.calls.Done.TheVariants.{Made, Wrote, Plain}
 use Rattle.vol_volume.specs.declared.queries.Query.TheVariants as queries
 use Rattle.vol_volume.specs.declared.queries.Reply.{Reply}
 use Rattle.vol_volume.specs.declared.queries.Reply.TheVariants as replies
-use Rattle.vol_volume.proofs.Accepted.{create_passed, mkdir_passed}
+use Rattle.vol_volume.proofs.Accepted.{create_passed, creation_verdict, mkdir_passed}
+use Rattle.vol_volume.proofs.PerformedCalls.{step_create}
 use Rattle.vol_volume.proofs.TreeWalks.{Reaches, passes_first, reaches, parent_found}
 use Rattle.vol_batch.specs.Paths.{HasFile}
 use Rattle.vol_batch.proofs.MadeNames.{LeadsTo, MakesAt, MakesName, Gains, HasNoOthers, entered, get_insert, searched_names, path_kept, leads_still, name_made, name_linked, gains_made}
@@ -65,10 +69,10 @@ makes_name state path now size d i name node reached takes free bare =
     (ap (λ names. get names name) (sym (searched_names (state.tree.nodes d) reached.names reached.searched)) ∙ takes.fresh) bare
 
 -- if a call makes a name, its path ends with it
-made_at : (old new : Tree) (path : List ℕ) (d i : ℕ) (name : List ℕ) (node : Node) → root new ≡ root old → Reaches old path d name
+made_at : (old new : Tree) (path : List ℕ) (d i : ℕ) (name : List ℕ) (node : Node) → new.geometry.edition ≡ old.geometry.edition → Reaches old path d name
     → MakesName old.nodes new.nodes d name i node → MakesAt old new path node
 made_at old new path d i name node same reached makes =
-    (record { directory = d; name = name; number = i; rooted = same; reached = reached; enters = makes.enters }, makes)
+    (record { directory = d; name = name; number = i; edition = same; reached = reached; enters = makes.enters }, makes)
 
 -- a path leads to a regular file with these bytes
 pub record Holds (tree : Tree) (path bytes : List ℕ) : Type 0 where
@@ -77,24 +81,55 @@ pub record Holds (tree : Tree) (path bytes : List ℕ) : Type 0 where
   pub content : node.content ≡ Body bytes
   pub size : node.size ≡ length bytes
 
+-- a new file has no names
+bare_file : (edition : Edition) (now perm : ℕ) (file : NewFile) → HasNoOthers None (Some (new_node edition user now perm (new_content edition file) 1 0))
+bare_file edition now perm Regular word j is plain = is
+bare_file edition now perm (Special device) word j is plain = is
+
+-- a creation that may be answered with an i-number was answered with a free one
+pub made_free : (file : NewFile) (state : State) (now perm : ℕ) (path : List ℕ) (done : Done) → MayAnswer state (creation file user now path perm) done
+    → (i : ℕ) × (done ≡ Made i) × (is_free_number state.tree i ≡ true)
+made_free Regular state now perm path (Made i) free = (i, refl, free)
+made_free Regular state now perm path (Wrote n) free = absurd free
+made_free Regular state now perm path Plain free = absurd free
+made_free (Special device) state now perm path (Made i) free = (i, refl, free)
+made_free (Special device) state now perm path (Wrote n) free = absurd free
+made_free (Special device) state now perm path Plain free = absurd free
+
+-- an accepted creation makes a file at its path
+pub creation_makes : (file : NewFile) (state : State) (now perm : ℕ) (path : List ℕ) (done : Done) → verdict state (creation file user now path perm) ≡ None
+    → MayAnswer state (creation file user now path perm) done
+    → MakesAt state.tree (step state (creation file user now path perm) done).tree path
+    (new_node state.tree.geometry.edition user now perm (new_content state.tree.geometry.edition file) 1 0)
+creation_makes file state now perm path done accepted answered =
+    let made = made_free file state now perm path done answered in
+    let i = made.0 in
+    let node = new_node state.tree.geometry.edition user now perm (new_content state.tree.geometry.edition file) 1 0 in
+    let passed = sym (creation_verdict file state user now path perm) ∙ accepted in
+    let first = passes_first state.tree path (of_parent (walk_parent state.tree user path) refusals.Exists (file_tests file state user)) passed in
+    let parent = parent_found (walk_parent state.tree user path) refusals.Exists (file_tests file state user) first.others_pass in
+    let may = create_passed file state user path parent.0 parent.1 passed parent.2 in
+    let size = size_with_entry (put_shape i no_shape (put_node i (Some node) state)) parent.0 in
+    let reached = reaches state.tree path parent.0 parent.1 parent.2 in
+    let stepped = step_create state user now path file perm i parent.0 parent.1 parent.2 in
+    subst (λ (d : Done). MakesAt state.tree (step state (creation file user now path perm) d).tree path node) (sym made.1)
+    (subst (λ (s : State). MakesAt state.tree s.tree path node) (sym stepped)
+    (made_at state.tree (at_time now (after_create state user now perm file i parent.0 parent.1)).tree path parent.0 i parent.1 node refl reached
+    (makes_name state path now size parent.0 i parent.1 node reached may.0.takes made.2 (bare_file state.tree.geometry.edition now perm file))))
+
 -- an accepted Create makes an empty file at its path
 pub create_makes : (state : State) (now perm : ℕ) (path : List ℕ) (done : Done) → verdict state (Create user now path perm) ≡ None
     → MayAnswer state (Create user now path perm) done
     → MakesAt state.tree (step state (Create user now path perm) done).tree path (new_node state.tree.geometry.edition user now perm (Body []) 1 0)
-unfolding verdict changed_by
-create_makes state now perm path (Made i) accepted free =
-    let node = new_node state.tree.geometry.edition user now perm (Body []) 1 0 in
-    let first = passes_first state.tree path (of_parent (walk_parent state.tree user path) refusals.Exists (create_tests state user)) accepted in
-    let parent = parent_found (walk_parent state.tree user path) refusals.Exists (create_tests state user) first.others_pass in
-    let may = create_passed state user path parent.0 parent.1 accepted parent.2 in
-    let size = size_with_entry (put_shape i no_shape (put_node i (Some node) state)) parent.0 in
-    let reached = reaches state.tree path parent.0 parent.1 parent.2 in
-    subst (λ (p : Option (Result (ℕ × List ℕ) Refusal)). MakesAt state.tree (at_time now (on_parent state p (after_create state user now perm i))).tree path node)
-    (sym parent.2)
-    (made_at state.tree (at_time now (after_create state user now perm i parent.0 parent.1)).tree path parent.0 i parent.1 node refl reached
-    (makes_name state path now size parent.0 i parent.1 node reached may.0.takes free (λ word j is plain. is)))
-create_makes state now perm path (Wrote n) accepted free = absurd free
-create_makes state now perm path Plain accepted free = absurd free
+create_makes = creation_makes Regular
+
+-- after an accepted Mknod the path leads to the special file
+pub mknod_gains : (state : State) (now perm : ℕ) (device : DeviceId) (path : List ℕ) (done : Done) → verdict state (Mknod user now path perm device) ≡ None
+    → MayAnswer state (Mknod user now path perm device) done
+    → Gains state.tree (step state (Mknod user now path perm device) done).tree path
+    (new_node state.tree.geometry.edition user now perm (new_content state.tree.geometry.edition (Special device)) 1 0)
+mknod_gains state now perm device path done accepted free =
+    gains_made state.tree _ path _ (creation_makes (Special device) state now perm path done accepted free)
 
 pub create_gains : (state : State) (now perm : ℕ) (path : List ℕ) (done : Done) → verdict state (Create user now path perm) ≡ None
     → MayAnswer state (Create user now path perm) done

@@ -9,7 +9,7 @@ use Rattle.vol_volume.specs.Journal.{after, MayAnswer, MayFollow}
 use Rattle.vol_volume.specs.Step.{step}
 use Rattle.vol_volume.specs.Verdict.{verdict}
 use Rattle.vol_volume.specs.declared.calls.Call.{Call}
-use Rattle.vol_volume.specs.declared.calls.Call.TheVariants.{Create, Mkdir, Link, Unlink, Rmdir, Write, Truncate, Chmod, Chown, Times}
+use Rattle.vol_volume.specs.declared.calls.Call.TheVariants.{Create, Mkdir, Link, Unlink, Rmdir, Write, Truncate, Chmod, Chown, Times, Mknod}
 use Rattle.vol_volume.specs.declared.calls.Done.{Done}
 use Rattle.vol_volume.specs.declared.calls.Done.TheVariants.{Made, Wrote, Plain}
 use Rattle.vol_volume.specs.declared.calls.Record.{Record}
@@ -65,6 +65,9 @@ answer_is state (Chown cred now path uid gid) Plain e = tt
 answer_is state (Times cred now path atime mtime) (Made i) e = true≢false (sym e)
 answer_is state (Times cred now path atime mtime) (Wrote n) e = true≢false (sym e)
 answer_is state (Times cred now path atime mtime) Plain e = tt
+answer_is state (Mknod cred now path perm device) (Made i) e = e
+answer_is state (Mknod cred now path perm device) (Wrote n) e = true≢false (sym e)
+answer_is state (Mknod cred now path perm device) Plain e = true≢false (sym e)
 
 pub is_answered : (state : State) (call : Call) (done : Done) → MayAnswer state call done → is_answer state call done ≡ true
 is_answered state (Create cred now path perm) (Made i) h = h
@@ -97,6 +100,9 @@ is_answered state (Chown cred now path uid gid) Plain h = refl
 is_answered state (Times cred now path atime mtime) (Made i) h = absurd h
 is_answered state (Times cred now path atime mtime) (Wrote n) h = absurd h
 is_answered state (Times cred now path atime mtime) Plain h = refl
+is_answered state (Mknod cred now path perm device) (Made i) h = h
+is_answered state (Mknod cred now path perm device) (Wrote n) h = absurd h
+is_answered state (Mknod cred now path perm device) Plain h = absurd h
 
 none_is : (refusal : Option Refusal) → is_none refusal ≡ true → refusal ≡ None
 none_is None e = refl

@@ -5,7 +5,7 @@ use Rattle.vol_volume.specs.Journal.{after}
 use Rattle.vol_volume.specs.Step.{step}
 use Rattle.vol_volume.specs.Verdict.{verdict, is_free_number}
 use Rattle.vol_volume.specs.declared.calls.Call.{Call}
-use Rattle.vol_volume.specs.declared.calls.Call.TheVariants.{Create, Mkdir, Link, Unlink, Rmdir, Write, Truncate, Chmod, Chown, Times}
+use Rattle.vol_volume.specs.declared.calls.Call.TheVariants.{Create, Mkdir, Link, Unlink, Rmdir, Write, Truncate, Chmod, Chown, Times, Mknod}
 use Rattle.vol_volume.specs.declared.calls.Done.{Done}
 use Rattle.vol_volume.specs.declared.calls.Done.TheVariants.{Made, Wrote, Plain}
 use Rattle.vol_volume.specs.declared.calls.Record.{Record}
@@ -18,6 +18,7 @@ use Rattle.vol_views.specs.declared.history.LogEntry.TheVariants as entries
 abbrev pub is_answer : State → Call → Done → Bool
 is_answer state (Create cred now path perm) (Made i) = is_free_number state.tree i
 is_answer state (Mkdir cred now path perm) (Made i) = is_free_number state.tree i
+is_answer state (Mknod cred now path perm device) (Made i) = is_free_number state.tree i
 is_answer state (Write cred now path offset bytes) (Wrote n) = n == length bytes
 is_answer state (Link cred now source target) Plain = true
 is_answer state (Unlink cred now path) Plain = true

@@ -11,7 +11,9 @@ use Rattle.vol_dir.specs.Walk.{has_zero, walk, walk_parent, is_directory}
 use Rattle.vol_change.specs.Nodes.{node_at, names_at, number_of_name}
 use Rattle.vol_change.specs.Ready.{TakesName, entry_need, free_in}
 use Rattle.vol_layout.specs.Ids.{is_bad_id}
-use Rattle.vol_volume.specs.Verdict.{first_of, has_name, has_others, is_device, has_free_number, then_others, of_node, of_parent, create_tests, mkdir_tests, link_tests, unlink_tests, rmdir_tests, write_tests, chown_tests, write_need, link_refusal}
+use Rattle.vol_volume.specs.Verdict.{first_of, has_name, has_others, is_device, has_free_number, then_others, of_node, of_parent, create_tests, file_tests, creation, verdict, mkdir_tests, link_tests, unlink_tests, rmdir_tests, write_tests, chown_tests, write_need, link_refusal}
+use Rattle.vol_change.specs.declared.new_nodes.NewFile.{NewFile}
+use Rattle.vol_change.specs.declared.new_nodes.NewFile.TheVariants.{Regular, Special}
 use Rattle.vol_dir.specs.declared.cred.Cred.{Cred}
 use Rattle.vol_dir.specs.declared.refusal.Refusal.{Refusal}
 use Rattle.vol_dir.specs.declared.refusal.Refusal.TheVariants as refusals
@@ -68,26 +70,42 @@ pub record MayEnter (state : State) (cred : Cred) (d : ℕ) (name : List ℕ) (n
   pub takes : TakesName state d name
   pub room : needed ≤ free_in state
 
--- an accepted Create may add its entry, and there is a free i-number
-pub create_passed : (state : State) (cred : Cred) (path : List ℕ) (d : ℕ) (name : List ℕ)
-    → then_others state.tree cred (path ∷ []) (of_parent (walk_parent state.tree cred path) refusals.Exists (create_tests state cred)) ≡ None → walk_parent state.tree cred path ≡ Some (Ok (d, name))
-    → MayEnter state cred d name (entry_need state d) × (has_free_number state.tree ≡ true)
-create_passed state cred path d name none walked =
-    let first = first_passed state.tree cred (path ∷ []) (of_parent (walk_parent state.tree cred path) refusals.Exists (create_tests state cred)) none in
-    let asked = parent_asked state.tree cred path refusals.Exists (create_tests state cred) d name walked first.others in
-    let fresh = passed _ _ _ asked in
+-- the tests of an accepted Create passed
+tests_passed : (state : State) (cred : Cred) (d : ℕ) (name : List ℕ) → first_of (create_tests state cred d name) ≡ None
+    → TakesName state d name × (entry_need state d ≤ free_in state × (has_free_number state.tree ≡ true))
+tests_passed state cred d name none =
+    let fresh = passed _ _ _ none in
     let granted = passed _ _ _ fresh.1 in
     let great = passed _ _ _ granted.1 in
     let number = passed _ _ _ great.1 in
     let room = passed _ _ _ number.1 in (
-      record {
-        user = first.user;
-        group = first.group;
-        takes = record { fresh = none_there (get (names_at state.tree d) name) fresh.0; greatest = below _ _ great.0 };
-        room = below _ _ room.0;
-      },
-      not_not (has_free_number state.tree) number.0,
+      record { fresh = none_there (get (names_at state.tree d) name) fresh.0; greatest = below _ _ great.0 },
+      (below _ _ room.0, not_not (has_free_number state.tree) number.0),
     )
+
+-- the tests of an accepted creation are those of Create, and one of the user
+file_tested : (file : NewFile) (state : State) (cred : Cred) (d : ℕ) (name : List ℕ) → first_of (file_tests file state cred d name) ≡ None
+    → first_of (create_tests state cred d name) ≡ None
+file_tested Regular state cred d name none = none
+file_tested (Special device) state cred d name none = (passed _ _ _ none).1
+
+-- an accepted creation may add its entry, and there is a free i-number
+pub create_passed : (file : NewFile) (state : State) (cred : Cred) (path : List ℕ) (d : ℕ) (name : List ℕ)
+    → then_others state.tree cred (path ∷ []) (of_parent (walk_parent state.tree cred path) refusals.Exists (file_tests file state cred)) ≡ None → walk_parent state.tree cred path ≡ Some (Ok (d, name))
+    → MayEnter state cred d name (entry_need state d) × (has_free_number state.tree ≡ true)
+create_passed file state cred path d name none walked =
+    let first = first_passed state.tree cred (path ∷ []) (of_parent (walk_parent state.tree cred path) refusals.Exists (file_tests file state cred)) none in
+    let asked = parent_asked state.tree cred path refusals.Exists (file_tests file state cred) d name walked first.others in
+    let all = tests_passed state cred d name (file_tested file state cred d name asked) in
+    (record { user = first.user; group = first.group; takes = all.0; room = all.1.0 }, all.1.1)
+
+-- the verdict on a creation
+pub creation_verdict : (file : NewFile) (state : State) (cred : Cred) (now : ℕ) (path : List ℕ) (perm : ℕ)
+    → verdict state (creation file cred now path perm)
+    ≡ then_others state.tree cred (path ∷ []) (of_parent (walk_parent state.tree cred path) refusals.Exists (file_tests file state cred))
+unfolding verdict
+creation_verdict Regular state cred now path perm = refl
+creation_verdict (Special device) state cred now path perm = refl
 
 above : (a b : ℕ) → nat_le a b ≡ false → b < a
 above a b e = grind (arith, nat_tests)

@@ -9,8 +9,9 @@ use Rattle.vol_file.specs.Changes.{spliced}
 use Rattle.vol_layout.specs.declared.geometry.Geometry.{Geometry}
 use Rattle.vol_dir.specs.Names.{get, insert, remove}
 use Rattle.vol_dir.specs.Tree.{Body, Node, State, no_shape, state}
+use Rattle.vol_change.specs.declared.new_nodes.NewFile.{NewFile}
 use Rattle.vol_dir.specs.declared.cred.Cred.{Cred}
-use Rattle.vol_change.specs.Edits.{put_node, put_shape, change_node, remove_node, at_time, stamped, modified, new_node, change_names, add_entry, remove_entry, add_link, drop_link, release, body_of, new_directory, after_write, after_truncate, with_permission_bits, with_owner, with_times}
+use Rattle.vol_change.specs.Edits.{put_node, put_shape, change_node, remove_node, at_time, stamped, modified, new_content, new_node, change_names, add_entry, remove_entry, add_link, drop_link, release, body_of, new_directory, after_write, after_truncate, with_permission_bits, with_owner, with_times}
 use Rattle.vol_change.specs.Nodes.{node_at, names_at, size_with_entry}
 use Rattle.vol_change.specs.Shapes.{new_directory_shape}
 use Rattle.vol_change.specs.Unused.{IsCleared, KeepsUnused}
@@ -162,14 +163,14 @@ module _ (geometry : Geometry) (old new : List ℕ) where
       let was = state geometry old in
       inodes_same (λ j. free_as _ makes j ∙ (added_free (add_link now i was) now d name i j ∙ link_free was now i j)) kept
 
-  -- `KeepsInodes` holds after Create
-  pub create_inodes : (cred : Cred) (now perm i d : ℕ) (name : List ℕ)
-      → state geometry new ≡ at_time now (after_create (state geometry old) cred now perm i d name) → is_free geometry old i ≡ true
+  -- `KeepsInodes` holds after a creation
+  pub create_inodes : (cred : Cred) (now perm : ℕ) (file : NewFile) (i d : ℕ) (name : List ℕ)
+      → state geometry new ≡ at_time now (after_create (state geometry old) cred now perm file i d name) → is_free geometry old i ≡ true
       → (geometry.edition ≡ V7 → slice_index new (inode_place V7 i + 51) ≡ 0)
       → ((j : ℕ) → 1 ≤ j → j ≤ geometry.last_inode → j ≢ i → KeepsUnused geometry old new j) → KeepsInodes geometry old new
-  create_inodes cred now perm i d name makes free zero kept =
+  create_inodes cred now perm file i d name makes free zero kept =
       let was = state geometry old in
-      let node : Option Node = Some (new_node was.tree.geometry.edition cred now perm (Body []) 1 0) in
+      let node : Option Node = Some (new_node was.tree.geometry.edition cred now perm (new_content was.tree.geometry.edition file) 1 0) in
       let put = put_shape i no_shape (put_node i node was) in
       inodes_made i free
       (free_as _ makes i ∙ (added_free put now d name i i ∙ ap is_none (set_here was.tree.nodes i node)))

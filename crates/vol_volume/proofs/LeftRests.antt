@@ -11,6 +11,8 @@ use Rattle.vol_dir.specs.Names.{get}
 use Rattle.vol_dir.specs.Search.{new_slot, slot_named}
 use Rattle.vol_dir.specs.Tree.{tree, shapes, state}
 use Rattle.vol_dir.specs.Walk.{walk, walk_parent}
+use Rattle.vol_change.specs.declared.new_nodes.NewFile.{NewFile}
+use Rattle.vol_change.specs.declared.new_nodes.NewFile.TheVariants.{Regular, Special}
 use Rattle.vol_dir.specs.declared.cred.Cred.{Cred}
 use Rattle.vol_change.specs.Alone.{KeepsContent, ChangesInode}
 use Rattle.vol_change.specs.Changed.{FreeBecomes, KeepsFilesBut, KeepsFiles, KeepsStored, PutsInBody, as_before, blocks_freed}
@@ -18,9 +20,10 @@ use Rattle.vol_change.specs.Nodes.{node_at, names_at, number_of_name}
 use Rattle.vol_change.specs.Ready.{entry_need}
 use Rattle.vol_change.specs.Shapes.{need_in}
 use Rattle.vol_change.proofs.FreeAfter.{entry_is}
+use Rattle.vol_volume.specs.Verdict.{creation}
 use Rattle.vol_volume.specs.Reach.{Reach, takes, gives, unlinked, removed, with_entry, without_entry, reach_of_node, reach_of_parent, reached_by, KeepsBytes, LeavesTheRest}
 use Rattle.vol_volume.specs.declared.calls.Call.{Call}
-use Rattle.vol_volume.specs.declared.calls.Call.TheVariants.{Create, Mkdir, Link, Unlink, Rmdir, Write, Truncate, Chmod, Chown, Times}
+use Rattle.vol_volume.specs.declared.calls.Call.TheVariants.{Mkdir, Link, Unlink, Rmdir, Write, Truncate, Chmod, Chown, Times}
 use Rattle.vol_volume.specs.declared.calls.Done.{Done}
 use Rattle.vol_volume.specs.declared.calls.Done.TheVariants.{Made, Plain}
 
@@ -44,17 +47,30 @@ module _ (geometry : Geometry) (old new : List ℕ) where
 
   module _ (cred : Cred) (now : ℕ) (path : List ℕ) where
     module _ (d : ℕ) (name : List ℕ) (walked : walk_parent (tree geometry old) cred path ≡ Some (Ok (d, name))) (slot : ℕ) where
-      -- `LeavesTheRest` holds after Create
-      pub create_leaves : (perm made : ℕ) → slot ≡ new_slot (shapes geometry old d).slots
+      -- the reach of a creation
+      create_reached : (file : NewFile) (perm made : ℕ) → reached_by geometry old (creation file cred now path perm) (Made made)
+          ≡ with_entry geometry old d name made (takes d made (entry_need (state geometry old) d))
+      unfolding reached_by
+      create_reached Regular perm made =
+          ap (λ w. reach_of_parent w (λ e text. with_entry geometry old e text made (takes e made (entry_need (state geometry old) e)))) walked
+      create_reached (Special device) perm made =
+          ap (λ w. reach_of_parent w (λ e text. with_entry geometry old e text made (takes e made (entry_need (state geometry old) e)))) walked
+
+      -- a creation keeps no other bytes by itself
+      create_keeps : (file : NewFile) (perm : ℕ) → KeepsBytes geometry old new (creation file cred now path perm)
+      unfolding KeepsBytes
+      create_keeps Regular perm = tt
+      create_keeps (Special device) perm = tt
+
+      -- `LeavesTheRest` holds after a creation
+      pub create_leaves : (file : NewFile) (perm made : ℕ) → slot ≡ new_slot (shapes geometry old d).slots
           → FreeBecomes geometry old new (drop (entry_need (state geometry old) d))
           → KeepsFilesBut geometry old new d made → PutsInBody geometry old new d (16 * slot) (slot_bytes name made)
-          → LeavesTheRest geometry old new (Create cred now path perm) (Made made)
-      unfolding reached_by KeepsBytes
-      create_leaves perm made is free files bytes =
-          left_beside (Create cred now path perm) (Made made)
+          → LeavesTheRest geometry old new (creation file cred now path perm) (Made made)
+      create_leaves file perm made is free files bytes =
+          left_beside (creation file cred now path perm) (Made made)
           (with_entry geometry old d name made (takes d made (entry_need (state geometry old) d)))
-          (ap (λ w. reach_of_parent w (λ e text. with_entry geometry old e text made (takes e made (entry_need (state geometry old) e)))) walked)
-          free files (slot_put d slot _ (slot_bytes name made) is bytes) tt
+          (create_reached file perm made) free files (slot_put d slot _ (slot_bytes name made) is bytes) (create_keeps file perm)
 
       -- `LeavesTheRest` holds after Mkdir
       pub mkdir_leaves : (perm made : ℕ) → slot ≡ new_slot (shapes geometry old d).slots

@@ -17,11 +17,14 @@ use Rattle.vol_volume.specs.Inodes.{KeepsInodes}
 use Rattle.vol_volume.specs.Journal.{MayAnswer}
 use Rattle.vol_volume.specs.Reach.{LeavesTheRest}
 use Rattle.vol_volume.specs.Perform.{IsPerformed}
+use Rattle.vol_volume.specs.Verdict.{creation, is_free_number}
 use Rattle.vol_volume.specs.Step.{on_node, on_parent, changed_by, step}
+use Rattle.vol_change.specs.declared.new_nodes.NewFile.{NewFile}
+use Rattle.vol_change.specs.declared.new_nodes.NewFile.TheVariants.{Regular, Special}
 use Rattle.vol_dir.specs.declared.cred.Cred.{Cred}
 use Rattle.vol_layout.specs.declared.geometry.Geometry.{Geometry}
 use Rattle.vol_volume.specs.declared.calls.Call.{Call}
-use Rattle.vol_volume.specs.declared.calls.Call.TheVariants.{Create, Mkdir, Link, Unlink, Rmdir, Write, Truncate, Chmod, Chown, Times}
+use Rattle.vol_volume.specs.declared.calls.Call.TheVariants.{Mkdir, Link, Unlink, Rmdir, Write, Truncate, Chmod, Chown, Times}
 use Rattle.vol_volume.specs.declared.calls.Done.{Done}
 use Rattle.vol_volume.specs.declared.calls.Done.TheVariants.{Made, Plain}
 
@@ -41,11 +44,19 @@ performed_by geometry old new call done made free stepped answered changes inode
 }
 
 module _ (state : State) (cred : Cred) (now : ℕ) (path : List ℕ) where
-  -- the step of Create is `after_create` with the time set
-  pub step_create : (perm made d : ℕ) (name : List ℕ) → walk_parent state.tree cred path ≡ Some (Ok (d, name))
-      → step state (Create cred now path perm) (Made made) ≡ at_time now (after_create state cred now perm made d name)
+  -- a creation may be answered with a free i-number
+  pub create_answered : (file : NewFile) (perm made : ℕ) → is_free_number state.tree made ≡ true
+      → MayAnswer state (creation file cred now path perm) (Made made)
+  create_answered Regular perm made free = free
+  create_answered (Special device) perm made free = free
+
+  -- the step of a creation is `after_create` with the time set
+  pub step_create : (file : NewFile) (perm made d : ℕ) (name : List ℕ) → walk_parent state.tree cred path ≡ Some (Ok (d, name))
+      → step state (creation file cred now path perm) (Made made) ≡ at_time now (after_create state cred now perm file made d name)
   unfolding changed_by
-  step_create perm made d name walked = ap (λ w. at_time now (on_parent state w (after_create state cred now perm made))) walked
+  step_create Regular perm made d name walked = ap (λ w. at_time now (on_parent state w (after_create state cred now perm Regular made))) walked
+  step_create (Special device) perm made d name walked =
+      ap (λ w. at_time now (on_parent state w (after_create state cred now perm (Special device) made))) walked
 
   -- the step of Mkdir is `after_mkdir` with the time set
   pub step_mkdir : (perm made d : ℕ) (name : List ℕ) → walk_parent state.tree cred path ≡ Some (Ok (d, name))

@@ -11,13 +11,14 @@ use Rattle.vol_dir.specs.Walk.{has_zero, map_of, search_node, search, find_in, w
 use Rattle.vol_layout.specs.Ids.{is_bad_id}
 use Rattle.vol_change.specs.Nodes.{node_at}
 use Rattle.vol_volume.specs.Journal.{Refuses}
-use Rattle.vol_volume.specs.Verdict.{first_of, then_others, of_node, of_parent, link_refusal, verdict, create_tests, mkdir_tests, link_tests, unlink_tests, rmdir_tests, body_tests, write_tests, truncate_tests, owner_tests, chown_tests}
+use Rattle.vol_volume.specs.Verdict.{first_of, then_others, of_node, of_parent, link_refusal, verdict, create_tests, file_tests, mkdir_tests, link_tests, unlink_tests, rmdir_tests, body_tests, write_tests, truncate_tests, owner_tests, chown_tests}
 use Rattle.vol_volume.specs.Answer.{query_refusal, list_tests}
+use Rattle.vol_change.specs.declared.new_nodes.NewFile.TheVariants.{Special}
 use Rattle.vol_dir.specs.declared.cred.Cred.{Cred}
 use Rattle.vol_dir.specs.declared.refusal.Refusal.{Refusal}
 use Rattle.vol_dir.specs.declared.refusal.Refusal.TheVariants as refusals
 use Rattle.vol_volume.specs.declared.calls.Call.{Call}
-use Rattle.vol_volume.specs.declared.calls.Call.TheVariants.{Create, Mkdir, Link, Unlink, Rmdir, Write, Truncate, Chmod, Chown, Times}
+use Rattle.vol_volume.specs.declared.calls.Call.TheVariants.{Create, Mkdir, Link, Unlink, Rmdir, Write, Truncate, Chmod, Chown, Times, Mknod}
 use Rattle.vol_volume.specs.declared.queries.Query.{Query}
 use Rattle.vol_volume.specs.declared.queries.Query.TheVariants as queries
 
@@ -139,6 +140,9 @@ unfolding verdict
 says_verdict state (Create cred now path perm) =
     says_then state.tree cred (path ∷ []) _
     (says_parent state.tree cred path refusals.Exists (create_tests state cred) refl (λ d name. (refl, (refl, (refl, (refl, (refl, tt)))))))
+says_verdict state (Mknod cred now path perm device) =
+    says_then state.tree cred (path ∷ []) _
+    (says_parent state.tree cred path refusals.Exists (file_tests (Special device) state cred) refl (λ d name. (refl, (refl, (refl, (refl, (refl, (refl, tt))))))))
 says_verdict state (Mkdir cred now path perm) =
     says_then state.tree cred (path ∷ []) _
     (says_parent state.tree cred path refusals.Exists (mkdir_tests state cred) refl (λ d name. (refl, (refl, (refl, (refl, (refl, (refl, tt))))))))

@@ -6,7 +6,7 @@ use Rattle.vol_volume.specs.Step.{step}
 use Rattle.vol_dir.specs.declared.refusal.Refusal.{Refusal}
 use Rattle.vol_dir.specs.declared.refusal.Refusal.TheVariants as refusals
 use Rattle.vol_volume.specs.declared.calls.Call.{Call}
-use Rattle.vol_volume.specs.declared.calls.Call.TheVariants.{Create, Mkdir, Link, Unlink, Rmdir, Write, Truncate, Chmod, Chown, Times}
+use Rattle.vol_volume.specs.declared.calls.Call.TheVariants.{Create, Mkdir, Link, Unlink, Rmdir, Write, Truncate, Chmod, Chown, Times, Mknod}
 use Rattle.vol_volume.specs.declared.calls.Done.{Done}
 use Rattle.vol_volume.specs.declared.calls.Done.TheVariants.{Made, Wrote, Plain}
 use Rattle.vol_volume.specs.declared.calls.Record.{Record}
@@ -15,6 +15,7 @@ use Rattle.vol_volume.specs.declared.calls.Record.{Record}
 abbrev pub MayAnswer : State → Call → Done → Type 0
 MayAnswer state (Create cred now path perm) (Made i) = is_free_number state.tree i ≡ true
 MayAnswer state (Mkdir cred now path perm) (Made i) = is_free_number state.tree i ≡ true
+MayAnswer state (Mknod cred now path perm device) (Made i) = is_free_number state.tree i ≡ true
 MayAnswer state (Write cred now path offset bytes) (Wrote n) = n ≡ length bytes
 MayAnswer state (Link cred now source target) Plain = Unit {0}
 MayAnswer state (Unlink cred now path) Plain = Unit {0}

@@ -13,7 +13,7 @@ use Rattle.vol_dir.specs.declared.cred.Cred.{Cred}
 use Rattle.vol_dir.specs.declared.entries.Entry.{Entry}
 use Rattle.vol_layout.specs.declared.geometry.Geometry.{Geometry}
 use Rattle.vol_volume.specs.declared.calls.Call.{Call}
-use Rattle.vol_volume.specs.declared.calls.Call.TheVariants.{Create, Mkdir, Link, Unlink, Rmdir, Write, Truncate, Chmod, Chown, Times}
+use Rattle.vol_volume.specs.declared.calls.Call.TheVariants.{Create, Mkdir, Link, Unlink, Rmdir, Write, Truncate, Chmod, Chown, Times, Mknod}
 use Rattle.vol_volume.specs.declared.calls.Done.{Done}
 use Rattle.vol_volume.specs.declared.calls.Done.TheVariants.{Made, Wrote, Plain}
 use Rattle.vol_volume.specs.declared.calls.Caller.{Caller}
@@ -54,6 +54,7 @@ cred_of (Truncate cred now path size) = cred
 cred_of (Chmod cred now path perm) = cred
 cred_of (Chown cred now path uid gid) = cred
 cred_of (Times cred now path atime mtime) = cred
+cred_of (Mknod cred now path perm device) = cred
 
 -- the user and the time of a call (this project)
 abbrev pub caller_of : Call → Caller
@@ -71,6 +72,7 @@ path_of (Truncate cred now path size) = path
 path_of (Chmod cred now path perm) = path
 path_of (Chown cred now path uid gid) = path
 path_of (Times cred now path atime mtime) = path
+path_of (Mknod cred now path perm device) = path
 
 -- the i-number in a recorded answer, if there is one (this project)
 abbrev pub recorded_number : Option Done → Option ℕ

@@ -16,7 +16,7 @@ use Rattle.vol_change.specs.Shapes.{need_in}
 use Rattle.vol_volume.specs.Step.{made_number}
 use Rattle.vol_dir.specs.declared.refusal.Refusal.{Refusal}
 use Rattle.vol_volume.specs.declared.calls.Call.{Call}
-use Rattle.vol_volume.specs.declared.calls.Call.TheVariants.{Create, Mkdir, Link, Unlink, Rmdir, Write, Truncate, Chmod, Chown, Times}
+use Rattle.vol_volume.specs.declared.calls.Call.TheVariants.{Create, Mkdir, Link, Unlink, Rmdir, Write, Truncate, Chmod, Chown, Times, Mknod}
 use Rattle.vol_volume.specs.declared.calls.Done.{Done}
 
 -- the files that a call may change, at most two, by i-number; its change of the free list, whose first block is allocated next; and, if the call
@@ -99,6 +99,9 @@ reached_by geometry image (Chmod cred now path perm) done =
     reach_of_node (walk (tree geometry image) cred path) (λ i. record { file = i; other = i; listed = as_before; put = None })
 reached_by geometry image (Chown cred now path uid gid) done = no_reach
 reached_by geometry image (Times cred now path atime mtime) done = no_reach
+reached_by geometry image (Mknod cred now path perm device) done =
+    reach_of_parent (walk_parent (tree geometry image) cred path)
+    (λ d name. with_entry geometry image d name (made_number done) (takes d (made_number done) (entry_need (state geometry image) d)))
 
 -- the other bytes that a call keeps: Chmod, Chown and Times keep all bytes except those of one i-node and of the super-block's time, and Truncate
 -- keeps everything stored in the blocks that its file keeps (Lions on itrunc; chmod, chown and utime, section 2 of the manual)
@@ -113,6 +116,7 @@ KeepsBytes geometry old new (Truncate cred now path left) = IfOk (walk (tree geo
 KeepsBytes geometry old new (Chmod cred now path perm) = IfOk (walk (tree geometry old) cred path) (ChangesInode geometry old new)
 KeepsBytes geometry old new (Chown cred now path uid gid) = IfOk (walk (tree geometry old) cred path) (ChangesInode geometry old new)
 KeepsBytes geometry old new (Times cred now path atime mtime) = IfOk (walk (tree geometry old) cred path) (ChangesInode geometry old new)
+KeepsBytes geometry old new (Mknod cred now path perm device) = Unit {0}
 
 -- an accepted call only takes the next blocks of the free list, or puts the blocks that it frees in front of it, in that order; every file outside
 -- its reach keeps its content and all bytes of its blocks, even those past the file's size or after the end of a name; in a directory the call

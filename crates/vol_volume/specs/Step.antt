@@ -5,8 +5,9 @@ use Rattle.vol_dir.specs.Walk.{walk, walk_parent}
 use Rattle.vol_change.specs.Edits.{at_time, after_write, after_truncate}
 use Rattle.vol_change.specs.Effects.{after_create, after_mkdir, after_link, after_unlink, after_rmdir, after_chmod, after_chown, after_utime}
 use Rattle.vol_dir.specs.declared.refusal.Refusal.{Refusal}
+use Rattle.vol_change.specs.declared.new_nodes.NewFile.TheVariants.{Regular, Special}
 use Rattle.vol_volume.specs.declared.calls.Call.{Call}
-use Rattle.vol_volume.specs.declared.calls.Call.TheVariants.{Create, Mkdir, Link, Unlink, Rmdir, Write, Truncate, Chmod, Chown, Times}
+use Rattle.vol_volume.specs.declared.calls.Call.TheVariants.{Create, Mkdir, Link, Unlink, Rmdir, Write, Truncate, Chmod, Chown, Times, Mknod}
 use Rattle.vol_volume.specs.declared.calls.Done.{Done}
 use Rattle.vol_volume.specs.declared.calls.Done.TheVariants.{Made, Wrote, Plain}
 
@@ -31,7 +32,7 @@ made_number Plain = 0
 -- the state after a call, except for the super-block's time (Lions; mkdir, rmdir)
 unfoldable pub changed_by : State → Call → Done → State
 changed_by state (Create cred now path perm) done =
-    on_parent state (walk_parent state.tree cred path) (after_create state cred now perm (made_number done))
+    on_parent state (walk_parent state.tree cred path) (after_create state cred now perm Regular (made_number done))
 changed_by state (Mkdir cred now path perm) done =
     on_parent state (walk_parent state.tree cred path) (after_mkdir state cred now perm (made_number done))
 changed_by state (Link cred now source target) done =
@@ -43,6 +44,8 @@ changed_by state (Truncate cred now path size) done = on_node state (walk state.
 changed_by state (Chmod cred now path perm) done = on_node state (walk state.tree cred path) (after_chmod state now perm)
 changed_by state (Chown cred now path uid gid) done = on_node state (walk state.tree cred path) (after_chown state now uid gid)
 changed_by state (Times cred now path atime mtime) done = on_node state (walk state.tree cred path) (after_utime state now atime mtime)
+changed_by state (Mknod cred now path perm device) done =
+    on_parent state (walk_parent state.tree cred path) (after_create state cred now perm (Special device) (made_number done))
 
 -- the time of a call (this project)
 abbrev pub moment_of : Call → ℕ
@@ -56,6 +59,7 @@ moment_of (Truncate cred now path size) = now
 moment_of (Chmod cred now path perm) = now
 moment_of (Chown cred now path uid gid) = now
 moment_of (Times cred now path atime mtime) = now
+moment_of (Mknod cred now path perm device) = now
 
 -- the state after an accepted call, which always sets the super-block's time (this project)
 abbrev pub step : State → Call → Done → State

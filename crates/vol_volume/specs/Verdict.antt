@@ -14,8 +14,10 @@ use Rattle.vol_change.specs.Ready.{entry_need, free_in}
 use Rattle.vol_dir.specs.declared.cred.Cred.{Cred}
 use Rattle.vol_dir.specs.declared.refusal.Refusal.{Refusal}
 use Rattle.vol_dir.specs.declared.refusal.Refusal.TheVariants as refusals
+use Rattle.vol_change.specs.declared.new_nodes.NewFile.{NewFile}
+use Rattle.vol_change.specs.declared.new_nodes.NewFile.TheVariants.{Regular, Special}
 use Rattle.vol_volume.specs.declared.calls.Call.{Call}
-use Rattle.vol_volume.specs.declared.calls.Call.TheVariants.{Create, Mkdir, Link, Unlink, Rmdir, Write, Truncate, Chmod, Chown, Times}
+use Rattle.vol_volume.specs.declared.calls.Call.TheVariants.{Create, Mkdir, Link, Unlink, Rmdir, Write, Truncate, Chmod, Chown, Times, Mknod}
 
 -- the first refusal whose test holds, in a list of tests with their refusals (this project)
 abbrev pub first_of : List (Bool × Refusal) → Option Refusal
@@ -87,6 +89,11 @@ create_tests state cred d name =
     ∷ (not (has_free_number state.tree), refusals.NoInode)
     ∷ (is_above_free state (entry_need state d), refusals.NoSpace)
     ∷ []
+
+-- the checks of the parent d and the name of a new file; only user 0 may make a special file (Lions on creat; mknod, section 2 of the manual)
+abbrev pub file_tests : NewFile → State → Cred → ℕ → List ℕ → List (Bool × Refusal)
+file_tests Regular = create_tests
+file_tests (Special device) = λ state cred d name. (not (cred.uid == 0), refusals.NotOwner) ∷ create_tests state cred d name
 
 -- the checks of the parent d and the name of a new directory, which adds a link to its parent and needs a block of its own (mkdir)
 abbrev pub mkdir_tests : State → Cred → ℕ → List ℕ → List (Bool × Refusal)
@@ -166,6 +173,11 @@ owner_tests tree cred i = (not (is_owner cred (node_at tree i)), refusals.NotOwn
 abbrev pub chown_tests : Cred → List (Bool × Refusal)
 chown_tests cred = (not (cred.uid == 0), refusals.NotOwner) ∷ []
 
+-- the call that creates a file: Create of a regular file, Mknod of a special file (this project)
+abbrev pub creation : NewFile → Cred → ℕ → List ℕ → ℕ → Call
+creation Regular cred now path perm = Create cred now path perm
+creation (Special device) cred now path perm = Mknod cred now path perm device
+
 -- the first refusal of a call that applies, other than NoMemory (this project)
 unfoldable pub verdict : State → Call → Option Refusal
 verdict state (Create cred now path perm) =
@@ -198,3 +210,6 @@ verdict state (Chown cred now path uid gid) =
 verdict state (Times cred now path atime mtime) =
     then_others state.tree cred (path ∷ [])
     (of_node (walk state.tree cred path) (λ i. first_of (owner_tests state.tree cred i)))
+verdict state (Mknod cred now path perm device) =
+    then_others state.tree cred (path ∷ [])
+    (of_parent (walk_parent state.tree cred path) refusals.Exists (file_tests (Special device) state cred))

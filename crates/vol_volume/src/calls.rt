@@ -4,6 +4,7 @@ ghost use Rattle.vol_volume.specs.Perform.{caller_of, path_of};
 
 use pdp_words::Bytes;
 use vol_dir::Cred;
+use vol_layout::DeviceId;
 
 /// A call by a user at a given time in seconds, which becomes the time of the super-block and of the nodes that the call changes. Paths start at the
 /// root, with or without a leading slash.
@@ -140,6 +141,20 @@ pub enum Call {
         /// The time of its last modification, in seconds since the beginning of 1970.
         mtime: u32,
     },
+    /// Creates the special file of a device. Refused: a path without components (Exists); the walk to the parent; a user other than 0 (NotOwner); then
+    /// as Create, from a name that exists on. (mknod, section 2 of the manual.)
+    Mknod {
+        /// The calling user, who owns the file.
+        cred: Cred,
+        /// The time of the call.
+        now: u32,
+        /// The file's path.
+        path: Bytes,
+        /// Its permission bits; only those in octal 7777 count.
+        perm: u16,
+        /// The device.
+        device: DeviceId,
+    },
 }
 
 /// The user and the time of a call.
@@ -166,7 +181,8 @@ impl Call {
             | Call::Truncate { cred, now, .. }
             | Call::Chmod { cred, now, .. }
             | Call::Chown { cred, now, .. }
-            | Call::Times { cred, now, .. } => (cred, now),
+            | Call::Times { cred, now, .. }
+            | Call::Mknod { cred, now, .. } => (cred, now),
         };
         Caller {
             cred: *cred,
@@ -188,7 +204,8 @@ impl Call {
             | Call::Truncate { path, .. }
             | Call::Chmod { path, .. }
             | Call::Chown { path, .. }
-            | Call::Times { path, .. } => path.as_slice(),
+            | Call::Times { path, .. }
+            | Call::Mknod { path, .. } => path.as_slice(),
         }
     }
 }

@@ -27,7 +27,7 @@ mod write;
 use crate::calls::{Call, Caller, Done};
 use crate::checked_calls::asked::{find_owned, is_free_number};
 use pdp_words::Image;
-use vol_change::NewNode;
+use vol_change::{NewFile, NewNode};
 use vol_dir::{Cred, Refusal};
 use vol_layout::Geometry;
 use vol_layout::super_block::SUPER;
@@ -63,7 +63,12 @@ pub(crate) fn check(
     let path = call.path();
     match call {
         Call::Create { .. } => {
-            let (_, number) = create::check(image, geometry, free, cred, path)?;
+            let (_, number) = create::check(image, geometry, free, NewFile::Regular, cred, path)?;
+            Ok(Done::Made(number))
+        }
+        Call::Mknod { device, .. } => {
+            let file = NewFile::Special(*device);
+            let (_, number) = create::check(image, geometry, free, file, cred, path)?;
             Ok(Done::Made(number))
         }
         Call::Mkdir { .. } => {
@@ -123,7 +128,12 @@ pub(crate) fn make(
     match call {
         Call::Create { perm, .. } => {
             let node = new_node(caller, *perm);
-            create::make(image, geometry, free, node, path, number)
+            create::make(image, geometry, free, NewFile::Regular, node, path, number)
+        }
+        Call::Mknod { perm, device, .. } => {
+            let node = new_node(caller, *perm);
+            let file = NewFile::Special(*device);
+            create::make(image, geometry, free, file, node, path, number)
         }
         Call::Mkdir { perm, .. } => {
             let node = new_node(caller, *perm);
@@ -158,7 +168,7 @@ pub(crate) fn may_answer(image: &Image, geometry: &Geometry, call: &Call, done: 
     ensures { IsTrue result ↔ MayAnswer (state geometry.now image.now) call.now done }
 {
     match (call, done) {
-        (Call::Create { .. } | Call::Mkdir { .. }, Done::Made(i)) => {
+        (Call::Create { .. } | Call::Mkdir { .. } | Call::Mknod { .. }, Done::Made(i)) => {
             is_free_number(image, geometry, i)
         }
         (Call::Write { bytes, .. }, Done::Wrote(n)) => n as usize == bytes.as_slice().len(),

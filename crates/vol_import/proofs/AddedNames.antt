@@ -2,6 +2,7 @@
 use Rattle.std.proofs.Common.{◌≡◌, ◌∙◌, ◌⊎◌, sym, ap, subst, refl, ℕ, ◌&&◌, ◌==◌, Bool, true, false, cond, List, [], ◌∷◌, ◌++◌, length, Option, None, Some, Result, Ok, Err, inl, inr}
 use Rattle.std.specs.List.{flat_map}
 use Rattle.std.specs.Option.{option_map}
+use Rattle.vol_layout.specs.declared.mode.DeviceId.{DeviceId}
 use Rattle.vol_dir.specs.Access.{user}
 use Rattle.vol_dir.specs.Names.{is_dots}
 use Rattle.vol_dir.specs.Tree.{Content, Node, Tree, State}
@@ -12,6 +13,7 @@ use Rattle.vol_dir.specs.declared.refusal.Refusal.TheVariants as refusals
 use Rattle.vol_archive.proofs.Each.{Each, Has, each_append, has_behind, has_front, has_map}
 use Rattle.vol_change.specs.Edits.{at_time, change_node, with_owner, with_permission_bits, with_times}
 use Rattle.vol_change.specs.Nodes.{node_at}
+use Rattle.vol_change.specs.declared.new_nodes.NewFile.TheVariants.{Special}
 use Rattle.vol_volume.specs.Answer.{answer}
 use Rattle.vol_volume.specs.Journal.{MayFollow}
 use Rattle.vol_volume.specs.Step.{step, changed_by, on_node}
@@ -22,17 +24,17 @@ use Rattle.vol_volume.specs.declared.calls.Done.{Done}
 use Rattle.vol_volume.specs.declared.queries.Query.TheVariants as queries
 use Rattle.vol_import.specs.MadeMembers.{EndsIn, made_paths, way_paths}
 use Rattle.vol_batch.specs.Paths.{below}
-use Rattle.vol_import.specs.Plan.{Drafted, and_next, base_permissions, check, closed, closing_calls, directory_calls, given_calls, is_crowded, is_directory as says_directory, is_known, is_missing, is_there, joined, made_as, moment_of, onto, permissions_given, permissions_of, plan, plan_onto, steps_of, time_calls, times, way_call, way_of, with_made, with_way, with_way_directory, write_calls}
+use Rattle.vol_import.specs.Plan.{Drafted, and_next, base_permissions, check, closed, closing_calls, device_of, directory_calls, given_calls, is_crowded, is_directory as says_directory, is_known, is_missing, is_there, joined, made_as, moment_of, onto, permissions_given, permissions_of, plan, plan_onto, steps_of, time_calls, times, way_call, way_of, with_made, with_way, with_way_directory, write_calls}
 use Rattle.vol_import.specs.declared.member_check.MadeAs.{MadeAs}
-use Rattle.vol_import.specs.declared.member_check.MadeAs.TheVariants.{File, Directory, Link}
+use Rattle.vol_import.specs.declared.member_check.MadeAs.TheVariants.{File, Directory, Link, Device}
 use Rattle.vol_import.specs.declared.member_check.MemberFault.{MemberFault}
 use Rattle.vol_import.specs.declared.member_check.MemberFault.TheVariants as faults
 use Rattle.vol_import.specs.declared.import_plan.PlanFault.{PlanFault}
 use Rattle.vol_import.specs.declared.import_plan.PlanFault.TheVariants as plans
 use Rattle.vol_import.specs.declared.archive_members.Member.{Member}
 use Rattle.vol_import.proofs.GrownTrees.{ChangesAt, filled, link_grows, write_changes}
-use Rattle.vol_batch.proofs.MadeNames.{EntersAt, HasNamesOf, HasNoOthers, KeepsNames, found, found_in, names_set, no_names, others_same, set_keeps, walk_kept}
-use Rattle.vol_batch.proofs.MadePaths.{create_makes, mkdir_makes, node_found, not_first}
+use Rattle.vol_batch.proofs.MadeNames.{EntersAt, HasNamesOf, HasNoOthers, KeepsNames, found, found_in, names_set, no_names, others_same, same_root, set_keeps, walk_kept}
+use Rattle.vol_batch.proofs.MadePaths.{create_makes, creation_makes, mkdir_makes, node_found, not_first}
 use Rattle.vol_import.proofs.MemberCalls.{IsRun}
 use Rattle.vol_volume.proofs.TreeWalks.{named, passes_first}
 
@@ -43,6 +45,7 @@ IsAmong paths path = Has (λ (p : List ℕ). p ≡ path) paths
 -- a call of a plan that adds at most a last name of `paths`
 data IsPlain (paths : List (List ℕ)) : Call → Type 0 where
   creates : (now perm : ℕ) (path : List ℕ) → IsAmong paths path → IsPlain paths (calls.Create user now path perm)
+  devices : (now perm : ℕ) (path : List ℕ) (device : DeviceId) → IsAmong paths path → IsPlain paths (calls.Mknod user now path perm device)
   makes : (now perm : ℕ) (path : List ℕ) → IsAmong paths path → IsPlain paths (calls.Mkdir user now path perm)
   links : (now : ℕ) (source target : List ℕ) → IsAmong paths target → IsPlain paths (calls.Link user now source target)
   writes : (now c : ℕ) (path content : List ℕ) → IsPlain paths (calls.Write user now path 0 (c ∷ content))
@@ -82,14 +85,14 @@ after_entered : (old new : Tree) (path : List ℕ) (paths : List (List ℕ)) →
 after_entered old new path paths among at =
     let kept : KeepsNames old.nodes new.nodes = λ x. (at.enters.kept x).0 in
     record {
-      rooted = at.rooted;
+      rooted = same_root old new at.edition;
       kept = kept;
       adds = λ x word j is plain. elim (at.enters.others x word j is plain) [
         | inl old ↦ inl old
         | inr here ↦ inr (has_map (λ (p : List ℕ). p ≡ path) (EndsIn new x word) (λ p same. record {
           front = at.reached.front;
           parts = ap components same ∙ (at.reached.parts ∙ ap (λ n. at.reached.front ++ n ∷ []) (sym here.1));
-          leads = ap (λ r. walk_from new user r at.reached.front) at.rooted
+          leads = ap (λ r. walk_from new user r at.reached.front) (same_root old new at.edition)
               ∙ (walk_kept old new kept at.reached.front (root old) at.directory at.reached.walks ∙ ap Ok (sym here.0));
         }) paths among)
       ];
@@ -101,7 +104,7 @@ after_changed : (old new : Tree) (paths : List (List ℕ)) (i : ℕ) (change : N
 after_changed old new paths i change changes has none =
     let after = option_map change (old.nodes i) in
     record {
-      rooted = changes.rooted;
+      rooted = same_root old new changes.edition;
       kept = subst (KeepsNames old.nodes) (sym changes.nodes) (names_set old.nodes i after has);
       adds = λ x word j is plain. inl (set_keeps HasNoOthers others_same old.nodes i after none x word j
           (ap (λ (ns : ℕ → Option Node). found (ns x) word) (sym changes.nodes) ∙ is) plain);
@@ -115,7 +118,7 @@ after_walked state now paths (Err refusal) change same =
     record { rooted = refl; kept = λ x name i is. is; adds = λ x word j is plain. inl is }
 after_walked state now paths (Ok i) change same =
     let both = keeps (state.tree.nodes i) in
-    after_changed state.tree _ paths i change (record { rooted = refl; nodes = refl }) both.0 both.1
+    after_changed state.tree _ paths i change (record { edition = refl; nodes = refl }) both.0 both.1
   where
     keeps : (node : Option Node) → HasNamesOf node (option_map change node) × HasNoOthers node (option_map change node)
     keeps None = (λ name j is. is, λ word j is plain. is)
@@ -140,6 +143,8 @@ call_after : (paths : List (List ℕ)) (state : State) (call : Call) (done : Don
 unfolding changed_by
 call_after paths state call done (creates now perm path among) follows =
     after_entered state.tree _ path paths among (create_makes state now perm path done follows.accepted follows.answered).0
+call_after paths state call done (devices now perm path device among) follows =
+    after_entered state.tree _ path paths among (creation_makes (Special device) state now perm path done follows.accepted follows.answered).0
 call_after paths state call done (makes now perm path among) follows =
     after_entered state.tree _ path paths among (mkdir_makes state now perm path done follows.accepted follows.answered).1.0
 call_after paths state call done (links now source target among) follows =
@@ -216,6 +221,10 @@ made_plain paths tree base now member made owner drafted among plain = by made
       each_append (IsPlain paths) (write_calls (moment_of member.header now) (below base member.path) member.content) _ (written member.content)
           (owned (owner.uid == 0 && owner.gid == 0)),
     )
+    by (Device kind) = each_append (IsPlain paths) drafted.1 _ plain (
+      devices (moment_of member.header now) (permissions_of member.header) (below base member.path) (device_of kind member.header) among,
+      owned (owner.uid == 0 && owner.gid == 0),
+    )
     by Directory = each_append (IsPlain paths) drafted.1 _ plain
         (directory (is_there tree base (joined (steps_of member.path))) (is_known drafted.0 (joined (steps_of member.path))))
     by Link = each_append (IsPlain paths) drafted.1 _ plain (links (moment_of member.header now) (below base member.link) (below base member.path) among, tt)
@@ -287,6 +296,7 @@ times_plain paths tree base now (member ∷ rest) =
     by (Ok Directory) = one (says_directory (answer tree (queries.Stat user (below base member.path))))
     by (Ok File) = tt
     by (Ok Link) = tt
+    by (Ok (Device kind)) = tt
     by (Err fault) = tt
 
 -- the calls of a plan add only names on the paths of its members

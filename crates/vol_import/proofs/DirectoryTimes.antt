@@ -16,7 +16,7 @@ use Rattle.vol_import.specs.MadeMembers.{is_among, is_for}
 use Rattle.vol_batch.specs.Paths.{below}
 use Rattle.vol_import.specs.Plan.{check, is_directory as says_directory, is_directory_kind, is_known, is_long, is_there, joined, made_as, moment_of, names_of, steps_of, time_calls, times}
 use Rattle.vol_import.specs.declared.member_check.MadeAs.{MadeAs}
-use Rattle.vol_import.specs.declared.member_check.MadeAs.TheVariants.{File, Directory, Link}
+use Rattle.vol_import.specs.declared.member_check.MadeAs.TheVariants.{File, Directory, Link, Device}
 use Rattle.vol_import.specs.declared.member_check.MemberFault.{MemberFault}
 use Rattle.vol_import.specs.declared.archive_members.Member.{Member}
 use Rattle.vol_import.proofs.DotWalks.{DotsLead, zeros_below}
@@ -147,6 +147,8 @@ member_timed start base now member made again known from to dots stands = by mad
         (λ kind absent. let both : Ok File ≡ Ok Directory = sym is.0.kind ∙ kind in cc)
     by (Ok (Link, owner)) is run = none (subst (λ m. IsRun from (time_calls start base now member m) to) is.0.kind run)
         (λ kind absent. let both : Ok Link ≡ Ok Directory = sym is.0.kind ∙ kind in cc)
+    by (Ok (Device kind, owner)) is run = none (subst (λ m. IsRun from (time_calls start base now member m) to) is.0.kind run)
+        (λ directory absent. let both : Ok (Device kind) ≡ Ok Directory = sym is.0.kind ∙ directory in cc)
     by (Ok (Directory, owner)) is run = one owner is (says_directory (answer start (queries.Stat user (below base member.path)))) refl
         (subst (λ m. IsRun from (time_calls start base now member m) to) is.0.kind run)
 

@@ -1,25 +1,30 @@
 -- The members that a draft of a plan makes.
-use Rattle.std.proofs.Common.{◌≡◌, ◌∙◌, sym, ap, subst, refl, ℕ, ◌%◌, ◌||◌, Bool, true, false, cond, List, [], ◌∷◌, ◌++◌, length, Some, Ok, Err, inl, inr}
-use Rattle.std.specs.Prelude.{Result}
+use Rattle.std.proofs.Common.{◌≡◌, ◌∙◌, sym, ap, ap₂, subst, refl, ℕ, ◌+◌, ◌*◌, ◌%◌, nat_lt, arith, ◌||◌, Bool, true, false, cond, List, [], ◌∷◌, ◌++◌, length, Some, Ok, Err, inl, inr}
+use Rattle.std.specs.Prelude.{Result, replicate}
 use Rattle.std.specs.List.{list_any}
 use Rattle.std.specs.Option.{is_some}
 use Rattle.std.proofs.lemmas.Bool.{cases_eq, true≢false}
+use Rattle.std.proofs.lemmas.Bool.Decides.{nat_tests}
 use Rattle.std.proofs.lemmas.List.{append-nil}
 use Rattle.vol_layout.specs.Ids.{is_bad_id}
+use Rattle.vol_layout.specs.Inode.{device_type}
 use Rattle.vol_layout.specs.declared.edition.Edition.{Edition}
+use Rattle.vol_layout.specs.declared.mode.DeviceKind.{DeviceKind}
 use Rattle.vol_dir.specs.Access.{user}
 use Rattle.vol_dir.specs.Names.{Names}
-use Rattle.vol_dir.specs.Tree.{Content, Body, Directory as DirectoryOf, Device, Node, Tree, State}
+use Rattle.vol_dir.specs.Tree.{Content, Body, Directory as DirectoryOf, Device as DeviceOf, Node, Tree, State}
 use Rattle.vol_dir.specs.Walk.{has_zero, map_of, search, walk}
 use Rattle.vol_dir.specs.declared.cred.Cred.{Cred}
+use Rattle.vol_change.specs.Edits.{new_content}
+use Rattle.vol_change.specs.declared.new_nodes.NewFile.TheVariants.{Special}
 use Rattle.vol_volume.specs.declared.calls.Call.{Call}
 use Rattle.vol_volume.specs.declared.calls.Call.TheVariants as calls
 use Rattle.vol_import.specs.MadeMembers.{is_among, is_for, is_made_at}
 use Rattle.pdp_words.specs.Steps.{and_then}
 use Rattle.vol_batch.specs.Paths.{below}
-use Rattle.vol_import.specs.Plan.{Drafted, and_next, check, check_link, check_path, directory_calls, file_calls, given_calls, is_crowded, is_dot_dot, is_known, is_long, is_long_path, is_there, joined, made_as, moment_of, names_of, onto, owner_of, permissions_of, plan_onto, steps_of, way_of, with_made, with_path, with_way}
+use Rattle.vol_import.specs.Plan.{Drafted, and_next, check, check_device, check_link, check_path, device_of, directory_calls, file_calls, given_calls, is_crowded, is_dot_dot, is_known, is_long, is_long_path, is_there, joined, made_as, moment_of, names_of, onto, owner_of, permissions_of, plan_onto, special_calls, steps_of, way_of, with_made, with_path, with_way}
 use Rattle.vol_import.specs.declared.member_check.MadeAs.{MadeAs}
-use Rattle.vol_import.specs.declared.member_check.MadeAs.TheVariants.{File, Directory, Link}
+use Rattle.vol_import.specs.declared.member_check.MadeAs.TheVariants.{File, Directory, Link, Device}
 use Rattle.vol_import.specs.declared.member_check.MemberFault.{MemberFault}
 use Rattle.vol_import.specs.declared.member_check.MemberFault.TheVariants as faults
 use Rattle.vol_import.specs.declared.import_plan.PlanFault.{PlanFault}
@@ -29,15 +34,28 @@ use Rattle.vol_import.proofs.DotWalks.{DotsLead, with_dots, without_dots, zeros_
 use Rattle.vol_import.proofs.GrownTrees.{LeadsToDirectory, LeadBoth, grown_directory, grown_both, link_grows}
 use Rattle.vol_batch.proofs.MadeCalls.{keeps}
 use Rattle.vol_batch.proofs.MadeNames.{LeadsTo, grown_path, told as node_told, owner_told}
-use Rattle.vol_import.proofs.MemberCalls.{run_dots, directory_made, file_made, given_gives}
+use Rattle.vol_import.proofs.MemberCalls.{GainsNode, IsRun, run_dots, directory_made, file_made, given_gives, special_made}
 use Rattle.vol_volume.proofs.TreeWalks.{named, searched}
 use Rattle.vol_file.proofs.PlaceLists.{bytes_same}
 use Rattle.vol_import.proofs.DraftRuns.{Adds, Follows, Nothing, adds_less, adds_none, adds_then, follows_same, none_given, stands_grown, stands_known, stands_made, stands_there, there_leads, way, with_itself, with_known}
 
+-- the facts about a node
+abbrev pub Facts : Type 0
+Facts = Content × ℕ × ℕ × ℕ × ℕ × ℕ
+
 -- the facts about the file that a member makes
-abbrev pub facts_of : ℕ → Member → Cred → Content × ℕ × ℕ × ℕ × ℕ × ℕ
+abbrev pub facts_of : ℕ → Member → Cred → Facts
 facts_of now member owner =
     (Body member.content, permissions_of member.header % 4096, owner.uid, owner.gid, length member.content, moment_of member.header now)
+
+-- the facts about the special file that a member makes
+abbrev pub device_facts : Edition → ℕ → Member → DeviceKind → Cred → Facts
+device_facts edition now member kind owner =
+    (new_content edition (Special (device_of kind member.header)), permissions_of member.header % 4096, owner.uid, owner.gid, 0, moment_of member.header now)
+
+-- a path, which has no zero byte, leads to a node with these facts
+abbrev pub HasFacts : Tree → List ℕ → Facts → Type 0
+HasFacts tree path facts = (node : Node) × LeadsTo tree path node × (node_told node ≡ facts) × (list_any has_zero (path ∷ []) ≡ false)
 
 -- a member's directory is made: its path leads to it, and the path of its steps is known; if it is new and isn't given an owner again, it has the
 -- member's permissions and owner
@@ -51,8 +69,9 @@ pub record IsMadeDirectory (start : Tree) (base : List ℕ) (member : Member) (o
 
 -- a member is made as a node of this kind
 abbrev pub IsMade : Tree → List ℕ → ℕ → Member → Bool → MadeAs × Cred → List (List ℕ) → Tree → Type 0
-IsMade start base now member again (File, owner) known tree =
-    (node : Node) × LeadsTo tree (below base member.path) node × (node_told node ≡ facts_of now member owner) × (list_any has_zero (below base member.path ∷ []) ≡ false)
+IsMade start base now member again (File, owner) known tree = HasFacts tree (below base member.path) (facts_of now member owner)
+IsMade start base now member again (Device kind, owner) known tree =
+    HasFacts tree (below base member.path) (device_facts start.geometry.edition now member kind owner)
 IsMade start base now member again (Link, owner) known tree =
     LeadBoth tree (below base member.link) (below base member.path) × (list_any has_zero (below base member.link ∷ below base member.path ∷ []) ≡ false)
 IsMade start base now member again (Directory, owner) known tree = IsMadeDirectory start base member owner again known tree
@@ -85,20 +104,28 @@ directory_kept start base member owner given again later known next old new foll
       ];
     }
 
+-- a node that is no directory is unchanged by later calls
+facts_kept : (start : Tree) (base : List ℕ) (given : List ℕ → Bool) (known next : List (List ℕ)) (old new : Tree) (path : List ℕ) (facts : Facts)
+    → Follows start base given known next old new → is_some (map_of facts.0) ≡ false → HasFacts old path facts → HasFacts new path facts
+facts_kept start base given known next old new path facts follows plain is =
+    let led = is.1 in
+    let stays = (follows.grows.kept led.number).1 is.0 led.stands in
+    let content : is.0.content ≡ facts.0 = ap (λ (f : Facts). f.0) is.2 in (
+      stays.0,
+      record { number = led.number; walked = grown_path old new path led.number follows.grows led.walked; stands = stays.1 },
+      stays.3 (ap (λ (c : Content). is_some (map_of c)) content ∙ plain) ∙ is.2,
+      is.3,
+    )
+
 -- a member that was made is unchanged by later calls
 made_kept : (start : Tree) (base : List ℕ) (now : ℕ) (member : Member) (made : MadeAs × Cred) (given : List ℕ → Bool) (again later : Bool)
     (known next : List (List ℕ)) (old new : Tree) → Follows start base given known next old new
     → (later ≡ false → (again ≡ false) × (given (joined (steps_of member.path)) ≡ false))
     → IsMade start base now member again made known old → IsMade start base now member later made next new
 made_kept start base now member (File, owner) given again later known next old new follows parts is =
-    let led = is.1 in
-    let stays = (follows.grows.kept led.number).1 is.0 led.stands in
-    let content : is.0.content ≡ Body member.content = ap (λ (f : Content × ℕ × ℕ × ℕ × ℕ × ℕ). f.0) is.2 in (
-      stays.0,
-      record { number = led.number; walked = grown_path old new (below base member.path) led.number follows.grows led.walked; stands = stays.1 },
-      stays.3 (ap (λ (c : Content). is_some (map_of c)) content) ∙ is.2,
-      is.3,
-    )
+    facts_kept start base given known next old new (below base member.path) (facts_of now member owner) follows refl is
+made_kept start base now member (Device kind, owner) given again later known next old new follows parts is =
+    facts_kept start base given known next old new (below base member.path) (device_facts start.geometry.edition now member kind owner) follows refl is
 made_kept start base now member (Link, owner) given again later known next old new follows parts is =
     (grown_both old new (below base member.link) (below base member.path) follows.grows is.0, is.1)
 made_kept start base now member (Directory, owner) given again later known next old new follows parts is =
@@ -113,7 +140,7 @@ opens tree path led =
     by : (content : Content) → is_some (map_of content) ≡ true → (names : Names) × (named (map_of content) ≡ Ok names)
     by (DirectoryOf names) e = (names, refl)
     by (Body bytes) e = absurd (cc)
-    by (Device type addresses) e = absurd (cc)
+    by (DeviceOf type addresses) e = absurd (cc)
 
 -- if the steps of a path lead to a directory, so does the path
 abbrev pub dotted : (tree : Tree) (base path : List ℕ) → DotsLead tree → LeadsToDirectory tree (base ++ joined (steps_of path)) → LeadsToDirectory tree (below base path)
@@ -137,6 +164,7 @@ undotted tree base path dots led =
 pub record IsChecked (member : Member) (made : MadeAs × Cred) : Type 0 where
   pub kind : made_as member.header.flag member.path ≡ Ok made.0
   pub short : list_any is_long (names_of member.path) ≡ false
+  pub device : check_device made.0 member.header ≡ Ok tt
   pub uid : made.1.uid ≡ member.header.uid
   pub gid : made.1.gid ≡ member.header.gid
 
@@ -152,13 +180,15 @@ checked edition member made is =
     let one = then_ok (made_as member.header.flag member.path) _ made is in
     let two = then_ok (check_path member.path) _ made one.2 in
     let three = then_ok (check_link one.0 member.link) _ made two.2 in
-    let four = then_ok (owner_of edition member.header) _ made three.2 in
-    let all : MadeAs × Cred = (one.0, four.0) in
+    let four = then_ok (check_device one.0 member.header) _ made three.2 in
+    let five = then_ok (owner_of edition member.header) _ made four.2 in
+    let all : MadeAs × Cred = (one.0, five.0) in
     let same : all ≡ made = cc in
-    let owner : (four.0.uid ≡ member.header.uid) × (four.0.gid ≡ member.header.gid) = owned (is_bad_id edition member.header.uid member.header.gid) four.0 four.1 in
+    let owner : (five.0.uid ≡ member.header.uid) × (five.0.gid ≡ member.header.gid) = owned (is_bad_id edition member.header.uid member.header.gid) five.0 five.1 in
     record {
       kind = one.1 ∙ ap (λ (m : MadeAs × Cred). Ok m.0) same;
       short = not_long (is_long_path member.path) (list_any is_long (names_of member.path)) (list_any is_dot_dot (names_of member.path)) two.0 two.1;
+      device = ap (λ (m : MadeAs × Cred). check_device m.0 member.header) (sym same) ∙ four.1;
       uid = ap (λ (m : MadeAs × Cred). m.1.uid) (sym same) ∙ owner.0;
       gid = ap (λ (m : MadeAs × Cred). m.1.gid) (sym same) ∙ owner.1;
     }
@@ -176,6 +206,21 @@ checked edition member made is =
     not_long true long dots none e = absurd (cc)
     not_long false true dots none e = absurd (cc)
     not_long false false dots none e = refl
+
+-- the numbers of a checked member's device are those of its header
+pub numbers_kept : (member : Member) (kind : DeviceKind) → check_device (Device kind) member.header ≡ Ok tt
+    → (member.header.major % 256 ≡ member.header.major) × (member.header.minor % 256 ≡ member.header.minor)
+numbers_kept member kind = by (nat_lt 255 member.header.major) (nat_lt 255 member.header.minor) tt refl refl
+  where
+    small : (n : ℕ) → nat_lt 255 n ≡ false → n % 256 ≡ n
+    small n e = grind (arith, nat_tests, e)
+
+    by : (major minor : Bool) (none : Unit {0}) → nat_lt 255 member.header.major ≡ major → nat_lt 255 member.header.minor ≡ minor
+        → cond (major || minor) (Err faults.Device) (Ok tt) ≡ Ok none
+        → (member.header.major % 256 ≡ member.header.major) × (member.header.minor % 256 ≡ member.header.minor)
+    by true minor none a b e = absurd (cc)
+    by false true none a b e = absurd (cc)
+    by false false none a b e = (small member.header.major a, small member.header.minor b)
 
 -- a member that makes a directory is for the path of its own steps
 pub for_itself : (member : Member) → made_as member.header.flag member.path ≡ Ok Directory → is_for (joined (steps_of member.path)) member ≡ true
@@ -283,6 +328,27 @@ directory_member start base now member owner drafted checks =
               );
         }
 
+-- calls that make a node that is no directory make its member
+node_member : (start : Tree) (base : List ℕ) (given : List ℕ → Bool) (drafted : Drafted) (path : List ℕ) (facts : Facts) (more : List Call)
+    → ((from to : State) → from.tree.geometry.edition ≡ start.geometry.edition → IsRun from more to
+    → GainsNode from.tree to.tree path facts × (list_any has_zero (path ∷ []) ≡ false))
+    → Adds start base given drafted (drafted.0, drafted.1 ++ more) (λ known tree. HasFacts tree path facts)
+node_member start base given drafted path facts more makes = record {
+  more = more;
+  calls = refl;
+  leaves = λ from to stands run.
+      let made = makes from to stands.grown.edition run in
+      let gains = made.0.gains in (
+        record {
+          knows = λ path is. is;
+          grows = gains.grows;
+          stands = stands_grown start base drafted.0 from.tree to.tree stands gains.grows (run_dots from to more stands.dots run);
+          spares = λ x. inl (gains.owners x);
+        },
+        (made.0.node, gains.leads, made.0.facts_told, made.1),
+      );
+}
+
 -- the calls of a checked member make it
 made_member : (start : Tree) (base : List ℕ) (now : ℕ) (member : Member) (made : MadeAs) (owner : Cred) (drafted : Drafted) → IsChecked member (made, owner)
     → Adds start base (λ path. is_for path member) drafted (with_made made start base now member owner drafted)
@@ -290,22 +356,19 @@ made_member : (start : Tree) (base : List ℕ) (now : ℕ) (member : Member) (ma
 made_member start base now member File owner drafted checks =
     let moment = moment_of member.header now in
     let path = below base member.path in
-    let more = file_calls moment path (permissions_of member.header) owner member.content in
-    record {
-      more = more;
-      calls = refl;
-      leaves = λ from to stands run.
-          let made = file_made from to moment (permissions_of member.header) path member.content owner run in
-          let gains = made.0.gains in (
-            record {
-              knows = λ path is. is;
-              grows = gains.grows;
-              stands = stands_grown start base drafted.0 from.tree to.tree stands gains.grows (run_dots from to more stands.dots run);
-              spares = λ x. inl (gains.owners x);
-            },
-            (made.0.node, gains.leads, made.0.facts_told, made.1),
-          );
-    }
+    let perm = permissions_of member.header in
+    node_member start base (λ path. is_for path member) drafted path (facts_of now member owner) (file_calls moment path perm owner member.content)
+    (λ from to same run. file_made from to moment perm path member.content owner run)
+made_member start base now member (Device kind) owner drafted checks =
+    let moment = moment_of member.header now in
+    let path = below base member.path in
+    let perm = permissions_of member.header in
+    let device = device_of kind member.header in
+    node_member start base (λ path. is_for path member) drafted path (device_facts start.geometry.edition now member kind owner)
+    (special_calls moment path perm owner device)
+    (λ from to same run.
+    subst (λ (edition : Edition). GainsNode from.tree to.tree path (device_facts edition now member kind owner) × (list_any has_zero (path ∷ []) ≡ false)) same
+    (special_made from to moment perm path owner device run))
 made_member start base now member Directory owner drafted checks = directory_member start base now member owner drafted checks
 made_member start base now member Link owner drafted checks =
     let moment = moment_of member.header now in

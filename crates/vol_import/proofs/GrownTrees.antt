@@ -7,7 +7,7 @@ use Rattle.vol_file.specs.Changes.{spliced}
 use Rattle.vol_dir.specs.Access.{user}
 use Rattle.vol_dir.specs.Names.{get}
 use Rattle.vol_dir.specs.Tree.{Body, Node, Tree, State}
-use Rattle.vol_dir.specs.Walk.{root, has_zero, is_directory, walk, walk_parent}
+use Rattle.vol_dir.specs.Walk.{has_zero, is_directory, walk, walk_parent}
 use Rattle.vol_dir.specs.declared.refusal.Refusal.{Refusal}
 use Rattle.vol_dir.specs.declared.refusal.Refusal.TheVariants as refusals
 use Rattle.vol_change.specs.Edits.{at_time, change_node, set_at, add_link, body_of, modified, with_owner, with_permission_bits, with_times, after_write}
@@ -20,13 +20,13 @@ use Rattle.vol_volume.specs.Verdict.{verdict, link_refusal, link_tests, of_node}
 use Rattle.vol_volume.specs.declared.calls.Call.TheVariants.{Chmod, Chown, Link, Times, Write}
 use Rattle.vol_volume.specs.declared.calls.Done.{Done}
 use Rattle.vol_volume.proofs.Accepted.{link_passed}
-use Rattle.vol_batch.proofs.MadeNames.{LeadsTo, HasNamesOf, Keeps, HasNoOthers, EntersAt, enters_between, keeps_none, keeps_then, linked_others, nodes_set, others_same, set_keeps, KeepsOwner, KeepsOwners, owner_none, owner_same, owner_then, owner_told, owners_set, EntersName, Grows, Gains, linked, linked_keeps, linked_owner, searched_names, name_entered, grown_path, path_kept, path_made}
+use Rattle.vol_batch.proofs.MadeNames.{LeadsTo, HasNamesOf, Keeps, HasNoOthers, EntersAt, enters_between, keeps_none, keeps_then, linked_others, nodes_set, others_same, set_keeps, KeepsOwner, KeepsOwners, owner_none, owner_same, owner_then, owner_told, owners_set, EntersName, Grows, Gains, linked, linked_keeps, linked_owner, searched_names, name_entered, grown_path, path_kept, path_made, same_root}
 use Rattle.vol_batch.proofs.MadePaths.{node_found, not_first}
 use Rattle.vol_volume.proofs.TreeWalks.{passes_paths, parent_found, reaches, searched}
 
 -- node `i` of a tree is changed
 pub record ChangesAt (old new : Tree) (i : ℕ) (change : Node → Node) : Type 0 where
-  pub rooted : root new ≡ root old
+  pub edition : new.geometry.edition ≡ old.geometry.edition
   pub nodes : new.nodes ≡ set_at old.nodes i (option_map change (old.nodes i))
 
 -- a file with these bytes instead of its own
@@ -40,14 +40,14 @@ pub write_changes : (state : State) (now : ℕ) (path bytes : List ℕ) (byte : 
 unfolding changed_by
 write_changes state now path bytes byte done i walked =
     subst (λ (r : Result ℕ Refusal). ChangesAt state.tree (at_time now (on_node state r (after_write state now 0 (byte ∷ bytes)))).tree i (filled now (byte ∷ bytes)))
-    (sym walked) (record { rooted = refl; nodes = refl })
+    (sym walked) (record { edition = refl; nodes = refl })
 
 -- changing the node at the end of a walk changes this node
 walk_changes : (state : State) (now : ℕ) (walked : Result ℕ Refusal) (change : Node → Node) (i : ℕ) → walked ≡ Ok i
     → ChangesAt state.tree (at_time now (on_node state walked (λ j. change_node j change state))).tree i change
 walk_changes state now walked change i is =
     subst (λ (r : Result ℕ Refusal). ChangesAt state.tree (at_time now (on_node state r (λ j. change_node j change state))).tree i change)
-    (sym is) (record { rooted = refl; nodes = refl })
+    (sym is) (record { edition = refl; nodes = refl })
 
 pub chown_changes : (state : State) (now : ℕ) (path : List ℕ) (uid gid : ℕ) (done : Done) (i : ℕ) → walk state.tree user path ≡ Ok i
     → ChangesAt state.tree (step state (Chown user now path uid gid) done).tree i (with_owner now uid gid)
@@ -85,7 +85,7 @@ leads_changed old new path node change leads changes names =
     let same : after ≡ Some (change node) = ap (option_map change) leads.stands in
     record {
       number = i;
-      walked = path_kept old new path i changes.rooted
+      walked = path_kept old new path i (same_root old new changes.edition)
           (λ x. subst (λ (ns : ℕ → Option Node). HasNamesOf (old.nodes x) (ns x)) (sym changes.nodes)
           (elim (cases_eq x i) [
             | inl here ↦
@@ -107,7 +107,7 @@ gains_changed old mid new path node change gains changes names =
       leads = leads_changed mid new path node change gains.leads changes names;
       free = gains.free;
       grows = record {
-        rooted = changes.rooted ∙ gains.grows.rooted;
+        edition = changes.edition ∙ gains.grows.edition;
         kept = λ x. subst (λ (ns : ℕ → Option Node). Keeps (old.nodes x) (ns x)) (sym changes.nodes)
             (elim (cases_eq x i) [
               | inl here ↦ keeps_none (old.nodes x) (set_at mid.nodes i after x) (ap old.nodes here ∙ gains.free)
@@ -142,7 +142,7 @@ directory_changed old new path change led changes names kind =
           (change led.0, refl, kind ∙ ap is_directory same, λ plain. absurd (true≢false (sym led.2 ∙ (ap is_directory same ∙ plain)))),
     ) in
     record {
-      rooted = changes.rooted;
+      edition = changes.edition;
       kept = λ x. subst (λ (ns : ℕ → Option Node). Keeps (old.nodes x) (ns x)) (sym changes.nodes)
           (nodes_set old.nodes i (option_map change (old.nodes i)) (subst (λ n. Keeps n (option_map change n)) (sym led.1.stands) keeps) x);
     }
@@ -213,10 +213,10 @@ link_grows state now source target done accepted =
       others = enters_between old.nodes mid new.nodes new.nodes d name i
           (set_keeps HasNoOthers others_same old.nodes i (linked now (old.nodes i)) (linked_others now (old.nodes i))) enters (λ x. others_same (new.nodes x));
     } in
-    let grows : Grows old new = record { rooted = refl; kept = whole.kept } in
+    let grows : Grows old new = record { edition = refl; kept = whole.kept } in
     let both : LeadBoth new source target =
     (i, grown_path old new source i grows led.1, path_made old new target d i name refl reached whole) in
-    let at : EntersAt old new target = record { directory = d; name = name; number = i; rooted = refl; reached = reached; enters = whole } in
+    let at : EntersAt old new target = record { directory = d; name = name; number = i; edition = refl; reached = reached; enters = whole } in
     let Left : Tree → Type 0 = λ tree. Grows old tree × LeadBoth tree source target × KeepsOwners old tree × EntersAt old tree target in
     let made : Left (at_time now (on_parent state (walk_parent old user target) (after_link state now i))).tree =
     subst (λ (p : Option (Result (ℕ × List ℕ) Refusal)). Left (at_time now (on_parent state p (after_link state now i))).tree) (sym parent.2)

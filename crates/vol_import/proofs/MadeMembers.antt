@@ -1,22 +1,25 @@
 -- The calls of a plan make the members of the archive.
-use Rattle.std.proofs.Common.{◌≡◌, ◌∙◌, sym, ap, subst, refl, ℕ, ◌%◌, ◌||◌, Bool, true, false, cond, List, [], ◌∷◌, ◌++◌, Option, None, Some, Ok, Err, arith, ap₂, inl, inr}
-use Rattle.std.specs.Prelude.{Result, reverse}
+use Rattle.std.proofs.Common.{◌≡◌, ◌∙◌, sym, ap, subst, refl, ℕ, ◌+◌, ◌*◌, ◌%◌, ◌||◌, Bool, true, false, cond, List, [], ◌∷◌, ◌++◌, Option, None, Some, Ok, Err, arith, ap₂, inl, inr}
+use Rattle.std.specs.Prelude.{Result, replicate, reverse}
 use Rattle.std.specs.List.{find, flat_map, list_any}
-use Rattle.std.specs.Option.{option_map, option_or}
+use Rattle.std.specs.Option.{option_map, option_or, unwrap_or}
 use Rattle.std.proofs.lemmas.Bool.{or_parts}
 use Rattle.std.proofs.lemmas.List.{append-nil, reverse-append}
 use Rattle.std.proofs.lemmas.List.Folds.{list_any-append, find-append}
 use Rattle.vol_layout.specs.Geometry.{geometry_of}
+use Rattle.vol_layout.specs.Inode.{device_type}
 use Rattle.vol_layout.specs.declared.edition.Edition.{Edition}
 use Rattle.vol_layout.specs.declared.mode.Kind.{Kind}
 use Rattle.vol_layout.specs.declared.mode.Kind.TheVariants as kinds
 use Rattle.vol_dir.specs.Access.{user}
-use Rattle.vol_dir.specs.Tree.{Content, Node, Tree, State}
+use Rattle.vol_dir.specs.Tree.{Content, Device as DeviceOf, Node, Tree, State}
 use Rattle.vol_dir.specs.Walk.{has_zero, is_nil, walk}
 use Rattle.vol_dir.specs.declared.cred.Cred.{Cred}
 use Rattle.vol_dir.specs.declared.refusal.Refusal.{Refusal}
-use Rattle.vol_change.specs.Nodes.{node_at}
-use Rattle.vol_volume.specs.Answer.{answer, stat_of}
+use Rattle.vol_change.specs.Edits.{new_content}
+use Rattle.vol_change.specs.Nodes.{no_node, node_at}
+use Rattle.vol_change.specs.declared.new_nodes.NewFile.TheVariants.{Special}
+use Rattle.vol_volume.specs.Answer.{answer, kind_of_content, stat_of}
 use Rattle.vol_volume.specs.Step.{step}
 use Rattle.vol_volume.specs.Volume.{Mounted, mounted, reads_as}
 use Rattle.vol_volume.specs.declared.calls.Call.{Call}
@@ -32,9 +35,9 @@ use Rattle.vol_import.specs.Options.{calls_with, chosen_members}
 use Rattle.vol_import.specs.declared.import_options.ImportOptions.{ImportOptions}
 use Rattle.vol_import.specs.Members.{members}
 use Rattle.vol_batch.specs.Paths.{below}
-use Rattle.vol_import.specs.Plan.{and_next, base_permissions, check, closed, closing_calls, is_base, is_directory as says_directory, is_directory_at, is_directory_kind, is_there, joined, made_as, moment_of, permissions_given, permissions_of, permissions_told, plan, plan_onto, steps_of, times}
+use Rattle.vol_import.specs.Plan.{and_next, base_permissions, check, closed, closing_calls, device_of, is_base, is_directory as says_directory, is_directory_at, is_directory_kind, is_there, joined, made_as, moment_of, permissions_given, permissions_of, permissions_told, plan, plan_onto, steps_of, times}
 use Rattle.vol_import.specs.declared.member_check.MadeAs.{MadeAs}
-use Rattle.vol_import.specs.declared.member_check.MadeAs.TheVariants.{File, Directory, Link}
+use Rattle.vol_import.specs.declared.member_check.MadeAs.TheVariants.{File, Directory, Link, Device}
 use Rattle.vol_import.specs.declared.member_check.MemberFault.{MemberFault}
 use Rattle.vol_import.specs.declared.faults.ArchiveFault.{ArchiveFault}
 use Rattle.vol_import.specs.declared.import_plan.PlanFault.{PlanFault}
@@ -50,7 +53,7 @@ use Rattle.vol_import.proofs.MemberCalls.{IsRun, run_parts, chmod_gives}
 use Rattle.std.specs.Str.{bytes_eq}
 use Rattle.vol_import.proofs.DraftRuns.{Follows, Stands, follows_kept, follows_same, follows_then, none_given, one_number, there_leads}
 use Rattle.vol_volume.specs.declared.queries.Stat.{Stat}
-use Rattle.vol_import.proofs.DraftedMembers.{AreMadeAs, IsMade, IsMadeAs, IsChecked, plan_added}
+use Rattle.vol_import.proofs.DraftedMembers.{AreMadeAs, IsMade, IsMadeAs, IsChecked, numbers_kept, plan_added}
 use Rattle.vol_import.proofs.DirectoryTimes.{HasTime, HaveTimes, are_kept, none_below, time_at, times_given}
 use Rattle.vol_import.proofs.KeptNodes.{AreSmall, directory_kind, nodes_left, small_bits}
 
@@ -92,6 +95,7 @@ base_steps member is = by (made_as member.header.flag member.path) refl is
     by (Ok Directory) m e = (m, none (steps_of member.path) e)
     by (Ok File) m e = absurd (cc)
     by (Ok Link) m e = absurd (cc)
+    by (Ok (Device kind)) m e = absurd (cc)
     by (Err fault) m e = absurd (cc)
 
 -- only a member for the directory of the import is the directory with an empty path of steps
@@ -106,6 +110,7 @@ base_for member = by (made_as member.header.flag member.path)
     by (Ok Directory) = empty (steps_of member.path)
     by (Ok File) = refl
     by (Ok Link) = refl
+    by (Ok (Device kind)) = refl
     by (Err fault) = refl
 
 -- if no member is for the directory of the import, no member is the directory with an empty path of steps
@@ -143,6 +148,7 @@ last_given start base now (member ∷ rest) known tree perm are is none =
     at (Err fault) made kind empty last = absurd made
     at (Ok (File, owner)) made kind empty last = let both : Ok File ≡ Ok Directory = sym made.0.kind ∙ kind in absurd (cc)
     at (Ok (Link, owner)) made kind empty last = let both : Ok Link ≡ Ok Directory = sym made.0.kind ∙ kind in absurd (cc)
+    at (Ok (Device device, owner)) made kind empty last = let both : Ok (Device device) ≡ Ok Directory = sym made.0.kind ∙ kind in absurd (cc)
     at (Ok (Directory, owner)) made kind empty last =
         let is = made.1 in
         let path : base ++ joined (steps_of member.path) ≡ base = ap (λ steps. base ++ joined steps) empty ∙ append-nil base in (
@@ -319,6 +325,26 @@ member_had start tree base now member later known (File, owner) dots checks is t
     let low : permissions_of member.header % 4096 ≡ permissions_of member.header = omega arith in
     record {
       file = holds_file tree path member.content is.3 held;
+      given = record {
+        permissions = ap (λ (f : Content × ℕ × ℕ × ℕ × ℕ × ℕ). f.1) is.2 ∙ low;
+        uid = ap (λ (f : Content × ℕ × ℕ × ℕ × ℕ × ℕ). f.2) is.2 ∙ checks.uid;
+        gid = ap (λ (f : Content × ℕ × ℕ × ℕ × ℕ × ℕ). f.3) is.2 ∙ checks.gid;
+        modified = ap (λ (f : Content × ℕ × ℕ × ℕ × ℕ × ℕ). f.5) is.2;
+      };
+    }
+member_had start tree base now member later known (Device kind, owner) dots checks is timed =
+    let path = below base member.path in
+    let low : permissions_of member.header % 4096 ≡ permissions_of member.header = omega arith in
+    let content : is.0.content ≡ new_content start.geometry.edition (Special (device_of kind member.header)) =
+    ap (λ (f : Content × ℕ × ℕ × ℕ × ℕ × ℕ). f.0) is.2 in
+    let numbers = numbers_kept member kind checks.device in
+    record {
+      stat = stat_of is.1.number is.0;
+      found = stat_answered tree path is.0 is.3 is.1;
+      special = ap kind_of_content content;
+      device = ap (λ (n : Option Node). (unwrap_or n no_node).content) is.1.stands
+          ∙ (content
+          ∙ ap₂ (λ (major minor : ℕ). DeviceOf (device_type start.geometry.edition kind) ((256 * major + minor) ∷ replicate 12 0)) numbers.0 numbers.1);
       given = record {
         permissions = ap (λ (f : Content × ℕ × ℕ × ℕ × ℕ × ℕ). f.1) is.2 ∙ low;
         uid = ap (λ (f : Content × ℕ × ℕ × ℕ × ℕ × ℕ). f.2) is.2 ∙ checks.uid;

@@ -4,23 +4,25 @@ use Rattle.std.specs.List.{list_any}
 use Rattle.std.specs.Option.{is_some}
 use Rattle.std.proofs.lemmas.Bool.{and_parts, eqb-true}
 use Rattle.vol_file.specs.Changes.{spliced}
+use Rattle.vol_layout.specs.declared.mode.DeviceId.{DeviceId}
 use Rattle.vol_dir.specs.Access.{user}
 use Rattle.vol_dir.specs.Names.{Names}
 use Rattle.vol_dir.specs.Tree.{Content, Body, Directory, Node, Tree, State}
 use Rattle.vol_dir.specs.Walk.{map_of, has_zero, is_directory}
 use Rattle.vol_dir.specs.declared.cred.Cred.{Cred}
-use Rattle.vol_change.specs.Edits.{body_of, with_owner, with_permission_bits}
+use Rattle.vol_change.specs.Edits.{body_of, new_content, with_owner, with_permission_bits}
+use Rattle.vol_change.specs.declared.new_nodes.NewFile.TheVariants.{Special}
 use Rattle.vol_volume.specs.Journal.{MayFollow}
 use Rattle.vol_volume.specs.Step.{step}
 use Rattle.vol_volume.specs.Verdict.{verdict}
 use Rattle.vol_volume.specs.declared.calls.Call.{Call}
 use Rattle.vol_volume.specs.declared.calls.Call.TheVariants as calls
 use Rattle.vol_volume.specs.declared.calls.Done.{Done}
-use Rattle.vol_import.specs.Plan.{file_calls, write_calls, owner_calls, directory_calls, given_calls}
+use Rattle.vol_import.specs.Plan.{file_calls, write_calls, owner_calls, special_calls, directory_calls, given_calls}
 use Rattle.vol_import.proofs.DotWalks.{DotsLead}
 use Rattle.vol_import.proofs.GrownTrees.{Gives, LeadsToDirectory, filled, write_changes, chown_changes, chmod_changes, gains_changed, directory_given}
 use Rattle.vol_batch.proofs.MadeNames.{Gains, Stays, grown_path, grows_then, no_names, owner_then, told}
-use Rattle.vol_batch.proofs.MadePaths.{create_gains, mkdir_gains, spliced_all}
+use Rattle.vol_batch.proofs.MadePaths.{create_gains, mkdir_gains, mknod_gains, spliced_all}
 use Rattle.vol_volume.proofs.TreeWalks.{passes_first}
 
 -- a state leads to another by accepted calls, and in each state on the way `.` leads to its own directory
@@ -101,6 +103,19 @@ file_made old new now perm path content owner run =
           (written old.tree now path content (perm % 4096) made parts.0 empty parts.1) parts.2,
       (passes_first old.tree path _ run.1.accepted).no_zero,
     )
+
+-- the calls for a special file make it
+pub special_made : (old new : State) (now perm : ℕ) (path : List ℕ) (owner : Cred) (device : DeviceId)
+    → IsRun old (special_calls now path perm owner device) new
+    → GainsNode old.tree new.tree path (new_content old.tree.geometry.edition (Special device), perm % 4096, owner.uid, owner.gid, 0, now)
+    × (list_any has_zero (path ∷ []) ≡ false)
+unfolding verdict
+special_made old new now perm path owner device run = (
+  owned old.tree now path owner (new_content old.tree.geometry.edition (Special device)) (perm % 4096) 0
+      (step old (calls.Mknod user now path perm device) run.0) new
+      (record { node = _; gains = mknod_gains old now perm device path run.0 run.1.accepted run.1.answered; facts_told = refl }) run.3,
+  (passes_first old.tree path _ run.1.accepted).no_zero,
+)
 
 -- the calls for a directory make it
 pub directory_made : (old new : State) (now perm : ℕ) (path : List ℕ) (owner : Cred) → IsRun old (directory_calls now path perm owner) new

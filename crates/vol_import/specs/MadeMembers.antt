@@ -1,11 +1,14 @@
 -- The members of an archive after an import.
-use Rattle.std.specs.Prelude.{◌≡◌, ◌≢◌, ◌⊎◌, ℕ, Bool, false, List, [], ◌∷◌, ◌++◌, Any, Result, Ok, Err}
+use Rattle.std.specs.Prelude.{◌≡◌, ◌≢◌, ◌⊎◌, ℕ, ◌+◌, ◌*◌, replicate, Bool, false, List, [], ◌∷◌, ◌++◌, Any, Result, Ok, Err}
 use Rattle.std.specs.List.{flat_map, list_any}
 use Rattle.std.specs.Str.{bytes_eq}
 use Rattle.vol_dir.specs.Access.{user}
 use Rattle.vol_dir.specs.Names.{is_dots}
-use Rattle.vol_dir.specs.Tree.{Tree}
+use Rattle.vol_dir.specs.Tree.{Device as DeviceOf, Tree}
 use Rattle.vol_dir.specs.Walk.{components, find_in, root, walk_from}
+use Rattle.vol_change.specs.Nodes.{node_at}
+use Rattle.vol_layout.specs.Inode.{device_type}
+use Rattle.vol_layout.specs.declared.mode.DeviceKind.{DeviceKind}
 use Rattle.vol_layout.specs.declared.mode.Kind.TheVariants as kinds
 use Rattle.vol_volume.specs.Answer.{answer}
 use Rattle.vol_volume.specs.declared.queries.Query.TheVariants as queries
@@ -14,7 +17,7 @@ use Rattle.vol_volume.specs.declared.queries.Stat.{Stat}
 use Rattle.vol_batch.specs.Paths.{HasDirectory, HasFile, below}
 use Rattle.vol_import.specs.Plan.{is_directory, joined, made_as, moment_of, permissions_of, steps_of, way_of}
 use Rattle.vol_import.specs.declared.member_check.MadeAs.{MadeAs}
-use Rattle.vol_import.specs.declared.member_check.MadeAs.TheVariants.{File, Directory, Link}
+use Rattle.vol_import.specs.declared.member_check.MadeAs.TheVariants.{File, Directory, Link, Device}
 use Rattle.vol_import.specs.declared.member_check.MemberFault.{MemberFault}
 use Rattle.vol_import.specs.declared.faults.ArchiveFault.{ArchiveFault}
 use Rattle.vol_import.specs.declared.archive_members.Member.{Member}
@@ -32,6 +35,15 @@ pub record HasMemberFile (tree : Tree) (path : List ℕ) (now : ℕ) (member : M
   pub file : HasFile tree path member.content
   pub given : IsGiven file.stat now member
 
+-- a path leads to a special file for a device of this kind and number, with the permissions, owner and group of its member, and the time of the
+-- member's last change; the old tree is of the same volume (POSIX, ustar interchange format; mknod, section 2 of the manual)
+pub record HasMemberDevice (old tree : Tree) (path : List ℕ) (now : ℕ) (kind : DeviceKind) (number : ℕ) (member : Member) : Type 0 where
+  pub stat : Stat
+  pub found : answer tree (queries.Stat user path) ≡ Ok (replies.Stat stat)
+  pub special : stat.kind ≡ kinds.Special
+  pub device : (node_at tree stat.number).content ≡ DeviceOf (device_type old.geometry.edition kind) (number ∷ replicate 12 0)
+  pub given : IsGiven stat now member
+
 -- two paths lead to one file: a Stat of each returns the same, with the same i-number (link)
 pub record HasLink (tree : Tree) (source target : List ℕ) : Type 0 where
   pub stat : Stat
@@ -48,6 +60,7 @@ abbrev pub is_made_at : Result MadeAs MemberFault → List ℕ → List ℕ → 
 is_made_at (Ok Directory) path steps = bytes_eq (joined (steps_of path)) steps
 is_made_at (Ok File) path steps = false
 is_made_at (Ok Link) path steps = false
+is_made_at (Ok (Device kind)) path steps = false
 is_made_at (Err fault) path steps = false
 
 -- true if a member is the directory with these steps (this project)
@@ -65,6 +78,8 @@ HasMember old tree base now member later (Ok File) = HasMemberFile tree (below b
 HasMember old tree base now member later (Ok Link) = HasLink tree (below base member.link) (below base member.path)
 HasMember old tree base now member later (Ok Directory) =
     HasMemberDirectory old tree (below base member.path) now member (is_among later (joined (steps_of member.path)))
+HasMember old tree base now member later (Ok (Device kind)) =
+    HasMemberDevice old tree (below base member.path) now kind (256 * member.header.major + member.header.minor) member
 HasMember old tree base now member later (Err fault) = ⊥
 
 -- a tree has each of these members (POSIX, ustar interchange format)

@@ -1,5 +1,5 @@
 -- The calls that make the members of an archive.
-use Rattle.std.specs.Prelude.{◌≡◌, ◌≢◌, ℕ, ◌-◌, ◌%◌, ◌==◌, ◌&&◌, Bool, true, false, not, nat_lt, if◌then◌else◌, List, [], ◌∷◌, ◌++◌, length, take, filter, reverse, slice_index, codes, Option, None, Some, Result, Ok, Err}
+use Rattle.std.specs.Prelude.{◌≡◌, ◌≢◌, ℕ, ◌-◌, ◌%◌, ◌==◌, ◌&&◌, ◌||◌, Bool, true, false, not, nat_lt, if◌then◌else◌, List, [], ◌∷◌, ◌++◌, length, take, filter, reverse, slice_index, codes, Option, None, Some, Result, Ok, Err}
 use Rattle.std.specs.BTreeMap.{is_at}
 use Rattle.std.specs.BTreeSet.{insert_key}
 use Rattle.std.specs.Cmp.Lexicographic.{slice_cmp}
@@ -17,6 +17,9 @@ use Rattle.vol_dir.specs.Walk.{components, is_nil}
 use Rattle.vol_dir.specs.declared.cred.Cred.{Cred}
 use Rattle.vol_dir.specs.declared.refusal.Refusal.{Refusal}
 use Rattle.vol_layout.specs.declared.edition.Edition.{Edition}
+use Rattle.vol_layout.specs.declared.mode.DeviceId.{DeviceId}
+use Rattle.vol_layout.specs.declared.mode.DeviceKind.{DeviceKind}
+use Rattle.vol_layout.specs.declared.mode.DeviceKind.TheVariants as devices
 use Rattle.vol_layout.specs.declared.mode.Kind.{Kind}
 use Rattle.vol_layout.specs.declared.mode.Kind.TheVariants as kinds
 use Rattle.vol_dir.specs.Access.{user}
@@ -29,7 +32,7 @@ use Rattle.vol_volume.specs.declared.queries.Reply.{Reply}
 use Rattle.vol_volume.specs.declared.queries.Reply.TheVariants as replies
 use Rattle.vol_batch.specs.Paths.{below}
 use Rattle.vol_import.specs.declared.member_check.MadeAs.{MadeAs}
-use Rattle.vol_import.specs.declared.member_check.MadeAs.TheVariants.{File, Directory, Link}
+use Rattle.vol_import.specs.declared.member_check.MadeAs.TheVariants.{File, Directory, Link, Device}
 use Rattle.vol_import.specs.declared.member_check.MemberFault.{MemberFault}
 use Rattle.vol_import.specs.declared.member_check.MemberFault.TheVariants as faults
 use Rattle.vol_import.specs.declared.draft.Draft.{Draft}
@@ -65,14 +68,14 @@ check_path path =
 abbrev pub ends_in_slash : List ℕ → Bool
 ends_in_slash path = nat_lt 0 (length path) && (slice_index path (length path - 1) == 47)
 
--- the kind of node that a member becomes; a regular file whose path ends in a slash is a directory, as in archives before POSIX; no call makes a
--- special file, and the editions have no symbolic links (POSIX, ustar interchange format)
+-- the kind of node that a member becomes; a regular file whose path ends in a slash is a directory, as in archives before POSIX; the editions have
+-- neither FIFOs nor symbolic links (POSIX, ustar interchange format)
 abbrev pub made_as : TypeFlag → List ℕ → Result MadeAs MemberFault
 made_as (flags.Member members.File) path = Ok (if ends_in_slash path then Directory else File)
 made_as (flags.Member members.Directory) path = Ok Directory
 made_as (flags.Member members.Link) path = Ok Link
-made_as (flags.Member members.Character) path = Err faults.Kind
-made_as (flags.Member members.Block) path = Err faults.Kind
+made_as (flags.Member members.Character) path = Ok (Device devices.Character)
+made_as (flags.Member members.Block) path = Ok (Device devices.Block)
 made_as flags.SymbolicLink path = Err faults.Kind
 made_as flags.Fifo path = Err faults.Kind
 made_as flags.LongName path = Err faults.Kind
@@ -92,20 +95,29 @@ check_link Link link =
     else Ok tt
 check_link File link = Ok tt
 check_link Directory link = Ok tt
+check_link (Device kind) link = Ok tt
+
+-- checks the numbers of a special file's device: an i-node has a byte for each (mknod, section 2 of the manual)
+abbrev pub check_device : MadeAs → ReadHeader → Result (Unit {0}) MemberFault
+check_device (Device kind) header = if nat_lt 255 header.major || nat_lt 255 header.minor then Err faults.Device else Ok tt
+check_device File header = Ok tt
+check_device Directory header = Ok tt
+check_device Link header = Ok tt
 
 -- the owner and the group of a member, if both are within the edition's limits (manual section 5, file system)
 abbrev pub owner_of : Edition → ReadHeader → Result Cred MemberFault
 owner_of edition header =
     if is_bad_id edition header.uid header.gid then Err faults.Owner else Ok (record { uid = header.uid; gid = header.gid })
 
--- the kind of node that a member becomes in a volume of an edition, and its owner, or the first fault in its kind, its path, its link path, and its
--- owner (this project)
+-- the kind of node that a member becomes in a volume of an edition, and its owner, or the first fault in its kind, its path, its link path, the
+-- numbers of its device, and its owner (this project)
 unfoldable pub check : Edition → Member → Result (MadeAs × Cred) MemberFault
 check edition member =
     and_then (made_as member.header.flag member.path) (λ made.
     and_then (check_path member.path) (λ _.
     and_then (check_link made member.link) (λ _.
-    and_then (owner_of edition member.header) (λ owner. Ok (made, owner)))))
+    and_then (check_device made member.header) (λ _.
+    and_then (owner_of edition member.header) (λ owner. Ok (made, owner))))))
 
 -- the permission bits of a member (POSIX, ustar interchange format)
 abbrev pub permissions_of : ReadHeader → ℕ
@@ -129,6 +141,14 @@ write_calls moment path (c ∷ content) = calls.Write user moment path 0 (c ∷ 
 abbrev pub file_calls : ℕ → List ℕ → ℕ → Cred → List ℕ → List Call
 file_calls moment path perm owner content =
     calls.Create user moment path perm ∷ [] ++ write_calls moment path content ++ owner_calls moment path owner
+
+-- the device of a special file of this kind (POSIX, ustar interchange format)
+abbrev pub device_of : DeviceKind → ReadHeader → DeviceId
+device_of kind header = record { kind = kind; major = header.major % 256; minor = header.minor % 256 }
+
+-- the calls that make a special file (this project)
+abbrev pub special_calls : ℕ → List ℕ → ℕ → Cred → DeviceId → List Call
+special_calls moment path perm owner device = calls.Mknod user moment path perm device ∷ [] ++ owner_calls moment path owner
 
 -- true if a node is a directory (manual section 5, file system)
 abbrev pub is_directory_kind : Kind → Bool
@@ -236,6 +256,9 @@ with_made File tree base now member owner drafted =
 with_made Directory tree base now member owner drafted =
     with_directory tree base (joined (steps_of member.path)) (moment_of member.header now) (below base member.path)
     (permissions_of member.header) owner drafted
+with_made (Device kind) tree base now member owner drafted =
+    with_calls drafted
+    (special_calls (moment_of member.header now) (below base member.path) (permissions_of member.header) owner (device_of kind member.header))
 with_made Link tree base now member owner drafted =
     with_calls drafted (calls.Link user (moment_of member.header now) (below base member.link) (below base member.path) ∷ [])
 
@@ -271,6 +294,7 @@ abbrev pub is_directory_at : Result MadeAs MemberFault → List ℕ → Bool
 is_directory_at (Ok Directory) path = is_nil (steps_of path)
 is_directory_at (Ok File) path = false
 is_directory_at (Ok Link) path = false
+is_directory_at (Ok (Device kind)) path = false
 is_directory_at (Err fault) path = false
 
 -- true if a member is the directory of the import: its path has no steps (this project)
@@ -311,6 +335,7 @@ time_calls tree base now member (Ok Directory) =
     else calls.Times user now (below base member.path) (moment_of member.header now) (moment_of member.header now) ∷ []
 time_calls tree base now member (Ok File) = []
 time_calls tree base now member (Ok Link) = []
+time_calls tree base now member (Ok (Device kind)) = []
 time_calls tree base now member (Err fault) = []
 
 -- the calls that give directories the times of their members, in order (this project)

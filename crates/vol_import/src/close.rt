@@ -42,7 +42,7 @@ fn is_base(member: &Member) -> bool
     let path = member.path.as_slice();
     match made_as(member.header.flag, path) {
         Ok(MadeAs::Directory) => first_step(path).is_none(),
-        Ok(MadeAs::File | MadeAs::Link) => false,
+        Ok(MadeAs::File | MadeAs::Link | MadeAs::Device(_)) => false,
         Err(_) => false,
     }
 }
@@ -150,7 +150,7 @@ fn push_time(
             }
             Ok(())
         }
-        Ok(MadeAs::File | MadeAs::Link) => Ok(()),
+        Ok(MadeAs::File | MadeAs::Link | MadeAs::Device(_)) => Ok(()),
         Err(_) => Ok(()),
     }
 }

@@ -2,7 +2,7 @@
 ghost use Rattle.std.specs.Prelude.{◌≡◌, ◌≤◌, [], IfOk, IfErr, OnOk, Ok, length};
 ghost use Rattle.vol_volume.specs.Volume.{reads_as};
 ghost use Rattle.vol_batch.specs.Paths.{below};
-ghost use Rattle.vol_import.specs.Plan.{check, permissions_of, moment_of, owner_calls, write_calls, file_calls, directory_calls, given_calls, with_directory, way_length, way_of, steps_of, with_way, with_calls, with_made, drafted, onto, plan, Tells, no_memory};
+ghost use Rattle.vol_import.specs.Plan.{check, permissions_of, moment_of, device_of, owner_calls, write_calls, file_calls, special_calls, directory_calls, given_calls, with_directory, way_length, way_of, steps_of, with_way, with_calls, with_made, drafted, onto, plan, Tells, no_memory};
 
 use crate::archive_members::Member;
 use crate::close::{close, directory_times, permissions_given};
@@ -12,6 +12,7 @@ use std::alloc::{AllocError, Global};
 use ustar::ReadHeader;
 use vol_batch::below;
 use vol_dir::Cred;
+use vol_layout::{DeviceId, DeviceKind};
 use vol_volume::{Bytes, Call, Volume};
 
 /// Times below this bound fit a volume.
@@ -37,8 +38,8 @@ impl From<AllocError> for PlanFault {
 }
 
 /// Returns the calls that make the members of an archive below the path `base` of a volume, as user 0, member by member. A regular file is made,
-/// written if it has bytes, and given to its owner unless that is user 0 of group 0. A directory is made in the same way if it doesn't exist; a
-/// directory that earlier calls make is given its member's permissions and owner. A link becomes another name. A call's time is the time of its
+/// written if it has bytes, and given to its owner unless that is user 0 of group 0. A special file is made and given to its owner in the same way, and
+/// so is a directory if it doesn't exist; a directory that earlier calls make is given its member's permissions and owner. A link becomes another name. A call's time is the time of its
 /// member's last change, or `now` if that doesn't fit 32 bits. Before a member, each missing directory on its path is made, at `now`, with
 /// permissions 0755, but not the directory at `base`. If there are any calls, one more call after them gives the directory at `base` the permissions
 /// that it already has, at `now`, which becomes the time of the volume; it is left out if there is no such directory and no member makes it. The last
@@ -158,6 +159,10 @@ fn push_made(
                 alloc, volume, base, &steps, moment, path, perm, owner, draft,
             )
         }
+        MadeAs::Device(kind) => {
+            let device = device_of(kind, &member.header);
+            push_special(alloc, moment, path, perm, owner, device, draft)
+        }
         MadeAs::Link => draft.push(Call::Link {
             cred: Cred::ROOT,
             now: moment,
@@ -243,6 +248,39 @@ fn push_file(
         perm,
     })?;
     push_write(alloc, moment, path.as_slice(), content, draft)?;
+    push_owner(moment, path, owner, draft)
+}
+
+/// Returns the device of a special file of this kind.
+fn device_of(kind: DeviceKind, header: &ReadHeader) -> DeviceId
+    ensures { result ≡ device_of kind header.now }
+{
+    DeviceId {
+        kind,
+        major: (header.major % 256) as u8,
+        minor: (header.minor % 256) as u8,
+    }
+}
+
+/// Appends the calls that make a special file.
+fn push_special(
+    alloc: Global,
+    moment: u32,
+    path: Bytes,
+    perm: u16,
+    owner: Cred,
+    device: DeviceId,
+    draft: &mut Draft,
+) -> Result<(), AllocError>
+    ensures { OnOk result (drafted draft.new ≡ with_calls (drafted draft.old) (special_calls moment path perm owner device)) }
+{
+    draft.push(Call::Mknod {
+        cred: Cred::ROOT,
+        now: moment,
+        path: Bytes::from_slice(alloc, path.as_slice())?,
+        perm,
+        device,
+    })?;
     push_owner(moment, path, owner, draft)
 }
 

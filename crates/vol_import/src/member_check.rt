@@ -1,13 +1,13 @@
 //! Checks that a member can be made.
 ghost use Rattle.std.specs.Prelude.{◌≡◌, ◌==◌};
 ghost use Rattle.std.specs.List.{list_any};
-ghost use Rattle.vol_import.specs.Plan.{is_long_path, names_of, is_long, is_dot_dot, check_path, ends_in_slash, made_as, check_link, owner_of, check};
+ghost use Rattle.vol_import.specs.Plan.{is_long_path, names_of, is_long, is_dot_dot, check_path, ends_in_slash, made_as, check_link, check_device, owner_of, check};
 
 use crate::archive_members::Member;
 use ustar::{MemberKind, ReadHeader, TypeFlag};
 use vol_dir::Cred;
-use vol_layout::Edition;
 use vol_layout::slot::NAME;
+use vol_layout::{DeviceKind, Edition};
 
 /// The greatest number of bytes in the path of a member, and in the path that it links to.
 pub const MOST_PATH_BYTES: usize = 4096;
@@ -21,12 +21,14 @@ pub enum MadeAs {
     Directory,
     /// Another name of a file.
     Link,
+    /// The special file of a device of this kind.
+    Device(DeviceKind),
 }
 
 /// The reason why no calls can make a member.
 #[derive(Clone, Copy)]
 pub enum MemberFault {
-    /// The member is a special file, a symbolic link, or of an unknown kind.
+    /// The member is a FIFO, a symbolic link, or of an unknown kind.
     Kind,
     /// The member's path is longer than [`MOST_PATH_BYTES`].
     LongPath,
@@ -40,6 +42,8 @@ pub enum MemberFault {
     LongLink,
     /// The member is a link to a path with a name `..`.
     DotDotLink,
+    /// The member is a special file, and the major or the minor number of its device is above 255.
+    Device,
     /// The number of the member's owner or group is above the edition's limit: 255 in the sixth, 32,767 in the seventh.
     Owner,
     /// The directories of the members before it and the directories on its path are more than the volume has i-nodes. The fault has the member's path
@@ -50,7 +54,7 @@ pub enum MemberFault {
 }
 
 /// Returns the kind of node that a member becomes in a volume of an edition, and its owner, or the first fault in its kind, its path, its link path,
-/// and its owner.
+/// the numbers of its device, and its owner.
 #[tactic(auto, unfolding(crate::specs::Plan::check))]
 pub fn check(edition: Edition, member: &Member) -> Result<(MadeAs, Cred), MemberFault>
     ensures { result ≡ check edition member.now }
@@ -59,6 +63,7 @@ pub fn check(edition: Edition, member: &Member) -> Result<(MadeAs, Cred), Member
     let made = made_as(member.header.flag, path)?;
     check_path(path)?;
     check_link(made, member.link.as_slice())?;
+    check_device(made, &member.header)?;
     let owner = owner_of(edition, &member.header)?;
     Ok((made, owner))
 }
@@ -72,7 +77,8 @@ pub(crate) fn made_as(flag: TypeFlag, path: &[u8]) -> Result<MadeAs, MemberFault
         TypeFlag::Member(MemberKind::File) => Ok(MadeAs::File),
         TypeFlag::Member(MemberKind::Directory) => Ok(MadeAs::Directory),
         TypeFlag::Member(MemberKind::Link) => Ok(MadeAs::Link),
-        TypeFlag::Member(MemberKind::Character | MemberKind::Block) => Err(MemberFault::Kind),
+        TypeFlag::Member(MemberKind::Character) => Ok(MadeAs::Device(DeviceKind::Character)),
+        TypeFlag::Member(MemberKind::Block) => Ok(MadeAs::Device(DeviceKind::Block)),
         TypeFlag::SymbolicLink | TypeFlag::Fifo => Err(MemberFault::Kind),
         TypeFlag::LongName | TypeFlag::LongLink => Err(MemberFault::Kind),
         TypeFlag::Extended | TypeFlag::Global => Err(MemberFault::Kind),
@@ -133,7 +139,17 @@ fn check_link(made: MadeAs, link: &[u8]) -> Result<(), MemberFault>
         MadeAs::Link if is_long_path(link) => Err(MemberFault::LongLinkPath),
         MadeAs::Link if has_long_name(link) => Err(MemberFault::LongLink),
         MadeAs::Link if has_dot_dot(link) => Err(MemberFault::DotDotLink),
-        MadeAs::Link | MadeAs::File | MadeAs::Directory => Ok(()),
+        MadeAs::Link | MadeAs::File | MadeAs::Directory | MadeAs::Device(_) => Ok(()),
+    }
+}
+
+/// Checks that the numbers of a special file's device fit a byte each.
+fn check_device(made: MadeAs, header: &ReadHeader) -> Result<(), MemberFault>
+    ensures { result ≡ check_device made header.now }
+{
+    match made {
+        MadeAs::Device(_) if header.major > 255 || header.minor > 255 => Err(MemberFault::Device),
+        MadeAs::Device(_) | MadeAs::File | MadeAs::Directory | MadeAs::Link => Ok(()),
     }
 }
 

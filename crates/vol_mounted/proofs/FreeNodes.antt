@@ -6,17 +6,20 @@ use Rattle.std.specs.Option.{option_map}
 use Rattle.std.proofs.lemmas.Bool.{cases_eq, or_parts, true≢false}
 use Rattle.vol_dir.specs.Tree.{Node, State}
 use Rattle.vol_dir.specs.Walk.{walk, walk_parent}
+use Rattle.vol_dir.specs.declared.cred.Cred.{Cred}
 use Rattle.vol_dir.specs.declared.refusal.Refusal.{Refusal}
 use Rattle.vol_change.specs.Edits.{set_at, change_node, put_node, put_shape, remove_node, new_node, new_directory, add_entry, add_link, drop_link, remove_entry, release, after_write, after_truncate}
 use Rattle.vol_change.specs.Effects.{after_create, after_mkdir, after_link, after_unlink, after_rmdir, after_chmod, after_chown, after_utime}
 use Rattle.vol_change.specs.Nodes.{node_at, number_of_name}
+use Rattle.vol_change.specs.declared.new_nodes.NewFile.{NewFile}
+use Rattle.vol_change.specs.declared.new_nodes.NewFile.TheVariants.{Regular, Special}
 use Rattle.vol_change.specs.Shapes.{new_directory_shape}
 use Rattle.vol_change.proofs.NodeEdits.{set_here}
 use Rattle.vol_change.proofs.SideStates.{set_beside}
 use Rattle.vol_volume.specs.Step.{step, changed_by, on_node, on_parent, made_number}
 use Rattle.vol_volume.specs.Volume.{Mounted, Accepts, reads_as}
 use Rattle.vol_volume.specs.declared.calls.Call.{Call}
-use Rattle.vol_volume.specs.declared.calls.Call.TheVariants.{Create, Mkdir, Link, Unlink, Rmdir, Write, Truncate, Chmod, Chown, Times}
+use Rattle.vol_volume.specs.declared.calls.Call.TheVariants.{Create, Mkdir, Mknod, Link, Unlink, Rmdir, Write, Truncate, Chmod, Chown, Times}
 use Rattle.vol_volume.specs.declared.calls.Done.{Done}
 use Rattle.vol_volume.proofs.Journals.{reads_made}
 use Rattle.vol_batch.specs.Batch.{AreMade, AreStopped}
@@ -66,18 +69,26 @@ parent_free state None change x each free = free
 parent_free state (Some (Err refusal)) change x each free = free
 parent_free state (Some (Ok found)) change x each free = each found.0 found.1 free
 
+-- the creation of a file
+file_free : (file : NewFile) (state : State) (cred : Cred) (now perm made : ℕ) (path : List ℕ) (x : ℕ) → x ≢ made
+    → StaysFree x state (on_parent state (walk_parent state.tree cred path) (after_create state cred now perm file made))
+file_free file state cred now perm made path x other =
+    parent_free state (walk_parent state.tree cred path) (after_create state cred now perm file made) x
+    (λ d name free. changed_free (put_node made _ state) d _ x (put_free state made _ x other free))
+
 -- true for the calls that make a node
 abbrev pub makes : Call → Bool
 makes (Create cred now path perm) = true
 makes (Mkdir cred now path perm) = true
+makes (Mknod cred now path perm device) = true
 makes call = false
 
 -- a call leaves each free i-number free but the one of the node that it makes
 pub step_free : (state : State) (call : Call) (done : Done) (x : ℕ) → (makes call ≡ true → x ≢ made_number done) → StaysFree x state (step state call done)
 unfolding changed_by
-step_free state (Create cred now path perm) done x other =
-    parent_free state (walk_parent state.tree cred path) (after_create state cred now perm (made_number done)) x
-    (λ d name free. changed_free (put_node (made_number done) _ state) d _ x (put_free state (made_number done) _ x (other refl) free))
+step_free state (Create cred now path perm) done x other = file_free Regular state cred now perm (made_number done) path x (other refl)
+step_free state (Mknod cred now path perm device) done x other =
+    file_free (Special device) state cred now perm (made_number done) path x (other refl)
 step_free state (Mkdir cred now path perm) done x other =
     parent_free state (walk_parent state.tree cred path) (after_mkdir state cred now perm (made_number done)) x
     (λ d name free.

@@ -20,7 +20,9 @@ use Rattle.vol_dir.specs.declared.refusal.Refusal.{Refusal}
 use Rattle.vol_serve.specs.Nodes.{look_up}
 use Rattle.vol_serve.specs.declared.nodes.fault.NodeFault.{NodeFault}
 use Rattle.vol_serve.specs.declared.nodes.fault.NodeFault.TheVariants as faults
+use Rattle.vol_change.specs.declared.new_nodes.NewFile.{NewFile}
 use Rattle.vol_volume.specs.Answer.{stat_of}
+use Rattle.vol_volume.specs.Verdict.{creation}
 use Rattle.vol_volume.specs.declared.calls.Call.{Call}
 use Rattle.vol_volume.specs.declared.calls.Call.TheVariants as calls
 use Rattle.vol_volume.specs.declared.queries.Stat.{Stat}
@@ -28,7 +30,7 @@ use Rattle.vol_mounted.specs.Numbers.{i_number}
 use Rattle.vol_serve.specs.declared.errno.RequestRefusal.TheVariants as requests
 use Rattle.vol_mounted.specs.Refusals.{no_node, of_nodes}
 use Rattle.vol_mounted.specs.Paths.{path_to, if_leading, leads_to}
-use Rattle.vol_mounted.specs.Plans.{Sight, cred_of, path_at, set_time, short_number, unless_refused, name_at, owner_of, given_to, is_regular, stat_at, is_directory, named_calls, rename_calls, size_call, mode_call, given_call, owner_call, times_call, attribute_calls}
+use Rattle.vol_mounted.specs.Plans.{Sight, cred_of, path_at, set_time, short_number, unless_refused, name_at, new_file, owner_of, given_to, stat_at, is_directory, named_calls, rename_calls, size_call, mode_call, given_call, owner_call, times_call, attribute_calls}
 use Rattle.vol_mounted.specs.Replies.{number_at, renamed, calls_of}
 use Rattle.vol_mounted.specs.declared.owner.Owner.{Owner}
 use Rattle.vol_mounted.specs.declared.refusal.MountedRefusal.{MountedRefusal}
@@ -152,7 +154,7 @@ attributes_none sight i changes =
 
 -- a call makes a node at a path
 abbrev pub MakesAt : Call → ℕ → ℕ → List ℕ → Type 0
-MakesAt call now perm path = (call ≡ calls.Create user now path perm) ⊎ (call ≡ calls.Mkdir user now path perm)
+MakesAt call now perm path = ((file : NewFile) × (call ≡ creation file user now path perm)) ⊎ (call ≡ calls.Mkdir user now path perm)
 
 -- the calls make one node, with this name in the directory with this node number
 pub record MakesNamed (sight : Sight) (node : ℕ) (name : List ℕ) (all : List Call) : Type 0 where
@@ -235,8 +237,8 @@ pub making : (sight : Sight) (header : Header) (operation : Operation) → is_ma
 unfolding calls_of
 making sight header (operations.MkNod mode device name) it =
     then_holds _ (number_at sight header.node) _ (λ d at.
-    if_holds _ (is_regular mode) _ _
-    (then_holds _ (owner_of sight.geometry.edition sight.owner header) _ (λ owner owned.
+    then_holds _ (ok_or (new_file mode device) mounted.NotPermitted) _ (λ file chosen.
+    then_holds _ (owner_of sight.geometry.edition sight.owner header) _ (λ owner owned.
     then_holds _ (name_at sight d name) _ (λ path found.
     let pathed = has_held (IsPathed sight d name) _ path (name_pathed sight d name) found in record {
       d = d;
@@ -245,12 +247,12 @@ making sight header (operations.MkNod mode device name) it =
       walked = pathed.walked;
       short = pathed.short;
       plain = pathed.plain;
-      call = calls.Create user sight.now (pathed.front ++ 47 ∷ name) (mode % 4096);
+      call = creation file user sight.now (pathed.front ++ 47 ∷ name) (mode % 4096);
       perm = mode % 4096;
       owner = owner;
-      makes = inl refl;
-      is = ap (λ (whole : List ℕ). calls.Create user sight.now whole (mode % 4096) ∷ given_to owner sight.now whole) pathed.is;
-    }))) tt)
+      makes = inl (file, refl);
+      is = ap (λ (whole : List ℕ). creation file user sight.now whole (mode % 4096) ∷ given_to owner sight.now whole) pathed.is;
+    }))))
 making sight header (operations.MkDir mode name) it =
     then_holds _ (number_at sight header.node) _ (λ d at.
     then_holds _ (owner_of sight.geometry.edition sight.owner header) _ (λ owner owned.

@@ -25,8 +25,8 @@ use Rattle.vol_volume.specs.declared.calls.Call.TheVariants as calls
 use Rattle.vol_volume.specs.declared.calls.Done.{Done}
 use Rattle.vol_volume.specs.declared.calls.Done.TheVariants.{Made, Wrote, Plain}
 use Rattle.vol_batch.specs.Batch.{AreMade}
-use Rattle.vol_batch.proofs.MadeNames.{Gains, HasNamesOf, KeepsNames, grown_path, names_set, path_kept}
-use Rattle.vol_batch.proofs.MadePaths.{create_gains, mkdir_gains}
+use Rattle.vol_batch.proofs.MadeNames.{Gains, HasNamesOf, KeepsNames, gains_made, grown_path, names_set, path_kept}
+use Rattle.vol_batch.proofs.MadePaths.{creation_makes, made_free, mkdir_gains}
 use Rattle.vol_mounted.specs.Plans.{given_to}
 use Rattle.vol_mounted.proofs.FreeNodes.{StaysFree, state_of, step_free, reads_next}
 use Rattle.vol_mounted.proofs.MakingPlans.{MakesAt}
@@ -49,12 +49,9 @@ free_above tree i free same =
 -- the node that a call makes isn't the root
 made_above : (state : State) (call : Call) (done : Done) (now perm : ℕ) (path : List ℕ) → MakesAt call now perm path → MayAnswer state call done
     → made_number done ≢ root state.tree
-made_above state call done now perm path (inl is) may = above done (subst (λ call. MayAnswer state call done) is may)
-  where
-    above : (done : Done) → MayAnswer state (calls.Create user now path perm) done → made_number done ≢ root state.tree
-    above (Made i) free = free_above state.tree i free
-    above (Wrote n) none = absurd none
-    above Plain none = absurd none
+made_above state call done now perm path (inl (file, is)) may =
+    let made = made_free file state now perm path done (subst (λ call. MayAnswer state call done) is may) in
+    subst (λ (done : Done). made_number done ≢ root state.tree) (sym made.1) (free_above state.tree made.0 made.2)
 made_above state call done now perm path (inr is) may = above done (subst (λ call. MayAnswer state call done) is may)
   where
     above : (done : Done) → MayAnswer state (calls.Mkdir user now path perm) done → made_number done ≢ root state.tree
@@ -65,9 +62,12 @@ made_above state call done now perm path (inr is) may = above done (subst (λ ca
 -- an accepted call that makes a node
 made_gains : (state : State) (call : Call) (done : Done) (now perm : ℕ) (path : List ℕ) → MakesAt call now perm path → verdict state call ≡ None
     → MayAnswer state call done → (node : Node) × Gains state.tree (step state call done).tree path node
-made_gains state call done now perm path (inl is) accepted may =
-    subst (λ call. (node : Node) × Gains state.tree (step state call done).tree path node) (sym is)
-    (_, create_gains state now perm path done (subst (λ call. verdict state call ≡ None) is accepted) (subst (λ call. MayAnswer state call done) is may))
+made_gains state call done now perm path (inl (file, is)) accepted may =
+    subst (λ call. (node : Node) × Gains state.tree (step state call done).tree path node) (sym is) (
+      _,
+      gains_made state.tree _ path _ (creation_makes file state now perm path done (subst (λ call. verdict state call ≡ None) is accepted)
+          (subst (λ call. MayAnswer state call done) is may)),
+    )
 made_gains state call done now perm path (inr is) accepted may =
     let made = mkdir_gains state now perm path done (subst (λ call. verdict state call ≡ None) is accepted) (subst (λ call. MayAnswer state call done) is may) in
     subst (λ call. (node : Node) × Gains state.tree (step state call done).tree path node) (sym is) (_, made.1)

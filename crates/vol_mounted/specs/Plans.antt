@@ -1,5 +1,5 @@
 -- The calls that requests make.
-use Rattle.std.specs.Prelude.{ℕ, ◌-◌, ◌%◌, ◌/◌, ◌^◌, ◌==◌, ◌&&◌, ◌||◌, nat_lt, nat_le, min, Bool, true, false, unwrap_or, is_none, if◌then◌else◌, List, [], ◌∷◌, ◌++◌, Option, None, Some, Result, Ok, Err}
+use Rattle.std.specs.Prelude.{ℕ, ◌+◌, ◌-◌, ◌*◌, ◌%◌, ◌/◌, ◌^◌, ◌==◌, ◌&&◌, ◌||◌, nat_lt, nat_le, min, Bool, true, false, unwrap_or, is_none, if◌then◌else◌, List, [], ◌∷◌, ◌++◌, Option, None, Some, Result, Ok, Err}
 use Rattle.std.specs.Option.{ok_or, option_to_list}
 use Rattle.fuse_words.specs.declared.attribute_changes.AttributeChanges.{AttributeChanges}
 use Rattle.fuse_words.specs.declared.attribute_changes.NewTime.{NewTime}
@@ -9,6 +9,8 @@ use Rattle.vol_layout.specs.Edition.{constants}
 use Rattle.vol_layout.specs.Ids.{is_bad_id}
 use Rattle.vol_layout.specs.declared.edition.Edition.{Edition}
 use Rattle.vol_layout.specs.declared.geometry.Geometry.{Geometry}
+use Rattle.vol_layout.specs.declared.mode.DeviceKind.{DeviceKind}
+use Rattle.vol_layout.specs.declared.mode.DeviceKind.TheVariants as devices
 use Rattle.vol_layout.specs.declared.mode.Kind.TheVariants as kinds
 use Rattle.vol_layout.specs.declared.mode.Kind.{Kind}
 use Rattle.vol_dir.specs.Access.{user}
@@ -16,7 +18,9 @@ use Rattle.vol_dir.specs.Tree.{State, tree, state}
 use Rattle.vol_dir.specs.declared.cred.Cred.{Cred}
 use Rattle.vol_dir.specs.declared.refusal.Refusal.{Refusal}
 use Rattle.vol_dir.specs.declared.refusal.Refusal.TheVariants as refusals
-use Rattle.vol_volume.specs.Verdict.{verdict}
+use Rattle.vol_change.specs.declared.new_nodes.NewFile.{NewFile}
+use Rattle.vol_change.specs.declared.new_nodes.NewFile.TheVariants as files
+use Rattle.vol_volume.specs.Verdict.{creation, verdict}
 use Rattle.vol_volume.specs.declared.calls.Call.{Call}
 use Rattle.vol_volume.specs.declared.calls.Call.TheVariants as calls
 use Rattle.vol_volume.specs.declared.queries.Stat.{Stat}
@@ -73,13 +77,35 @@ directory_calls sight header d name mode =
 abbrev pub is_regular : ℕ → Bool
 is_regular mode = (mode / 4096 % 16 == 8) || (mode / 4096 % 16 == 0)
 
--- the calls of MKNOD in directory d, for a regular file (creat)
-abbrev pub file_calls : Sight → Header → ℕ → List ℕ → ℕ → Result (List Call) MountedRefusal
-file_calls sight header d name mode =
-    if is_regular mode then
+-- the major number of a device, from Linux's number (Linux, kdev_t.h: new_decode_dev)
+abbrev pub major_of : ℕ → ℕ
+major_of device = device / 256 % 4096
+
+-- the minor number of a device, from Linux's number (Linux, kdev_t.h: new_decode_dev)
+abbrev pub minor_of : ℕ → ℕ
+minor_of device = device % 256 + device / 1048576 * 256
+
+-- the special file of a device of this kind, by Linux's number; None if its major or minor number is above 255 (mknod, section 2 of the manual)
+abbrev pub special_file : DeviceKind → ℕ → Option NewFile
+special_file kind device =
+    if nat_lt 255 (major_of device) || nat_lt 255 (minor_of device) then None
+    else Some (files.Special (record { kind = kind; major = major_of device; minor = minor_of device }))
+
+-- the file that MKNOD makes, by a mode and Linux's number of a device: a regular file, or a character or block special file; None for a socket or a FIFO
+-- (Linux, stat.h: S_IFCHR, S_IFBLK)
+abbrev pub new_file : ℕ → ℕ → Option NewFile
+new_file mode device =
+    if is_regular mode then Some files.Regular
+    else if mode / 4096 % 16 == 2 then special_file devices.Character device
+    else if mode / 4096 % 16 == 6 then special_file devices.Block device
+    else None
+
+-- the calls of MKNOD in directory d (creat; mknod)
+abbrev pub file_calls : Sight → Header → ℕ → List ℕ → ℕ → ℕ → Result (List Call) MountedRefusal
+file_calls sight header d name mode device =
+    and_then (ok_or (new_file mode device) mounted.NotPermitted) (λ file.
     and_then (owner_of sight.geometry.edition sight.owner header) (λ owner.
-    and_then (name_at sight d name) (λ path. Ok (calls.Create user sight.now path (mode % 4096) ∷ given_to owner sight.now path)))
-    else Err mounted.NotPermitted
+    and_then (name_at sight d name) (λ path. Ok (creation file user sight.now path (mode % 4096) ∷ given_to owner sight.now path))))
 
 -- the call of UNLINK in directory d (unlink)
 abbrev pub unlink_calls : Sight → ℕ → List ℕ → Result (List Call) MountedRefusal

@@ -39,7 +39,7 @@ renamed sight header directory flags name new_name =
 
 -- the calls that an operation makes; no calls if it changes nothing (fuse_opcode)
 unfoldable pub calls_of : Sight → Header → Operation → Result (List Call) MountedRefusal
-calls_of sight header (operations.MkNod mode device name) = and_then (number_at sight header.node) (λ d. file_calls sight header d name mode)
+calls_of sight header (operations.MkNod mode device name) = and_then (number_at sight header.node) (λ d. file_calls sight header d name mode device)
 calls_of sight header (operations.MkDir mode name) = and_then (number_at sight header.node) (λ d. directory_calls sight header d name mode)
 calls_of sight header (operations.Unlink name) = and_then (number_at sight header.node) (λ d. unlink_calls sight d name)
 calls_of sight header (operations.RmDir name) = and_then (number_at sight header.node) (λ d. rmdir_calls sight d name)

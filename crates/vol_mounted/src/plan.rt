@@ -1,6 +1,6 @@
 //! The calls for new nodes, removed names, new links and writes; and their checks.
 ghost use Rattle.std.specs.Prelude.{◌≡◌, ◌%◌};
-ghost use Rattle.vol_mounted.specs.Plans.{cred_of, is_regular, owner_of, short_number};
+ghost use Rattle.vol_mounted.specs.Plans.{cred_of, is_regular, major_of, minor_of, new_file, owner_of, short_number, special_file};
 
 use crate::calls::Calls;
 use crate::owner::Owner;
@@ -9,8 +9,9 @@ use crate::scene::Scene;
 use fuse_words::Header;
 use pdp_words::Bytes;
 use std::alloc::AllocError;
+use vol_change::NewFile;
 use vol_dir::{Cred, Refusal};
-use vol_layout::{Edition, is_bad_id};
+use vol_layout::{DeviceId, DeviceKind, Edition, is_bad_id};
 use vol_volume::Call;
 
 impl Scene<'_> {
@@ -18,36 +19,53 @@ impl Scene<'_> {
     ghost use Rattle.std.specs.Option.{option_map};
     ghost use Rattle.vol_dir.specs.Access.{user};
     ghost use Rattle.vol_dir.specs.Tree.{state};
-    ghost use Rattle.vol_volume.specs.Verdict.{verdict};
+    ghost use Rattle.vol_volume.specs.Verdict.{creation, verdict};
     ghost use Rattle.vol_volume.specs.declared.calls.Call.TheVariants as calls;
     ghost use Rattle.vol_mounted.specs.declared.refusal.MountedRefusal.TheVariants as mounted;
     ghost use Rattle.vol_mounted.specs.Plans.{file_calls, directory_calls, given_to, unlink_calls, rmdir_calls, link_calls, write_calls, first_refused};
     ghost use Rattle.vol_mounted.specs.Refusals.{Gives};
     ghost use Rattle.vol_mounted.specs.Scenes.{sight_of};
 
-    /// Returns the calls of MKNOD. Only regular files can be made.
+    /// Returns the calls of MKNOD. Regular files can be made, and special files whose major and minor numbers are at most 255.
     pub(crate) fn make_file(
         &self,
         header: &Header,
         dir: u16,
         name: &[u8],
         mode: u32,
+        device: u32,
     ) -> Result<Calls, MountedRefusal>
-        ensures { Gives (file_calls (sight_of self.now) header.now dir name.now mode) result }
+        ensures { Gives (file_calls (sight_of self.now) header.now dir name.now mode device) result }
     {
-        if !is_regular(mode) {
-            return Err(MountedRefusal::NotPermitted);
-        }
+        let file = new_file(mode, device).ok_or(MountedRefusal::NotPermitted)?;
         let owner = owner_of(self.geometry.edition, self.owner, header)?;
         let path = self.path_of_name(dir, name)?;
         let again = Bytes::from_slice(self.alloc, path.as_slice())?;
-        let call = Call::Create {
-            cred: Cred::ROOT,
-            now: self.moment,
-            path,
-            perm: permissions(mode),
-        };
+        let call = self.call_create(file, path, permissions(mode));
         Ok(self.make_for(owner, call, again)?)
+    }
+
+    /// Returns the call that creates a file.
+    fn call_create(&self, file: NewFile, path: Bytes, perm: u16) -> Call
+        ensures { result ≡ creation file user self.now.moment path perm }
+    {
+        let cred = Cred::ROOT;
+        let now = self.moment;
+        match file {
+            NewFile::Regular => Call::Create {
+                cred,
+                now,
+                path,
+                perm,
+            },
+            NewFile::Special(device) => Call::Mknod {
+                cred,
+                now,
+                path,
+                perm,
+                device,
+            },
+        }
     }
 
     /// Returns the calls of MKDIR.
@@ -186,6 +204,50 @@ fn is_regular(mode: u32) -> bool
     ensures { result ≡ is_regular mode }
 {
     matches!(mode / 0o10000 % 16, 0 | 8)
+}
+
+/// Returns the major number of a device, from Linux's number.
+fn major_of(device: u32) -> u32
+    ensures { result ≡ major_of device }
+{
+    device / 256 % 4096
+}
+
+/// Returns the minor number of a device, from Linux's number.
+fn minor_of(device: u32) -> u32
+    ensures { result ≡ minor_of device }
+{
+    device % 256 + device / 1_048_576 * 256
+}
+
+/// Returns the special file of a device, by Linux's number, or `None` if its major or minor number is above 255.
+fn special_file(kind: DeviceKind, device: u32) -> Option<NewFile>
+    ensures { result ≡ special_file kind device }
+{
+    let major = major_of(device);
+    let minor = minor_of(device);
+    if major > 255 || minor > 255 {
+        return None;
+    }
+    Some(NewFile::Special(DeviceId {
+        kind,
+        major: major as u8,
+        minor: minor as u8,
+    }))
+}
+
+/// Returns the file that MKNOD makes, by a mode and Linux's number of a device, or `None` for a socket or a FIFO.
+fn new_file(mode: u32, device: u32) -> Option<NewFile>
+    ensures { result ≡ new_file mode device }
+{
+    if is_regular(mode) {
+        return Some(NewFile::Regular);
+    }
+    match mode / 0o10000 % 16 {
+        2 => special_file(DeviceKind::Character, device),
+        6 => special_file(DeviceKind::Block, device),
+        _ => None,
+    }
 }
 
 /// Returns the permission bits of a mode.

@@ -20,8 +20,9 @@ impl Scene<'_> {
         ensures { Gives (calls_of (sight_of self.now) header.now operation.now) result }
     {
         match operation {
-            Operation::MkNod { mode, name, .. } => {
-                self.make_file(header, self.number(header.node)?, name.as_slice(), *mode)
+            Operation::MkNod { mode, device, name } => {
+                let dir = self.number(header.node)?;
+                self.make_file(header, dir, name.as_slice(), *mode, *device)
             }
             Operation::MkDir { mode, name } => {
                 self.make_directory(header, self.number(header.node)?, name.as_slice(), *mode)

@@ -3,9 +3,10 @@ use Rattle.std.proofs.Common.{◌≡◌, ℕ, ◌+◌, ◌/◌, ◌%◌, ◌++�
 use Rattle.std.proofs.lemmas.Fmt.{decimal_digit}
 use Rattle.std.specs.Fmt.{decimal}
 use Rattle.vol_dir.specs.declared.cred.Cred.{Cred}
-use Rattle.vol_scripts.specs.Journal.{words_before}
+use Rattle.vol_layout.specs.declared.mode.DeviceId.{DeviceId}
+use Rattle.vol_scripts.specs.Journal.{device_after, words_before}
 use Rattle.vol_scripts.specs.Refuse.{unread_text}
-use Rattle.vol_scripts.specs.Texts.{kind_text, node_text, permissions_text, stat_text}
+use Rattle.vol_scripts.specs.Texts.{device_letter, kind_text, node_text, permissions_text, stat_text}
 use Rattle.vol_volume.specs.declared.queries.Stat.{Stat}
 
 -- the four octal digits of permissions are appended one after another
@@ -40,6 +41,11 @@ before_pieces now cred command = simp append_assoc
 -- two words, each with a space before it, are appended one after another
 pub pair_pieces : (first second : List ℕ) → codes " " ++ (first ++ (codes " " ++ second)) ≡ codes " " ++ first ++ codes " " ++ second
 pair_pieces first second = simp append_assoc
+
+-- the words of a device, each with a space before it, are appended one after another
+pub device_pieces : (device : DeviceId) (letter : List ℕ) → letter ≡ device_letter device.kind
+    → codes " " ++ (letter ++ (codes " " ++ (decimal device.major ++ (codes " " ++ decimal device.minor)))) ≡ device_after device
+device_pieces device letter is = rw is (simp append_assoc)
 
 -- the parts of a call's words, appended one after another, are these words
 pub call_pieces : (text one two three before path after : List ℕ) → one ≡ text ++ before → two ≡ one ++ path → three ≡ two ++ after

@@ -6,7 +6,7 @@ use Rattle.command_faults.specs.declared.line_flaw.LineFlaw.TheVariants as flaws
 use Rattle.command_faults.specs.declared.line_flaw.WordForm.{WordForm}
 use Rattle.command_faults.specs.declared.line_flaw.WordForm.TheVariants as forms
 use Rattle.vol_scripts.specs.Grammar.{command_named}
-use Rattle.vol_scripts.specs.Numbers.{long_in, short_in, permissions_in, bytes_in}
+use Rattle.vol_scripts.specs.Numbers.{long_in, short_in, byte_in, permissions_in, bytes_in, device_kind_in}
 use Rattle.vol_scripts.specs.declared.commands.Command.{Command}
 use Rattle.vol_scripts.specs.declared.commands.Command.TheVariants as commands
 
@@ -31,6 +31,8 @@ has_form forms.Query word = names_query (command_named word)
 has_form forms.Path word = true
 has_form forms.Permissions word = is_some (permissions_in word)
 has_form forms.Bytes word = is_some (bytes_in word)
+has_form forms.DeviceKind word = is_some (device_kind_in word)
+has_form forms.DeviceNumber word = is_some (byte_in word)
 
 -- the forms of the words after a command (this project)
 abbrev pub forms_after : Command → List WordForm
@@ -44,6 +46,7 @@ forms_after commands.Truncate = forms.Path ∷ forms.Number ∷ []
 forms_after commands.Chmod = forms.Path ∷ forms.Permissions ∷ []
 forms_after commands.Chown = forms.Path ∷ forms.Id ∷ forms.Id ∷ []
 forms_after commands.Times = forms.Path ∷ forms.Number ∷ forms.Number ∷ []
+forms_after commands.Mknod = forms.Path ∷ forms.Permissions ∷ forms.DeviceKind ∷ forms.DeviceNumber ∷ forms.DeviceNumber ∷ []
 forms_after commands.Stat = forms.Path ∷ []
 forms_after commands.Read = forms.Path ∷ forms.Number ∷ forms.Number ∷ []
 forms_after commands.List = forms.Path ∷ []

@@ -7,7 +7,8 @@ use Rattle.vol_dir.specs.declared.cred.Cred.{Cred}
 use Rattle.vol_volume.specs.declared.calls.Call.TheVariants as calls
 use Rattle.vol_volume.specs.declared.queries.Query.{Query}
 use Rattle.vol_volume.specs.declared.queries.Query.TheVariants as queries
-use Rattle.vol_scripts.specs.Numbers.{long_in, short_in, permissions_in, bytes_in}
+use Rattle.vol_layout.specs.declared.mode.DeviceId.{DeviceId}
+use Rattle.vol_scripts.specs.Numbers.{long_in, short_in, byte_in, permissions_in, bytes_in, device_kind_in}
 use Rattle.vol_scripts.specs.declared.commands.Command.{Command}
 use Rattle.vol_scripts.specs.declared.commands.Command.TheVariants as commands
 use Rattle.vol_scripts.specs.declared.steps.ScriptStep.{ScriptStep}
@@ -25,6 +26,7 @@ command_word commands.Truncate = codes "truncate"
 command_word commands.Chmod = codes "chmod"
 command_word commands.Chown = codes "chown"
 command_word commands.Times = codes "times"
+command_word commands.Mknod = codes "mknod"
 command_word commands.Stat = codes "stat"
 command_word commands.Read = codes "read"
 command_word commands.List = codes "list"
@@ -33,7 +35,7 @@ command_word commands.Cut = codes "cut"
 -- all commands (this project)
 abbrev pub all_commands : List Command
 all_commands = commands.Create ∷ commands.Mkdir ∷ commands.Link ∷ commands.Unlink ∷ commands.Rmdir ∷ commands.Write
-    ∷ commands.Truncate ∷ commands.Chmod ∷ commands.Chown ∷ commands.Times ∷ commands.Stat ∷ commands.Read ∷ commands.List ∷ commands.Cut ∷ []
+    ∷ commands.Truncate ∷ commands.Chmod ∷ commands.Chown ∷ commands.Times ∷ commands.Mknod ∷ commands.Stat ∷ commands.Read ∷ commands.List ∷ commands.Cut ∷ []
 
 -- the command with a word (this project)
 abbrev pub command_named : List ℕ → Option Command
@@ -58,6 +60,11 @@ two_of _ = None
 abbrev pub three_of : List (List ℕ) → Option (List ℕ × List ℕ × List ℕ)
 three_of (first ∷ second ∷ third ∷ []) = Some (first, second, third)
 three_of _ = None
+
+-- the five words that are left, if there are exactly five (this project)
+abbrev pub five_of : List (List ℕ) → Option (List ℕ × List ℕ × List ℕ × List ℕ × List ℕ)
+five_of (first ∷ second ∷ third ∷ fourth ∷ fifth ∷ []) = Some (first, second, third, fourth, fifth)
+five_of _ = None
 
 -- no word is left (this project)
 abbrev pub none_of : List (List ℕ) → Option (Unit {0})
@@ -108,9 +115,25 @@ path_and_numbers words = do
   second ← long_in given.2
   Some (given.0, first, second)
 
+-- a device, read from the words of its kind and of its major and minor numbers (this project)
+abbrev pub device_in : List ℕ → List ℕ → List ℕ → Option DeviceId
+device_in kind major minor = do
+  letter ← device_kind_in kind
+  driver ← byte_in major
+  unit ← byte_in minor
+  Some (record { kind = letter; major = driver; minor = unit })
+
+-- the values of `PATH PERM KIND MAJOR MINOR` (this project)
+abbrev pub path_and_device : List (List ℕ) → Option (List ℕ × ℕ × DeviceId)
+path_and_device words = do
+  given ← five_of words
+  permissions ← permissions_in given.1
+  device ← device_in given.2 given.3 given.4
+  Some (given.0, permissions, device)
+
 -- the step of a command with the words after it: `create PATH PERM`, `mkdir PATH PERM`, `link FROM TO`, `unlink PATH`, `rmdir PATH`, `write PATH
--- OFFSET HEX`, `truncate PATH LENGTH`, `chmod PATH PERM`, `chown PATH UID GID`, `times PATH ATIME MTIME`, `stat PATH`, `read PATH OFFSET LEN`, `list
--- PATH`, `cut` (this project)
+-- OFFSET HEX`, `truncate PATH LENGTH`, `chmod PATH PERM`, `chown PATH UID GID`, `times PATH ATIME MTIME`, `mknod PATH PERM KIND MAJOR MINOR`, `stat
+-- PATH`, `read PATH OFFSET LEN`, `list PATH`, `cut` (this project)
 abbrev pub asked_by : Command → Cred → ℕ → List (List ℕ) → Option ScriptStep
 asked_by commands.Create cred now words =
     option_map (λ given. steps.Change (calls.Create cred now given.0 given.1)) (path_and_permissions words)
@@ -129,6 +152,8 @@ asked_by commands.Chown cred now words =
     option_map (λ given. steps.Change (calls.Chown cred now given.0 given.1.uid given.1.gid)) (path_and_owner words)
 asked_by commands.Times cred now words =
     option_map (λ given. steps.Change (calls.Times cred now given.0 given.1 given.2)) (path_and_numbers words)
+asked_by commands.Mknod cred now words =
+    option_map (λ given. steps.Change (calls.Mknod cred now given.0 given.1 given.2)) (path_and_device words)
 asked_by commands.Stat cred now words = option_map (λ path. steps.Question (queries.Stat cred path)) (one_of words)
 asked_by commands.Read cred now words =
     option_map (λ given. steps.Question (queries.Read cred given.0 given.1 given.2)) (path_and_numbers words)

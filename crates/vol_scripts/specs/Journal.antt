@@ -6,7 +6,8 @@ use Rattle.vol_volume.specs.declared.calls.Call.{Call}
 use Rattle.vol_volume.specs.declared.calls.Call.TheVariants as calls
 use Rattle.vol_volume.specs.declared.calls.Record.{Record}
 use Rattle.vol_scripts.specs.Grammar.{command_word}
-use Rattle.vol_scripts.specs.Texts.{bytes_text, permissions_text}
+use Rattle.vol_layout.specs.declared.mode.DeviceId.{DeviceId}
+use Rattle.vol_scripts.specs.Texts.{bytes_text, device_letter, permissions_text}
 use Rattle.vol_scripts.specs.declared.commands.Command.{Command}
 use Rattle.vol_scripts.specs.declared.commands.Command.TheVariants as commands
 
@@ -22,6 +23,12 @@ command_of (calls.Truncate cred now path size) = commands.Truncate
 command_of (calls.Chmod cred now path perm) = commands.Chmod
 command_of (calls.Chown cred now path uid gid) = commands.Chown
 command_of (calls.Times cred now path atime mtime) = commands.Times
+command_of (calls.Mknod cred now path perm device) = commands.Mknod
+
+-- the words of a device, each with a space before it: the letter of its kind, its major number and its minor number (this project)
+abbrev pub device_after : DeviceId → List ℕ
+device_after device =
+    codes " " ++ device_letter device.kind ++ codes " " ++ decimal device.major ++ codes " " ++ decimal device.minor
 
 -- the words after a call's first path, each with a space before it (this project)
 abbrev pub words_after : Call → List ℕ
@@ -35,6 +42,7 @@ words_after (calls.Truncate cred now path size) = codes " " ++ decimal size
 words_after (calls.Chmod cred now path perm) = codes " " ++ permissions_text perm
 words_after (calls.Chown cred now path uid gid) = codes " " ++ decimal uid ++ codes " " ++ decimal gid
 words_after (calls.Times cred now path atime mtime) = codes " " ++ decimal atime ++ codes " " ++ decimal mtime
+words_after (calls.Mknod cred now path perm device) = codes " " ++ permissions_text perm ++ device_after device
 
 -- the words before a call's first path, each followed by a space: the call's time, user, group and command (this project)
 abbrev pub words_before : ℕ → Cred → List ℕ → List ℕ

@@ -1,6 +1,8 @@
 -- The texts of outcomes.
 use Rattle.std.specs.Prelude.{ℕ, ◌+◌, ◌/◌, ◌%◌, ◌++◌, List, [], ◌∷◌, length, codes, decimal}
 use Rattle.hex.specs.Hex.{encode_lower}
+use Rattle.vol_layout.specs.declared.mode.DeviceKind.{DeviceKind}
+use Rattle.vol_layout.specs.declared.mode.DeviceKind.TheVariants as devices
 use Rattle.vol_layout.specs.declared.mode.Kind.{Kind}
 use Rattle.vol_layout.specs.declared.mode.Kind.TheVariants as kinds
 use Rattle.vol_volume.specs.declared.calls.Done.{Done}
@@ -20,6 +22,11 @@ abbrev pub kind_text : Kind → List ℕ
 kind_text kinds.Regular = codes "file"
 kind_text kinds.Directory = codes "dir"
 kind_text _ = codes "special"
+
+-- the letter of a kind of device (mknod, section 8 of the manual of the sixth edition, section 1 of the seventh's)
+abbrev pub device_letter : DeviceKind → List ℕ
+device_letter devices.Character = codes "c"
+device_letter devices.Block = codes "b"
 
 -- permissions, as four octal digits (this project)
 abbrev pub permissions_text : ℕ → List ℕ

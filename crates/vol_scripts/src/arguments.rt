@@ -1,13 +1,14 @@
 //! Reads the words after a line's command.
 ghost use Rattle.std.specs.Prelude.{◌≡◌, Some, None, MatchOption, IfOk};
-ghost use Rattle.vol_scripts.specs.Grammar.{one_of, two_of, three_of, none_of, cred_in, path_and_permissions, path_and_length, path_and_owner, path_and_bytes, path_and_numbers};
+ghost use Rattle.vol_scripts.specs.Grammar.{one_of, two_of, three_of, five_of, none_of, cred_in, device_in, path_and_permissions, path_and_length, path_and_owner, path_and_bytes, path_and_numbers, path_and_device};
 ghost use Rattle.vol_scripts.specs.Scripts.{Reads};
 
 use crate::lines::LineFault;
-use crate::numbers::{bytes_in, long_in, permissions_in, short_in};
+use crate::numbers::{byte_in, bytes_in, device_kind_in, long_in, permissions_in, short_in};
 use line_words::Pieces;
 use std::alloc::Global;
 use vol_dir::Cred;
+use vol_layout::DeviceId;
 use vol_volume::Bytes;
 
 /// Succeeds if no word is left.
@@ -48,6 +49,19 @@ fn three_of<'a>(mut words: Pieces<'a>) -> Option<(&'a [u8], &'a [u8], &'a [u8])>
     Some((first, second, third))
 }
 
+/// Returns the five words that are left, if there are exactly five.
+fn five_of<'a>(mut words: Pieces<'a>) -> Option<(&'a [u8], &'a [u8], &'a [u8], &'a [u8], &'a [u8])>
+    ensures { MatchOption result (five_of words.entry ≡ None)
+        (λ given. five_of words.entry ≡ Some (given.0.now, given.1.now, given.2.now, given.3.now, given.4.now)) }
+{
+    let first = words.take_next()?;
+    let second = words.take_next()?;
+    let third = words.take_next()?;
+    let fourth = words.take_next()?;
+    let fifth = one_of(words)?;
+    Some((first, second, third, fourth, fifth))
+}
+
 /// Reads a user and a group from two words.
 pub(crate) fn cred_in(uid: &[u8], gid: &[u8]) -> Option<Cred>
     ensures { result ≡ cred_in uid.now gid.now }
@@ -55,6 +69,17 @@ pub(crate) fn cred_in(uid: &[u8], gid: &[u8]) -> Option<Cred>
     Some(Cred {
         uid: short_in(uid)?,
         gid: short_in(gid)?,
+    })
+}
+
+/// Reads a device from the words of its kind and of its major and minor numbers.
+fn device_in(kind: &[u8], major: &[u8], minor: &[u8]) -> Option<DeviceId>
+    ensures { result ≡ device_in kind.now major.now minor.now }
+{
+    Some(DeviceId {
+        kind: device_kind_in(kind)?,
+        major: byte_in(major)?,
+        minor: byte_in(minor)?,
     })
 }
 
@@ -131,4 +156,17 @@ pub(crate) fn path_and_numbers(
     let first = long_in(first).ok_or(LineFault::Unreadable)?;
     let second = long_in(second).ok_or(LineFault::Unreadable)?;
     Ok((Bytes::from_slice(alloc, path)?, first, second))
+}
+
+/// Reads the words `PATH PERM KIND MAJOR MINOR`.
+pub(crate) fn path_and_device(
+    alloc: Global,
+    words: Pieces<'_>,
+) -> Result<(Bytes, u16, DeviceId), LineFault>
+    ensures { Reads (path_and_device words.entry) result }
+{
+    let (path, permissions, kind, major, minor) = five_of(words).ok_or(LineFault::Unreadable)?;
+    let permissions = permissions_in(permissions).ok_or(LineFault::Unreadable)?;
+    let device = device_in(kind, major, minor).ok_or(LineFault::Unreadable)?;
+    Ok((Bytes::from_slice(alloc, path)?, permissions, device))
 }

@@ -15,6 +15,7 @@ pub(crate) enum Command {
     Chmod,
     Chown,
     Times,
+    Mknod,
     Stat,
     Read,
     List,
@@ -22,7 +23,7 @@ pub(crate) enum Command {
 }
 
 /// All commands.
-static COMMANDS: [Command; 14] = [
+static COMMANDS: [Command; 15] = [
     Command::Create,
     Command::Mkdir,
     Command::Link,
@@ -33,6 +34,7 @@ static COMMANDS: [Command; 14] = [
     Command::Chmod,
     Command::Chown,
     Command::Times,
+    Command::Mknod,
     Command::Stat,
     Command::Read,
     Command::List,
@@ -55,6 +57,7 @@ impl Command {
             Command::Chmod => "chmod",
             Command::Chown => "chown",
             Command::Times => "times",
+            Command::Mknod => "mknod",
             Command::Stat => "stat",
             Command::Read => "read",
             Command::List => "list",

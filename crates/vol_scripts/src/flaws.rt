@@ -4,7 +4,7 @@ ghost use Rattle.vol_scripts.specs.Flaws.{cannot_become, flaw_from, flaw_in, for
 
 use crate::commands::Command;
 use crate::lines::LineFault;
-use crate::numbers::{bytes_in, long_in, permissions_in, short_in};
+use crate::numbers::{byte_in, bytes_in, device_kind_in, long_in, permissions_in, short_in};
 use command_faults::{LineFlaw, WordForm};
 use line_words::Pieces;
 use pdp_words::Bytes;
@@ -81,7 +81,11 @@ fn cannot_become(form: WordForm, count: usize) -> bool
     match form {
         WordForm::Path | WordForm::Bytes => false,
         WordForm::Command | WordForm::Query => count > LONGEST_COMMAND,
-        WordForm::Number | WordForm::Id | WordForm::Permissions => count > 0,
+        WordForm::Number
+        | WordForm::Id
+        | WordForm::Permissions
+        | WordForm::DeviceKind
+        | WordForm::DeviceNumber => count > 0,
     }
 }
 
@@ -118,6 +122,8 @@ fn has_form(alloc: Global, form: WordForm, word: &[u8]) -> Result<bool, AllocErr
         WordForm::Path => true,
         WordForm::Permissions => permissions_in(word).is_some(),
         WordForm::Bytes => return has_bytes(alloc, word),
+        WordForm::DeviceKind => device_kind_in(word).is_some(),
+        WordForm::DeviceNumber => byte_in(word).is_some(),
     };
     Ok(has)
 }
@@ -155,6 +161,13 @@ fn forms_after(command: Command) -> &'static [WordForm]
         Command::Truncate => &[WordForm::Path, WordForm::Number],
         Command::Chown => &[WordForm::Path, WordForm::Id, WordForm::Id],
         Command::Times | Command::Read => &[WordForm::Path, WordForm::Number, WordForm::Number],
+        Command::Mknod => &[
+            WordForm::Path,
+            WordForm::Permissions,
+            WordForm::DeviceKind,
+            WordForm::DeviceNumber,
+            WordForm::DeviceNumber,
+        ],
         Command::Cut => &[],
     }
 }

@@ -2,13 +2,14 @@
 ghost use Rattle.std.specs.Prelude.{◌≡◌, ◌++◌, IfOk, OnOk, codes, decimal};
 ghost use Rattle.std.specs.String.{string_bytes};
 ghost use Rattle.vol_scripts.specs.Grammar.{command_word};
-ghost use Rattle.vol_scripts.specs.Journal.{call_text, call_words, command_of, journal_if, words_after, words_before};
+ghost use Rattle.vol_scripts.specs.Journal.{call_text, call_words, command_of, device_after, journal_if, words_after, words_before};
 ghost use Rattle.vol_scripts.specs.Texts.{bytes_text, permissions_text};
 
 use crate::commands::Command;
-use crate::texts::{bytes_text, permissions_text};
+use crate::texts::{bytes_text, device_letter, permissions_text};
 use std::alloc::{AllocError, Global};
 use vol_dir::Cred;
+use vol_layout::DeviceId;
 use vol_volume::{Call, Record};
 
 /// Appends a line for each record of a journal, if these lines are wanted. Takes memory for the text.
@@ -73,6 +74,7 @@ fn command_of(call: &Call) -> Command
         Call::Chmod { .. } => Command::Chmod,
         Call::Chown { .. } => Command::Chown,
         Call::Times { .. } => Command::Times,
+        Call::Mknod { .. } => Command::Mknod,
     }
 }
 
@@ -90,6 +92,7 @@ fn words_after(alloc: Global, call: &Call) -> Result<Vec<u8>, AllocError>
         Call::Truncate { length, .. } => Ok(format!(in alloc; " {length}")?.into_bytes()),
         Call::Chown { uid, gid, .. } => numbers_after(alloc, u32::from(*uid), u32::from(*gid)),
         Call::Times { atime, mtime, .. } => numbers_after(alloc, *atime, *mtime),
+        Call::Mknod { perm, device, .. } => file_after(alloc, *perm, *device),
     }
 }
 
@@ -119,6 +122,27 @@ fn permissions_after(alloc: Global, bits: u16) -> Result<Vec<u8>, AllocError>
 {
     let digits = permissions_text(alloc, bits)?;
     word_after(alloc, digits.as_bytes())
+}
+
+/// Returns the permissions and the device of a special file, each word with a space before it.
+fn file_after(alloc: Global, bits: u16, device: DeviceId) -> Result<Vec<u8>, AllocError>
+    ensures { IfOk result (λ text. text.items ≡ codes " " ++ permissions_text bits ++ device_after device) }
+{
+    let mut text = permissions_after(alloc, bits)?;
+    let device = device_after(alloc, device)?;
+    text.extend_from_slice(&device)?;
+    Ok(text)
+}
+
+/// Returns the words of a device, each with a space before it.
+#[tactic(auto, using(crate::proofs::TextLemmas::device_pieces))]
+fn device_after(alloc: Global, device: DeviceId) -> Result<Vec<u8>, AllocError>
+    ensures { IfOk result (λ text. text.items ≡ device_after device) }
+{
+    let letter = device_letter(device.kind);
+    let DeviceId { major, minor, .. } = device;
+    let text = format!(in alloc; " {letter} {major} {minor}")?;
+    Ok(text.into_bytes())
 }
 
 /// Returns a word, with a space before it.

@@ -4,8 +4,8 @@ ghost use Rattle.vol_scripts.specs.Grammar.{asked_by, step_by, step_in};
 ghost use Rattle.vol_scripts.specs.Scripts.{Reads};
 
 use crate::arguments::{
-    cred_in, none_of, path_alone, path_and_bytes, path_and_length, path_and_numbers,
-    path_and_owner, path_and_permissions, two_paths,
+    cred_in, none_of, path_alone, path_and_bytes, path_and_device, path_and_length,
+    path_and_numbers, path_and_owner, path_and_permissions, two_paths,
 };
 use crate::commands::Command;
 use crate::numbers::long_in;
@@ -122,6 +122,7 @@ fn asked_by(
         Command::Chmod => chmod(alloc, cred, now, words),
         Command::Chown => chown(alloc, cred, now, words),
         Command::Times => times(alloc, cred, now, words),
+        Command::Mknod => mknod(alloc, cred, now, words),
         Command::Stat => stat(alloc, cred, words),
         Command::Read => read(alloc, cred, words),
         Command::List => list(alloc, cred, words),
@@ -252,6 +253,20 @@ fn times(alloc: Global, cred: Cred, now: u32, words: Pieces<'_>) -> Result<Scrip
         path,
         atime,
         mtime,
+    }))
+}
+
+/// Reads the words after `mknod`.
+fn mknod(alloc: Global, cred: Cred, now: u32, words: Pieces<'_>) -> Result<ScriptStep, LineFault>
+    ensures { Reads (asked_by Command.Mknod cred now words.entry) result }
+{
+    let (path, perm, device) = path_and_device(alloc, words)?;
+    Ok(ScriptStep::Change(Call::Mknod {
+        cred,
+        now,
+        path,
+        perm,
+        device,
     }))
 }
 

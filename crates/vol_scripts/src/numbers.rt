@@ -1,13 +1,15 @@
-//! Reads numbers and bytes in scripts.
+//! Reads numbers, bytes and kinds of devices in scripts.
 ghost use Rattle.std.specs.Prelude.{◌≡◌, ◌≤◌};
 ghost use Rattle.line_words.specs.Numbers.{number_in};
-ghost use Rattle.vol_scripts.specs.Numbers.{long_in, short_in, permissions_in, bytes_in};
+ghost use Rattle.vol_scripts.specs.Numbers.{long_in, short_in, byte_in, permissions_in, bytes_in, device_kind_in};
 ghost use Rattle.vol_scripts.specs.Scripts.{Reads};
 
 use crate::lines::LineFault;
+use crate::texts::device_letter;
 use hex::FromHexError;
 use line_words::number_in;
 use std::alloc::Global;
+use vol_layout::DeviceKind;
 use vol_volume::Bytes;
 
 /// The greatest permissions: all twelve bits.
@@ -26,6 +28,14 @@ pub(crate) fn short_in(word: &[u8]) -> Option<u16>
     ensures { result ≡ short_in word.now }
 {
     short_number_in(10, u16::MAX, word)
+}
+
+/// Reads an 8-bit decimal number.
+pub(crate) fn byte_in(word: &[u8]) -> Option<u8>
+    ensures { result ≡ byte_in word.now }
+{
+    let number = number_in(10, u64::from(u8::MAX), word)?;
+    Some(number as u8)
 }
 
 /// Reads permissions, an octal number.
@@ -60,4 +70,14 @@ pub(crate) fn bytes_in(alloc: Global, word: &[u8]) -> Result<Bytes, LineFault>
         Err(FromHexError::OutOfMemory) => Err(LineFault::NoMemory),
         Err(_) => Err(LineFault::Unreadable),
     }
+}
+
+/// Reads the letter of a kind of device.
+pub(crate) fn device_kind_in(word: &[u8]) -> Option<DeviceKind>
+    ensures { result ≡ device_kind_in word.now }
+{
+    [DeviceKind::Character, DeviceKind::Block]
+        .iter()
+        .copied()
+        .find(|kind| device_letter(*kind).as_bytes() == word)
 }

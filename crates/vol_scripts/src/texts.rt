@@ -1,10 +1,10 @@
 //! The texts of outcomes.
 ghost use Rattle.std.specs.Prelude.{◌≡◌, IfOk};
 ghost use Rattle.std.specs.String.{string_bytes};
-ghost use Rattle.vol_scripts.specs.Texts.{bytes_text, done_text, kind_text, node_text, permissions_text, reply_text, stat_text};
+ghost use Rattle.vol_scripts.specs.Texts.{bytes_text, device_letter, done_text, kind_text, node_text, permissions_text, reply_text, stat_text};
 
 use std::alloc::{AllocError, Global};
-use vol_layout::Kind;
+use vol_layout::{DeviceKind, Kind};
 use vol_volume::{Done, Reply, Stat};
 
 /// Returns the text of an accepted call's result.
@@ -81,6 +81,16 @@ fn kind_text(kind: Kind) -> &'static str
         Kind::Regular => "file",
         Kind::Directory => "dir",
         Kind::Free | Kind::Special | Kind::Odd => "special",
+    }
+}
+
+/// Returns the letter of a kind of device.
+pub(crate) fn device_letter(kind: DeviceKind) -> &'static str
+    ensures { result.now ≡ device_letter kind }
+{
+    match kind {
+        DeviceKind::Character => "c",
+        DeviceKind::Block => "b",
     }
 }
 

@@ -66,7 +66,7 @@ fn role_by(image: &Image, geometry: &Geometry, usage: Use, holder: Option<Holder
         Use::Boot | Use::SuperBlock | Use::IList => Role::System,
         Use::Free => Role::Free,
         Use::Chain => Role::Chain,
-        Use::Lost => Role::Lost,
+        Use::Lost | Use::Unreadable | Use::Unknown => Role::Lost,
         Use::Twice => Role::Twice,
         Use::Directory | Use::File | Use::Pointer => held_role(image, geometry, holder),
     }

@@ -7,9 +7,9 @@ use Rattle.std.specs.Prelude.{IfOk}
 use Rattle.std.specs.Global.{Vec}
 use Rattle.std.specs.declared.alloc.AllocError.{AllocError}
 use Rattle.std.proofs.lemmas.List.Sums.{count_by-le-length, length-filter}
-use Rattle.vol_inspect.specs.Cells.{cell_count, cell_of, is_hidden, more_common, most_common, most_of, rivals, telling, use_count}
+use Rattle.vol_inspect.specs.Cells.{cell_count, cell_of, has_fault, is_hidden, more_common, most_common, most_of, rivals, telling, use_count}
 use Rattle.vol_inspect.specs.Legend.{is_there, kinds, legend}
-use Rattle.vol_inspect.specs.Laws.{HidesNoFault, NoUseHasMore}
+use Rattle.vol_inspect.specs.Laws.{HidesNoFault, HidesNoGap, NoUseHasMore}
 use Rattle.vol_inspect.specs.declared.cell_groups.Cell.{Cell}
 use Rattle.vol_inspect.specs.declared.cell_groups.Cell.TheVariants as cells
 use Rattle.vol_inspect.specs.declared.uses.Use.{Use}
@@ -31,8 +31,8 @@ cells_few each n some =
     let below = div_below (n + (each - 1)) each (n + 1) (omega (arith, some)) (omega (arith, all, more, some)) in
     omega (arith, below)
 
--- a legend has at most 12 kinds of cells
-legend_few : (blocks : List (Option Use)) (found : List Cell) → length (legend blocks found) ≤ 12
+-- a legend has at most 15 kinds of cells
+legend_few : (blocks : List (Option Use)) (found : List Cell) → length (legend blocks found) ≤ 15
 unfolding legend
 legend_few blocks found =
     let size = length-filter (is_there blocks found) kinds in
@@ -40,7 +40,7 @@ legend_few blocks found =
     omega (arith, size, few)
 
 pub few_kinds : (blocks : List (Option Use)) (found : List Cell) (result : Result (Vec Cell) AllocError)
-    → IfOk result (λ all. all.items ≡ legend blocks found) → IfOk result (λ all. length all.items ≤ 12)
+    → IfOk result (λ all. all.items ≡ legend blocks found) → IfOk result (λ all. length all.items ≤ 15)
 few_kinds blocks found (Ok all) is = let few = legend_few blocks found in omega (arith, few, ap (λ (xs : List Cell). length xs) is)
 few_kinds blocks found (Err refused) is = tt
 
@@ -88,62 +88,81 @@ none_above blocks uses.Boot = within blocks uses.Free rivals 5 (omega arith)
 none_above blocks uses.SuperBlock = within blocks uses.Free rivals 6 (omega arith)
 none_above blocks uses.Lost = within blocks uses.Free rivals 7 (omega arith)
 none_above blocks uses.Twice = within blocks uses.Free rivals 8 (omega arith)
+none_above blocks uses.Unknown = within blocks uses.Free rivals 9 (omega arith)
+none_above blocks uses.Unreadable = within blocks uses.Free rivals 10 (omega arith)
 
 -- the use that a cell shows
 abbrev use_in : Cell → Use
 use_in cells.Blank = uses.Free
 use_in (cells.Of u) = u
 use_in cells.Faulty = uses.Free
+use_in cells.Unsure = uses.Free
 
--- a cell that shows a use is that of the most common one, and hides no fault
-shown_is : (empty lost twice : Bool) (best shown : Use)
-    → (if empty then cells.Blank else if lost || twice then cells.Faulty else cells.Of best) ≡ cells.Of shown
-    → (best ≡ shown) × (lost ≡ false) × (twice ≡ false)
-shown_is true lost twice best shown is = absurd (cc)
-shown_is false true twice best shown is = absurd (cc)
-shown_is false false true best shown is = absurd (cc)
-shown_is false false false best shown is = (ap use_in is, refl, refl)
+-- a cell that shows a use is that of the most common one, and hides no fault and no gap
+shown_is : (empty lost twice unknown unread faulty : Bool) (best shown : Use)
+    → (if empty then cells.Blank else if lost || twice then cells.Faulty
+    else if unknown || unread then (if faulty then cells.Faulty else cells.Unsure) else cells.Of best) ≡ cells.Of shown
+    → (best ≡ shown) × (lost ≡ false) × (twice ≡ false) × (unknown ≡ false) × (unread ≡ false)
+shown_is true lost twice unknown unread faulty best shown is = absurd (cc)
+shown_is false true twice unknown unread faulty best shown is = absurd (cc)
+shown_is false false true unknown unread faulty best shown is = absurd (cc)
+shown_is false false false true unread true best shown is = absurd (cc)
+shown_is false false false true unread false best shown is = absurd (cc)
+shown_is false false false false true true best shown is = absurd (cc)
+shown_is false false false false true false best shown is = absurd (cc)
+shown_is false false false false false faulty best shown is = (ap use_in is, refl, refl, refl, refl)
+
+-- a cell that is unsure has no fault
+unsure_is : (empty lost twice unknown unread faulty : Bool) (best : Use)
+    → (if empty then cells.Blank else if lost || twice then cells.Faulty
+    else if unknown || unread then (if faulty then cells.Faulty else cells.Unsure) else cells.Of best) ≡ cells.Unsure → faulty ≡ false
+unsure_is empty lost twice unknown unread false best is = refl
+unsure_is true lost twice unknown unread true best is = absurd (cc)
+unsure_is false true twice unknown unread true best is = absurd (cc)
+unsure_is false false true unknown unread true best is = absurd (cc)
+unsure_is false false false true unread true best is = absurd (cc)
+unsure_is false false false false true true best is = absurd (cc)
+unsure_is false false false false false true best is = absurd (cc)
 
 -- what isn't hidden has no blocks, or is the use of most
 unhidden : (best u n : ℕ) → (not (u == best) && nat_lt 0 n) ≡ false → (n ≡ 0) ⊎ (u ≡ best)
 unhidden best u n is = grind (arith, nat_tests)
 
-lost_is : (u : Use) → telling uses.Lost ≡ telling u → u ≡ uses.Lost
-lost_is uses.Lost same = refl
-lost_is uses.Free same = absurd (omega (arith, same))
-lost_is uses.Chain same = absurd (omega (arith, same))
-lost_is uses.File same = absurd (omega (arith, same))
-lost_is uses.Pointer same = absurd (omega (arith, same))
-lost_is uses.Directory same = absurd (omega (arith, same))
-lost_is uses.IList same = absurd (omega (arith, same))
-lost_is uses.Boot same = absurd (omega (arith, same))
-lost_is uses.SuperBlock same = absurd (omega (arith, same))
-lost_is uses.Twice same = absurd (omega (arith, same))
+-- the use with a priority is the one at its place among all uses
+ranked : (u : Use) → get_or (uses.Free ∷ rivals) (telling u) uses.Free ≡ u
+ranked uses.Free = refl
+ranked uses.Chain = refl
+ranked uses.File = refl
+ranked uses.Pointer = refl
+ranked uses.Directory = refl
+ranked uses.IList = refl
+ranked uses.Boot = refl
+ranked uses.SuperBlock = refl
+ranked uses.Lost = refl
+ranked uses.Twice = refl
+ranked uses.Unknown = refl
+ranked uses.Unreadable = refl
 
-twice_is : (u : Use) → telling uses.Twice ≡ telling u → u ≡ uses.Twice
-twice_is uses.Twice same = refl
-twice_is uses.Free same = absurd (omega (arith, same))
-twice_is uses.Chain same = absurd (omega (arith, same))
-twice_is uses.File same = absurd (omega (arith, same))
-twice_is uses.Pointer same = absurd (omega (arith, same))
-twice_is uses.Directory same = absurd (omega (arith, same))
-twice_is uses.IList same = absurd (omega (arith, same))
-twice_is uses.Boot same = absurd (omega (arith, same))
-twice_is uses.SuperBlock same = absurd (omega (arith, same))
-twice_is uses.Lost same = absurd (omega (arith, same))
+-- uses with the same priority are the same
+same_use : (u v : Use) → telling u ≡ telling v → u ≡ v
+same_use u v same = sym (ranked u) ∙ (ap (λ n. get_or (uses.Free ∷ rivals) n uses.Free) same ∙ ranked v)
 
--- either a count is zero, or the use is this one
-either : (n best u : ℕ) (shown its : Use) → (u ≡ best → shown ≡ its) → (n ≡ 0) ⊎ (u ≡ best) → (n ≡ 0) ⊎ (shown ≡ its)
-either n best u shown its same (inl none) = inl none
-either n best u shown its same (inr is) = inr (same is)
+-- if a use isn't hidden in a cell that shows a use, no block has it or it is the one shown
+not_hidden : (blocks : List (Option Use)) (best shown u : Use) → best ≡ shown → is_hidden blocks best u ≡ false → (use_count u blocks ≡ 0) ⊎ (shown ≡ u)
+not_hidden blocks best shown u is shows = elim (unhidden (telling best) (telling u) (use_count u blocks) shows) [
+  | inl none ↦ inl none
+  | inr same ↦ inr (sym is ∙ sym (same_use u best same))
+]
 
 -- what a cell that shows a use has
 shown_of : (blocks : List (Option Use)) (shown : Use) → cell_of blocks ≡ cells.Of shown
     → (most_common blocks ≡ shown) × (is_hidden blocks (most_common blocks) uses.Lost ≡ false) × (is_hidden blocks (most_common blocks) uses.Twice ≡ false)
+    × (is_hidden blocks (most_common blocks) uses.Unknown ≡ false) × (is_hidden blocks (most_common blocks) uses.Unreadable ≡ false)
 unfolding cell_of
 shown_of blocks shown is =
-    shown_is (use_count (most_common blocks) blocks == 0) (is_hidden blocks (most_common blocks) uses.Lost)
-    (is_hidden blocks (most_common blocks) uses.Twice) (most_common blocks) shown is
+    let best = most_common blocks in
+    shown_is (use_count best blocks == 0) (is_hidden blocks best uses.Lost) (is_hidden blocks best uses.Twice) (is_hidden blocks best uses.Unknown)
+    (is_hidden blocks best uses.Unreadable) (has_fault blocks) best shown is
 
 pub no_use_has_more : NoUseHasMore
 no_use_has_more blocks shown u is =
@@ -154,9 +173,22 @@ no_use_has_more blocks shown u is =
 pub hides_no_fault : HidesNoFault
 hides_no_fault blocks shown is =
     let it = shown_of blocks shown is in
-    let best = most_common blocks in (
-      either (use_count uses.Lost blocks) (telling best) 8 shown uses.Lost (λ same. sym it.0 ∙ lost_is best same)
-          (unhidden (telling best) 8 (use_count uses.Lost blocks) it.1),
-      either (use_count uses.Twice blocks) (telling best) 9 shown uses.Twice (λ same. sym it.0 ∙ twice_is best same)
-          (unhidden (telling best) 9 (use_count uses.Twice blocks) it.2),
-    )
+    (not_hidden blocks (most_common blocks) shown uses.Lost it.0 it.1, not_hidden blocks (most_common blocks) shown uses.Twice it.0 it.2)
+
+-- of two counts none is above 0
+both_none : (a b : ℕ) → (nat_lt 0 a || nat_lt 0 b) ≡ false → (a ≡ 0) × (b ≡ 0)
+both_none a b is = (grind (arith, nat_tests), grind (arith, nat_tests))
+
+unsure_of : (blocks : List (Option Use)) → cell_of blocks ≡ cells.Unsure → has_fault blocks ≡ false
+unfolding cell_of
+unsure_of blocks is =
+    let best = most_common blocks in
+    unsure_is (use_count best blocks == 0) (is_hidden blocks best uses.Lost) (is_hidden blocks best uses.Twice) (is_hidden blocks best uses.Unknown)
+    (is_hidden blocks best uses.Unreadable) (has_fault blocks) best is
+
+pub hides_no_gap : HidesNoGap
+hides_no_gap blocks shown = (
+  λ is. let it = shown_of blocks shown is in
+      (not_hidden blocks (most_common blocks) shown uses.Unknown it.0 it.3, not_hidden blocks (most_common blocks) shown uses.Unreadable it.0 it.4),
+  λ is. both_none (use_count uses.Lost blocks) (use_count uses.Twice blocks) (unsure_of blocks is),
+)

@@ -18,6 +18,8 @@ telling uses.Boot = 6
 telling uses.SuperBlock = 7
 telling uses.Lost = 8
 telling uses.Twice = 9
+telling uses.Unknown = 10
+telling uses.Unreadable = 11
 
 -- true if a block is shown, and has this use (this project)
 abbrev pub has_use : Use → Option Use → Bool
@@ -34,7 +36,9 @@ more_common blocks a b = if nat_lt (use_count b blocks) (use_count a blocks) the
 
 -- all uses but that of free blocks, the one with the highest priority last (this project)
 abbrev pub rivals : List Use
-rivals = uses.Chain ∷ uses.File ∷ uses.Pointer ∷ uses.Directory ∷ uses.IList ∷ uses.Boot ∷ uses.SuperBlock ∷ uses.Lost ∷ uses.Twice ∷ []
+rivals =
+    uses.Chain ∷ uses.File ∷ uses.Pointer ∷ uses.Directory ∷ uses.IList ∷ uses.Boot ∷ uses.SuperBlock ∷ uses.Lost ∷ uses.Twice ∷ uses.Unknown
+    ∷ uses.Unreadable ∷ []
 
 -- the use of most blocks among a first one and further ones; if several have as many, the last (this project)
 unfoldable pub most_of : List (Option Use) → Use → List Use → Use
@@ -49,13 +53,27 @@ most_common blocks = most_of blocks uses.Free rivals
 abbrev pub is_hidden : List (Option Use) → Use → Use → Bool
 is_hidden blocks best u = not (telling u == telling best) && nat_lt 0 (use_count u blocks)
 
+-- true if the use of most blocks hides a fault: some of them are lost or named twice (this project)
+abbrev pub hides_fault : List (Option Use) → Use → Bool
+hides_fault blocks best = is_hidden blocks best uses.Lost || is_hidden blocks best uses.Twice
+
+-- true if the use of most blocks hides a gap: some of them are unreadable, or their use isn't known (this project)
+abbrev pub hides_gap : List (Option Use) → Use → Bool
+hides_gap blocks best = is_hidden blocks best uses.Unknown || is_hidden blocks best uses.Unreadable
+
+-- true if some blocks are lost or named twice (this project)
+abbrev pub has_fault : List (Option Use) → Bool
+has_fault blocks = nat_lt 0 (use_count uses.Lost blocks) || nat_lt 0 (use_count uses.Twice blocks)
+
 -- the cell of some blocks, of which most have this use (this project)
 abbrev pub cell_with : List (Option Use) → Use → Cell
 cell_with blocks best =
     if use_count best blocks == 0 then shows.Blank
-    else if is_hidden blocks best uses.Lost || is_hidden blocks best uses.Twice then shows.Faulty else shows.Of best
+    else if hides_fault blocks best then shows.Faulty
+    else if hides_gap blocks best then (if has_fault blocks then shows.Faulty else shows.Unsure)
+    else shows.Of best
 
--- the cell of some blocks: the use of most of them, unless that hides a fault (this project)
+-- the cell of some blocks: the use of most of them, unless that hides a fault or a gap (this project)
 unfoldable pub cell_of : List (Option Use) → Cell
 cell_of blocks = cell_with blocks (most_common blocks)
 
@@ -71,8 +89,16 @@ cell_count each n = (n + (each - 1)) / each
 abbrev pub cells : ℕ → List (Option Use) → List Cell
 cells each blocks = map (λ k. cell_of (piece each blocks k)) (range_with_len 0 (cell_count each (length blocks)))
 
--- true if a cell has a fault that isn't that of most of its blocks (this project)
+-- true if a cell has a fault that it doesn't show (this project)
 abbrev pub is_faulty : Cell → Bool
 is_faulty shows.Blank = false
 is_faulty (shows.Of u) = false
 is_faulty shows.Faulty = true
+is_faulty shows.Unsure = false
+
+-- true if a cell has a gap that it doesn't show, and no fault (this project)
+abbrev pub is_unsure : Cell → Bool
+is_unsure shows.Blank = false
+is_unsure (shows.Of u) = false
+is_unsure shows.Faulty = false
+is_unsure shows.Unsure = true

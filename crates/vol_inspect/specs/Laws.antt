@@ -48,3 +48,12 @@ abbrev pub HidesNoFault : Type 0
 HidesNoFault =
     (blocks : List (Option Use)) (shown : Use) → cell_of blocks ≡ cells.Of shown
     → ((use_count uses.Lost blocks ≡ 0) ⊎ (shown ≡ uses.Lost)) × ((use_count uses.Twice blocks ≡ 0) ⊎ (shown ≡ uses.Twice))
+
+-- a cell that shows a use has no unreadable block, nor one whose use isn't known, unless that is the use; and a cell that is unsure has no block that is lost or
+-- named twice (this project)
+abbrev pub HidesNoGap : Type 0
+HidesNoGap =
+    (blocks : List (Option Use)) (shown : Use)
+    → (cell_of blocks ≡ cells.Of shown
+    → ((use_count uses.Unknown blocks ≡ 0) ⊎ (shown ≡ uses.Unknown)) × ((use_count uses.Unreadable blocks ≡ 0) ⊎ (shown ≡ uses.Unreadable)))
+    × (cell_of blocks ≡ cells.Unsure → (use_count uses.Lost blocks ≡ 0) × (use_count uses.Twice blocks ≡ 0))

@@ -1,7 +1,7 @@
 -- The legend of a picture: what its cells show, with numbers of blocks.
 use Rattle.std.specs.Prelude.{ℕ, nat_lt, Bool, true, false, List, [], ◌∷◌, Option, None, Some, codes, filter}
 use Rattle.std.specs.List.{count_by}
-use Rattle.vol_inspect.specs.Cells.{is_faulty, use_count}
+use Rattle.vol_inspect.specs.Cells.{is_faulty, is_unsure, use_count}
 use Rattle.vol_inspect.specs.declared.cell_groups.Cell.{Cell}
 use Rattle.vol_inspect.specs.declared.cell_groups.Cell.TheVariants as cells
 use Rattle.vol_inspect.specs.declared.uses.Use.{Use}
@@ -19,6 +19,8 @@ letter uses.Free = codes "o"
 letter uses.Chain = codes "c"
 letter uses.Lost = codes "L"
 letter uses.Twice = codes "T"
+letter uses.Unreadable = codes "U"
+letter uses.Unknown = codes "?"
 
 -- the name of a use (this project)
 abbrev pub name : Use → List ℕ
@@ -32,30 +34,35 @@ name uses.Free = codes "free"
 name uses.Chain = codes "chain"
 name uses.Lost = codes "lost"
 name uses.Twice = codes "named twice"
+name uses.Unreadable = codes "unreadable"
+name uses.Unknown = codes "unknown"
 
 -- what a cell shows, in words (this project)
 abbrev pub label : Cell → List ℕ
 label cells.Blank = codes "other blocks"
 label (cells.Of u) = name u
 label cells.Faulty = codes "cells with some blocks that are lost or named twice"
+label cells.Unsure = codes "cells with some blocks that are unreadable or of unknown use"
 
 -- true if a block isn't shown (this project)
 abbrev pub is_blank : Option Use → Bool
 is_blank None = true
 is_blank (Some u) = false
 
--- the number in the legend for a kind of cell: how many blocks have the use, or aren't shown; but how many cells have a fault that isn't that of most
--- of their blocks (this project)
+-- the number in the legend for a kind of cell: how many blocks have the use, or aren't shown; but how many cells have a fault or a gap that they don't
+-- show (this project)
 abbrev pub legend_count : List (Option Use) → List Cell → Cell → ℕ
 legend_count blocks found cells.Blank = count_by is_blank blocks
 legend_count blocks found (cells.Of u) = use_count u blocks
 legend_count blocks found cells.Faulty = count_by is_faulty found
+legend_count blocks found cells.Unsure = count_by is_unsure found
 
 -- all kinds of cells, in the order of the legend (this project)
 abbrev pub kinds : List Cell
 kinds =
     cells.Of uses.Boot ∷ cells.Of uses.SuperBlock ∷ cells.Of uses.IList ∷ cells.Of uses.Directory ∷ cells.Of uses.File ∷ cells.Of uses.Pointer
-    ∷ cells.Of uses.Free ∷ cells.Of uses.Chain ∷ cells.Of uses.Lost ∷ cells.Of uses.Twice ∷ cells.Faulty ∷ cells.Blank ∷ []
+    ∷ cells.Of uses.Free ∷ cells.Of uses.Chain ∷ cells.Of uses.Lost ∷ cells.Of uses.Twice ∷ cells.Of uses.Unreadable ∷ cells.Of uses.Unknown
+    ∷ cells.Faulty ∷ cells.Unsure ∷ cells.Blank ∷ []
 
 -- true if the legend has a kind of cell (this project)
 abbrev pub is_there : List (Option Use) → List Cell → Cell → Bool

@@ -20,18 +20,22 @@ colour uses.Free = 47
 colour uses.Chain = 45
 colour uses.Lost = 103
 colour uses.Twice = 41
+colour uses.Unreadable = 101
+colour uses.Unknown = 105
 
 -- the number of the background colour of a cell; 49 is the terminal's own (ECMA-48)
 abbrev pub cell_colour : Cell → ℕ
 cell_colour cells.Blank = 49
 cell_colour (cells.Of u) = colour u
 cell_colour cells.Faulty = 41
+cell_colour cells.Unsure = 101
 
 -- the letter of a cell (this project)
 abbrev pub cell_letter : Cell → List ℕ
 cell_letter cells.Blank = codes "."
 cell_letter (cells.Of u) = letter u
 cell_letter cells.Faulty = codes "!"
+cell_letter cells.Unsure = codes "%"
 
 -- a cell: its letter; in a coloured picture, between the codes that set and reset the colour (ECMA-48)
 abbrev pub cell_text : Bool → Cell → List ℕ

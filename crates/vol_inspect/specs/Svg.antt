@@ -6,6 +6,7 @@ use Rattle.vol_inspect.specs.Legend.{label, legend, legend_count, letter}
 use Rattle.vol_inspect.specs.declared.cell_groups.Cell.{Cell}
 use Rattle.vol_inspect.specs.declared.cell_groups.Cell.TheVariants as cells
 use Rattle.vol_inspect.specs.declared.uses.Use.{Use}
+use Rattle.vol_inspect.specs.declared.uses.Use.TheVariants as uses
 use Rattle.vol_inspect.specs.declared.svg_picture.TheConstants.{STYLE}
 
 -- the number of squares in a row: the least power of two from 4 to 128 with which `n` squares make no more rows than that, or 128 (this project)
@@ -20,8 +21,10 @@ row_count width n = (n + (width - 1)) / width
 -- the class of a cell, by which it has its colour (SVG 1.1)
 abbrev pub class : Cell → List ℕ
 class cells.Blank = codes "n"
+class (cells.Of uses.Unknown) = codes "q"
 class (cells.Of u) = letter u
 class cells.Faulty = codes "x"
+class cells.Unsure = codes "y"
 
 -- the text before the squares: the size of the picture, its title, and the colours (SVG 1.1)
 abbrev pub head_text : ℕ → ℕ → ℕ → ℕ → List ℕ

@@ -1,6 +1,6 @@
 //! The cells of a picture, each for one block or several.
 ghost use Rattle.std.specs.Prelude.{◌≡◌, ◌+◌, ◌*◌, ◌<◌, ◌≤◌, ◌^◌, ℕ, length, IfOk};
-ghost use Rattle.vol_inspect.specs.Cells.{cell_count, cell_of, cell_with, cells, has_use, is_hidden, more_common, most_common, most_of, piece, telling, use_count};
+ghost use Rattle.vol_inspect.specs.Cells.{cell_count, cell_of, cell_with, cells, has_fault, has_use, hides_fault, hides_gap, is_hidden, more_common, most_common, most_of, piece, telling, use_count};
 
 use crate::uses::Use;
 use std::alloc::{AllocError, Global};
@@ -12,12 +12,14 @@ pub enum Cell {
     Blank,
     /// The use of most of its blocks.
     Of(Use),
-    /// Some of its blocks are lost or named twice, but most aren't.
+    /// Some of its blocks are lost or named twice, and another use has most.
     Faulty,
+    /// Some of its blocks are unreadable or their use isn't known, and another use has most; none is lost or named twice.
+    Unsure,
 }
 
 /// The uses that may be more common than that of free blocks, the one with the highest priority last.
-const RIVALS: [Use; 9] = [
+const RIVALS: [Use; 11] = [
     Use::Chain,
     Use::File,
     Use::Pointer,
@@ -27,11 +29,13 @@ const RIVALS: [Use; 9] = [
     Use::SuperBlock,
     Use::Lost,
     Use::Twice,
+    Use::Unknown,
+    Use::Unreadable,
 ];
 
 impl Use {
-    /// Returns the priority of a use if several uses have the most blocks of a cell: faults first, then uses that occur once on a volume, then
-    /// directories, indirect blocks, files and free blocks.
+    /// Returns the priority of a use if several uses have the most blocks of a cell: what is unreadable or unknown first, then faults, then uses that
+    /// occur once on a volume, then directories, indirect blocks, files and free blocks.
     fn telling(self) -> u8
         ensures { result ≡ telling self }
     {
@@ -46,6 +50,8 @@ impl Use {
             Use::SuperBlock => 7,
             Use::Lost => 8,
             Use::Twice => 9,
+            Use::Unknown => 10,
+            Use::Unreadable => 11,
         }
     }
 }
@@ -107,10 +113,31 @@ fn is_hidden(blocks: &[Option<Use>], best: Use, usage: Use) -> bool
     usage.telling() != best.telling() && use_count(usage, blocks) > 0
 }
 
-/// Returns the cell of some blocks: the use of most of them, unless that hides that some are lost or named twice. If several uses have as many
-/// blocks, it is the one with the highest priority.
+/// True if the use of most blocks hides that some of them are lost or named twice.
+fn hides_fault(blocks: &[Option<Use>], best: Use) -> bool
+    ensures { result ≡ hides_fault blocks.now best }
+{
+    is_hidden(blocks, best, Use::Lost) || is_hidden(blocks, best, Use::Twice)
+}
+
+/// True if the use of most blocks hides that some of them are unreadable, or that their use isn't known.
+fn hides_gap(blocks: &[Option<Use>], best: Use) -> bool
+    ensures { result ≡ hides_gap blocks.now best }
+{
+    is_hidden(blocks, best, Use::Unknown) || is_hidden(blocks, best, Use::Unreadable)
+}
+
+/// True if some blocks are lost or named twice.
+fn has_fault(blocks: &[Option<Use>]) -> bool
+    ensures { result ≡ has_fault blocks.now }
+{
+    use_count(Use::Lost, blocks) > 0 || use_count(Use::Twice, blocks) > 0
+}
+
+/// Returns the cell of some blocks: the use of most of them, unless that hides that some are lost or named twice, unreadable or of unknown use. If
+/// several uses have as many blocks, it is the one with the highest priority.
 ///
-/// Visits the blocks 19 to 21 times.
+/// Visits the blocks 23 to 29 times.
 pub fn cell_of(blocks: &[Option<Use>]) -> Cell
     ensures { result ≡ cell_of blocks.now }
 {
@@ -124,10 +151,17 @@ fn cell_with(blocks: &[Option<Use>], best: Use) -> Cell
     if use_count(best, blocks) == 0 {
         return Cell::Blank;
     }
-    if is_hidden(blocks, best, Use::Lost) || is_hidden(blocks, best, Use::Twice) {
+    if hides_fault(blocks, best) {
         return Cell::Faulty;
     }
-    Cell::Of(best)
+    if !hides_gap(blocks, best) {
+        return Cell::Of(best);
+    }
+    if has_fault(blocks) {
+        Cell::Faulty
+    } else {
+        Cell::Unsure
+    }
 }
 
 /// Returns the blocks of cell `k`, if each cell is for `each` blocks.
@@ -151,7 +185,7 @@ pub(crate) fn cell_count(each: usize, n: usize) -> usize
 }
 
 /// Returns the cells of `each` blocks, in order; the last one is for the blocks that are left. A block without a use isn't shown. A cell shows the use
-/// of most of its blocks, or that some of them are lost or named twice.
+/// of most of its blocks, or that some of them are lost or named twice, unreadable or of unknown use.
 pub fn cells(alloc: Global, blocks: &[Option<Use>], each: usize) -> Result<Vec<Cell>, AllocError>
     requires some { 1 ≤ each }
     requires narrow { each < 2 ^ 32 }

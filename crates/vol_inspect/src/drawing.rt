@@ -37,6 +37,8 @@ impl Use {
             Use::Chain => 45,
             Use::Lost => 103,
             Use::Twice => 41,
+            Use::Unreadable => 101,
+            Use::Unknown => 105,
         }
     }
 }
@@ -50,6 +52,7 @@ impl Cell {
             Cell::Blank => 49,
             Cell::Of(usage) => usage.colour(),
             Cell::Faulty => 41,
+            Cell::Unsure => 101,
         }
     }
 
@@ -61,6 +64,7 @@ impl Cell {
             Cell::Blank => ".",
             Cell::Of(usage) => usage.letter(),
             Cell::Faulty => "!",
+            Cell::Unsure => "%",
         }
     }
 }

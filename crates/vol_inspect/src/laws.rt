@@ -1,5 +1,5 @@
 //! Laws about the reports on an i-node and on a block, and about pictures. Each function does nothing; its proved contract is the law.
-ghost use Rattle.vol_inspect.specs.Laws.{HidesNoFault, NoUseHasMore, ShowsLost, ShowsPlaces};
+ghost use Rattle.vol_inspect.specs.Laws.{HidesNoFault, HidesNoGap, NoUseHasMore, ShowsLost, ShowsPlaces};
 
 /// The extents of an i-node are the blocks in its block map, in its order, each with the number of levels of blocks below it and the first logical
 /// block at or below its position.
@@ -20,4 +20,9 @@ pub fn cells_show_the_most_common_use()
 /// A cell that shows a use hides no block that is lost or named twice.
 pub fn cells_hide_no_fault()
     ensures { HidesNoFault }
+{}
+
+/// A cell that shows a use hides no block that is unreadable or of unknown use, and a cell that shows such a gap hides no fault.
+pub fn cells_hide_no_gap()
+    ensures { HidesNoGap }
 {}

@@ -1,6 +1,6 @@
 //! The legend of a picture of the blocks.
 ghost use Rattle.std.specs.Prelude.{◌≡◌, ◌≤◌, length, IfOk};
-ghost use Rattle.vol_inspect.specs.Cells.{is_faulty};
+ghost use Rattle.vol_inspect.specs.Cells.{is_faulty, is_unsure};
 ghost use Rattle.vol_inspect.specs.Legend.{is_blank, is_there, label, legend, legend_count, letter, name};
 
 use crate::cell_groups::{Cell, use_count};
@@ -8,7 +8,7 @@ use crate::uses::Use;
 use std::alloc::{AllocError, Global};
 
 /// All kinds of cells, in the order of the legend.
-pub(crate) const KINDS: [Cell; 12] = [
+pub(crate) const KINDS: [Cell; 15] = [
     Cell::Of(Use::Boot),
     Cell::Of(Use::SuperBlock),
     Cell::Of(Use::IList),
@@ -19,7 +19,10 @@ pub(crate) const KINDS: [Cell; 12] = [
     Cell::Of(Use::Chain),
     Cell::Of(Use::Lost),
     Cell::Of(Use::Twice),
+    Cell::Of(Use::Unreadable),
+    Cell::Of(Use::Unknown),
     Cell::Faulty,
+    Cell::Unsure,
     Cell::Blank,
 ];
 
@@ -39,6 +42,8 @@ impl Use {
             Use::Chain => "c",
             Use::Lost => "L",
             Use::Twice => "T",
+            Use::Unreadable => "U",
+            Use::Unknown => "?",
         }
     }
 
@@ -57,6 +62,8 @@ impl Use {
             Use::Chain => "chain",
             Use::Lost => "lost",
             Use::Twice => "named twice",
+            Use::Unreadable => "unreadable",
+            Use::Unknown => "unknown",
         }
     }
 }
@@ -70,21 +77,32 @@ impl Cell {
             Cell::Blank => "other blocks",
             Cell::Of(usage) => usage.name(),
             Cell::Faulty => "cells with some blocks that are lost or named twice",
+            Cell::Unsure => "cells with some blocks that are unreadable or of unknown use",
         }
     }
 
-    /// True if the cell has a fault that isn't that of most of its blocks.
+    /// True if the cell has a fault that it doesn't show.
     fn is_faulty(self) -> bool
         ensures { result ≡ is_faulty self }
     {
         match self {
-            Cell::Blank | Cell::Of(_) => false,
+            Cell::Blank | Cell::Of(_) | Cell::Unsure => false,
             Cell::Faulty => true,
+        }
+    }
+
+    /// True if the cell has a gap that it doesn't show, and no fault.
+    fn is_unsure(self) -> bool
+        ensures { result ≡ is_unsure self }
+    {
+        match self {
+            Cell::Blank | Cell::Of(_) | Cell::Faulty => false,
+            Cell::Unsure => true,
         }
     }
 }
 
-/// Returns the number in the legend for a kind of cell: how many blocks have the use, or aren't shown; but how many cells are `Faulty`.
+/// Returns the number in the legend for a kind of cell: how many blocks have the use, or aren't shown; but how many cells are `Faulty` or `Unsure`.
 pub(crate) fn legend_count(blocks: &[Option<Use>], cells: &[Cell], kind: Cell) -> usize
     ensures { result ≡ legend_count blocks.now cells.now kind }
 {
@@ -92,6 +110,7 @@ pub(crate) fn legend_count(blocks: &[Option<Use>], cells: &[Cell], kind: Cell) -
         Cell::Blank => blocks.iter().filter(|block| is_blank(**block)).count(),
         Cell::Of(usage) => use_count(usage, blocks),
         Cell::Faulty => cells.iter().filter(|cell| cell.is_faulty()).count(),
+        Cell::Unsure => cells.iter().filter(|cell| cell.is_unsure()).count(),
     }
 }
 
@@ -119,7 +138,7 @@ pub(crate) fn legend(
     cells: &[Cell],
 ) -> Result<Vec<Cell>, AllocError>
     ensures all { IfOk result (λ kinds. kinds.items ≡ legend blocks.now cells.now) }
-    ensures few { IfOk result (λ kinds. length kinds.items ≤ 12) }
+    ensures few { IfOk result (λ kinds. length kinds.items ≤ 15) }
 {
     KINDS
         .iter()

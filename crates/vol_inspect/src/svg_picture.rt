@@ -11,7 +11,7 @@ use std::alloc::{AllocError, Global};
 
 /// The fonts and colours of a picture.
 const STYLE: &str =
-    "<style>text{font:10px sans-serif}.B{fill:#888}.S{fill:#444}.i{fill:#a6761d}.d{fill:#1f78b4}.f{fill:#33a02c}.p{fill:#b2df8a}.o{fill:#e8e8e8}.c{fill:#c8b8e8}.L{fill:#ff7f00}.T{fill:#e31a1c}.x{fill:#fb9a99;stroke:#e31a1c}.n{fill:#fafafa}</style>\n";
+    "<style>text{font:10px sans-serif}.B{fill:#888}.S{fill:#444}.i{fill:#a6761d}.d{fill:#1f78b4}.f{fill:#33a02c}.p{fill:#b2df8a}.o{fill:#e8e8e8}.c{fill:#c8b8e8}.L{fill:#ff7f00}.T{fill:#e31a1c}.U{fill:#6a3d9a}.q{fill:#ffff99}.x{fill:#fb9a99;stroke:#e31a1c}.y{fill:#cab2d6;stroke:#6a3d9a}.n{fill:#fafafa}</style>\n";
 
 impl Cell {
     /// Returns the class of the cell, by which it has its colour.
@@ -20,8 +20,10 @@ impl Cell {
     {
         match self {
             Cell::Blank => "n",
+            Cell::Of(Use::Unknown) => "q",
             Cell::Of(usage) => usage.letter(),
             Cell::Faulty => "x",
+            Cell::Unsure => "y",
         }
     }
 }

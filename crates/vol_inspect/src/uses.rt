@@ -34,6 +34,10 @@ pub enum Use {
     Lost,
     /// A block that two block-map positions point to, or one if it is also in the free list.
     Twice,
+    /// A block that couldn't be read. No block of an image has this use; it is for pictures of what is left of a volume.
+    Unreadable,
+    /// A block whose use isn't known, since blocks that couldn't be read may tell it. It is for such pictures too.
+    Unknown,
 }
 
 /// Returns the use of each block of a volume, from block 0 to the last, computed from the block maps of all files and from the free list up to its

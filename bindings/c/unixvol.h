@@ -75,7 +75,8 @@ enum unixvol_number {
     UNIXVOL_BOUNDS = 303,        /* the sizes aren't those of a volume */
     UNIXVOL_TOO_MANY = 304,      /* the journal can't be cut: its records' numbers would reach 2^64 */
     UNIXVOL_NO_REPORT = 305,     /* the letter is not i, d or n */
-    UNIXVOL_NO_LOOK = 306        /* there is no such look or comparison, or a path isn't UTF-8 */
+    UNIXVOL_NO_LOOK = 306,       /* there is no such look or comparison, or a path isn't UTF-8 */
+    UNIXVOL_NO_DEVICE = 307      /* the letter is not c or b */
 };
 
 /* Puts the text of such a number into a buffer, as "NoEntry" or "unsound, rule 7"; count is how many bytes it has. 32
@@ -276,6 +277,12 @@ int32_t unixvol_create(unixvol *volume, uint16_t uid, uint16_t gid, uint32_t now
                        size_t path_count, uint16_t permissions, uint16_t *inode);
 int32_t unixvol_mkdir(unixvol *volume, uint16_t uid, uint16_t gid, uint32_t now, const void *path,
                       size_t path_count, uint16_t permissions, uint16_t *inode);
+
+/* Makes a special file, and hands out its i-number: of a device of characters for the letter c, of blocks for b, with
+ * these numbers. Only user 0 may. */
+int32_t unixvol_mknod(unixvol *volume, uint16_t uid, uint16_t gid, uint32_t now, const void *path,
+                      size_t path_count, uint16_t permissions, uint8_t kind, uint8_t major, uint8_t minor,
+                      uint16_t *inode);
 
 /* Gives a node other than a directory a further name. */
 int32_t unixvol_link(unixvol *volume, uint16_t uid, uint16_t gid, uint32_t now, const void *source,

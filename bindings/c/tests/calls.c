@@ -104,6 +104,37 @@ static void test_calls(void)
     unixvol_close(&volume);
 }
 
+/* Special files: what their i-nodes hold, and who may make them. */
+static void test_special_files(void)
+{
+    unixvol volume = UNIXVOL_CLOSED;
+    unixvol_node node;
+    uint16_t inode = 0;
+    has("no volume", UNIXVOL_IS_CLOSED, unixvol_mknod(&volume, 0, 0, MOMENT, UNIXVOL_TEXT("/x"), 0, 'x', 0, 0, &inode));
+    make(&volume);
+    has("mknod", UNIXVOL_DONE, unixvol_mknod(&volume, 0, 4, MOMENT, UNIXVOL_TEXT("/tty"), 0620, 'c', 3, 5, &inode));
+    has("its i-number", 94, inode);
+    has("stat", UNIXVOL_DONE, unixvol_stat(&volume, 0, 0, UNIXVOL_TEXT("/tty"), &node));
+    unixvol_node wanted = {0, MOMENT, MOMENT, MOMENT, 94, 0620, 1, 0, 4, UNIXVOL_SPECIAL, true};
+    same("a special file", &wanted, &node, sizeof node);
+    has("mknod", UNIXVOL_DONE, unixvol_mknod(&volume, 0, 0, MOMENT, UNIXVOL_TEXT("/rk0"), 0600, 'b', 0, 255, &inode));
+    static uint8_t image[SIZE];
+    has("image", UNIXVOL_DONE, unixvol_image(&volume, image, SIZE));
+    /* I-node 94 is the sixth of block 13, and 93 the fifth: 64 bytes each, the addresses from byte 12 on. */
+    const uint8_t *tty = image + 13 * 512 + 5 * 64, *disk = tty - 64;
+    has("the mode of a device of characters", 0020620, tty[0] + 256 * tty[1]);
+    has("its numbers", 0x000305, 65536L * tty[12] + 256L * tty[14] + tty[13]);
+    has("the mode of a device of blocks", 0060600, disk[0] + 256 * disk[1]);
+    has("its numbers", 0x0000ff, 65536L * disk[12] + 256L * disk[14] + disk[13]);
+    inode = 7;
+    has("no such device", UNIXVOL_NO_DEVICE, unixvol_mknod(&volume, 0, 0, MOMENT, UNIXVOL_TEXT("/x"), 0, 'p', 0, 0, &inode));
+    has("not user 0", UNIXVOL_NOT_OWNER, unixvol_mknod(&volume, 7, 0, MOMENT, UNIXVOL_TEXT("/x"), 0, 'c', 0, 0, &inode));
+    has("a name that is there", UNIXVOL_EXISTS, unixvol_mknod(&volume, 0, 0, MOMENT, UNIXVOL_TEXT("/motd"), 0, 'c', 0, 0, &inode));
+    has("the root", UNIXVOL_EXISTS, unixvol_mknod(&volume, 0, 0, MOMENT, UNIXVOL_TEXT("/"), 0, 'c', 0, 0, &inode));
+    has("an i-number that isn't set", 7, inode);
+    unixvol_close(&volume);
+}
+
 /* A file with indirect and double indirect blocks, by calls that go through them. */
 static void test_big_file(void)
 {
@@ -361,6 +392,7 @@ static void *test_all(void *unused)
 {
     test_queries();
     test_calls();
+    test_special_files();
     test_big_file();
     test_images();
     test_names();

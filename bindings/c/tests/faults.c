@@ -163,6 +163,10 @@ static int32_t call_mkdir(unixvol *volume, outcome *made)
 {
     return unixvol_mkdir(volume, AT_ROOT, "/new", 4, 0755, (uint16_t *)(void *)made->bytes);
 }
+static int32_t call_mknod(unixvol *volume, outcome *made)
+{
+    return unixvol_mknod(volume, AT_ROOT, "/new", 4, 0620, 'c', 3, 5, (uint16_t *)(void *)made->bytes);
+}
 static int32_t call_link(unixvol *volume, outcome *made)
 {
     (void)made;
@@ -253,6 +257,7 @@ static const struct {
     {"name", call_name, false},
     {"create", call_create, true},
     {"mkdir", call_mkdir, true},
+    {"mknod", call_mknod, true},
     {"link", call_link, true},
     {"unlink", call_unlink, true},
     {"rmdir", call_rmdir, true},

@@ -141,6 +141,20 @@ class Files(unittest.TestCase):
             with made() as other, self.assertRaises(ValueError):
                 (other / "motd").hardlink_to(volume / "motd")
 
+    def test_special_files(self):
+        with made() as volume:
+            inode = (volume / "etc/tty").mknod("c", 3, 5, 0o620)
+            found = (volume / "etc/tty").stat()
+            self.assertEqual((found.inode, found.kind, found.permissions, found.links), (inode, "special", 0o620, 1))
+            (volume / "etc/rk0").mknod("b", 0, 255)
+            rows = [(row.path, row.kind, row.major, row.minor) for row in unixvol.look(bytes(volume), 7).ls("/etc")[-2:]]
+            self.assertEqual(rows, [("/etc/rk0", "block", 0, 255), ("/etc/tty", "character", 3, 5)])
+            self.assertRaises(unixvol.Exists, (volume / "etc/tty").mknod, "c", 3, 5)
+            self.assertRaises(unixvol.NoDevice, (volume / "x").mknod, "p", 3, 5)
+            self.assertRaises(OverflowError, (volume / "x").mknod, "c", 256, 5)
+            volume.uid = 7
+            self.assertRaises(unixvol.NotOwner, (volume / "x").mknod, "c", 3, 5)
+
     def test_times(self):
         with made() as volume:
             volume.now = moment = datetime(1990, 1, 1, tzinfo=timezone.utc)

@@ -172,6 +172,12 @@ class NoLook(UnixvolError, ValueError):
     number = 306
 
 
+class NoDevice(UnixvolError, ValueError):
+    """No kind of device has that letter."""
+
+    number = 307
+
+
 class NotShown(UnixvolError, ValueError):
     """A command shows nothing, for another reason than those above. Its `lines` say why."""
 
@@ -209,7 +215,7 @@ class Locked(FileFault, BlockingIOError):
 
 
 _REFUSALS = {kind.number: kind for kind in Refusal.__subclasses__()}
-_OTHERS: dict[int, type[UnixvolError]] = {kind.number: kind for kind in (Closed, NoEdition, Bounds, TooMany, NoReport, NoLook)}
+_OTHERS: dict[int, type[UnixvolError]] = {kind.number: kind for kind in (Closed, NoEdition, Bounds, TooMany, NoReport, NoLook, NoDevice)}
 
 
 def check(number: int, path: str | None = None) -> None:

@@ -148,6 +148,7 @@ FUNCTIONS: dict[str, list[Any]] = {
     "about": [_handle, POINTER(Sizes)],
     "create": [*_call, c_uint16, POINTER(c_uint16)],
     "mkdir": [*_call, c_uint16, POINTER(c_uint16)],
+    "mknod": [*_call, c_uint16, c_uint8, c_uint8, c_uint8, POINTER(c_uint16)],
     "link": [*_call, *_given],
     "unlink": _call,
     "rmdir": _call,

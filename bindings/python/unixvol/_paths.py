@@ -14,7 +14,7 @@ from datetime import datetime, timezone
 from pathlib import PurePosixPath
 from typing import TYPE_CHECKING, Any, Literal
 
-from ._faults import Exists, NoEntry, NotDirectory
+from ._faults import Exists, NoDevice, NoEntry, NotDirectory
 from ._library import Entry, Moment, Node, room, seconds, word
 
 if TYPE_CHECKING:
@@ -160,6 +160,13 @@ class VolumePath:
         """Makes an empty regular file, and returns its i-number."""
         return self._make("create", permissions)
 
+    def mknod(self, kind: str, major: int, minor: int, permissions: int = 0o644) -> int:
+        """Makes a special file, and returns its i-number: of a device of characters for "c", of blocks for "b". Only user 0
+        may."""
+        if kind not in ("c", "b"):
+            raise NoDevice(kind)
+        return self._make("mknod", permissions, ord(kind), word(major, 8, "major"), word(minor, 8, "minor"))
+
     def mkdir(self, permissions: int = 0o755, parents: bool = False, exist_ok: bool = False) -> None:
         """Makes a directory; with `parents` those on the way too. With `exist_ok` it may be there already."""
         try:
@@ -238,9 +245,9 @@ class VolumePath:
     def _call(self, name: str, *more: Any) -> None:
         self.volume._change(name, str(self), *more)
 
-    def _make(self, name: str, permissions: int) -> int:
+    def _make(self, name: str, permissions: int, *more: Any) -> int:
         inode = ctypes.c_uint16()
-        self._call(name, word(permissions, 16, "permissions"), inode)
+        self._call(name, word(permissions, 16, "permissions"), *more, inode)
         return inode.value
 
     def _kind(self) -> Kind | None:

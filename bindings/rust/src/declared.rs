@@ -117,6 +117,7 @@ extern "C" {
     pub fn unixvol_about(volume: &mut Handle, about: &mut About) -> i32;
     pub fn unixvol_create(volume: &mut Handle, uid: u16, gid: u16, now: u32, path: *const u8, path_count: usize, permissions: u16, inode: &mut u16) -> i32;
     pub fn unixvol_mkdir(volume: &mut Handle, uid: u16, gid: u16, now: u32, path: *const u8, path_count: usize, permissions: u16, inode: &mut u16) -> i32;
+    pub fn unixvol_mknod(volume: &mut Handle, uid: u16, gid: u16, now: u32, path: *const u8, path_count: usize, permissions: u16, kind: u8, major: u8, minor: u8, inode: &mut u16) -> i32;
     pub fn unixvol_link(volume: &mut Handle, uid: u16, gid: u16, now: u32, source: *const u8, source_count: usize, target: *const u8, target_count: usize) -> i32;
     pub fn unixvol_unlink(volume: &mut Handle, uid: u16, gid: u16, now: u32, path: *const u8, path_count: usize) -> i32;
     pub fn unixvol_rmdir(volume: &mut Handle, uid: u16, gid: u16, now: u32, path: *const u8, path_count: usize) -> i32;

@@ -10,7 +10,7 @@ pub use declared::{About, Entry, Node, Repaired, RescueView, View};
 use std::fmt;
 
 /// Why something was refused, by the number of `unixvol.h`: 1 to 112 a refusal, 200 and a rule no sound volume, 301 to
-/// 306 a wrong argument. Nothing has changed.
+/// 307 a wrong argument. Nothing has changed.
 #[derive(Clone, Copy, Debug, PartialEq, Eq)]
 pub struct Error(pub i32);
 
@@ -38,6 +38,22 @@ pub struct Caller {
     pub uid: u16,
     pub gid: u16,
     pub now: u32,
+}
+
+/// The kind of a special file.
+#[repr(u8)]
+#[derive(Clone, Copy, Debug, PartialEq, Eq)]
+pub enum DeviceKind {
+    Character = b'c',
+    Block = b'b',
+}
+
+/// The device that a special file stands for.
+#[derive(Clone, Copy, Debug, PartialEq, Eq)]
+pub struct Device {
+    pub kind: DeviceKind,
+    pub major: u8,
+    pub minor: u8,
 }
 
 /// A volume in memory.
@@ -261,6 +277,17 @@ impl Volume {
         let (path, count) = (path.as_ptr(), path.len());
         let number =
             unsafe { unixvol_mkdir(&mut self.0, by.uid, by.gid, by.now, path, count, permissions, &mut inode) };
+        done(number, inode)
+    }
+
+    /// Makes a special file, and returns its i-number. Only user 0 may.
+    pub fn mknod(&mut self, by: Caller, path: &[u8], permissions: u16, device: Device) -> Result<u16, Error> {
+        let Device { kind, major, minor } = device;
+        let (kind, mut inode) = (kind as u8, 0);
+        let (path, count) = (path.as_ptr(), path.len());
+        let number = unsafe {
+            unixvol_mknod(&mut self.0, by.uid, by.gid, by.now, path, count, permissions, kind, major, minor, &mut inode)
+        };
         done(number, inode)
     }
 

@@ -4,6 +4,8 @@ use Rattle.vol_dir.specs.Refusals.{number_of}
 use Rattle.vol_dir.specs.declared.refusal.Refusal.{Refusal}
 use Rattle.vol_layout.specs.declared.edition.Edition.{Edition}
 use Rattle.vol_layout.specs.declared.edition.Edition.TheVariants.{V6, V7}
+use Rattle.vol_layout.specs.declared.mode.DeviceKind.{DeviceKind}
+use Rattle.vol_layout.specs.declared.mode.DeviceKind.TheVariants as devices
 use Rattle.vol_volume.specs.Answer.{Answers}
 use Rattle.vol_volume.specs.Journal.{Refuses}
 use Rattle.vol_volume.specs.Volume.{Mounted, reads_as, Accepts}
@@ -63,7 +65,15 @@ pub record IsMade (old new : Opened) (call : Call) (done : Done) : Type 0 where
 abbrev pub MakesNode : Call → Type 0
 MakesNode (calls.Create cred now path perm) = Unit {0}
 MakesNode (calls.Mkdir cred now path perm) = Unit {0}
+MakesNode (calls.Mknod cred now path perm device) = Unit {0}
 MakesNode _ = ⊥
+
+-- the kind of device with a letter (mknod, section 8 of the manual of the sixth edition, section 1 of the seventh's)
+abbrev pub device_kind_of : ℕ → Option DeviceKind
+device_kind_of letter =
+    if nat_eq letter 99 then Some devices.Character
+    else if nat_eq letter 98 then Some devices.Block
+    else None
 
 -- the volume of a handle accepted a call, and the handle holds the resulting volume (this project)
 abbrev pub Makes : Option Opened → Option Opened → Call → Done → Type 0

@@ -26,6 +26,7 @@ own_text number =
     else if nat_eq number 304 then codes "too many records"
     else if nat_eq number 305 then codes "no such report"
     else if nat_eq number 306 then codes "no such look"
+    else if nat_eq number 307 then codes "no such device"
     else codes "unknown"
 
 -- the text of a broken rule (this project)

@@ -3,7 +3,7 @@ use Rattle.std.specs.Prelude.{◌≡◌, ℕ, ◌+◌, ◌*◌, ◌^◌, ◌<◌
 use Rattle.std.specs.List.{sum_by}
 use Rattle.vol_volume.specs.Volume.{Mounted, after_cut}
 use Rattle.vol_volume.specs.declared.calls.Call.{Call}
-use Rattle.vol_volume.specs.declared.calls.Call.TheVariants.{Create, Mkdir, Link, Unlink, Rmdir, Write, Truncate, Chmod, Chown, Times}
+use Rattle.vol_volume.specs.declared.calls.Call.TheVariants.{Create, Mkdir, Link, Unlink, Rmdir, Write, Truncate, Chmod, Chown, Times, Mknod}
 use Rattle.vol_volume.specs.declared.calls.Record.{Record}
 
 -- the contents of an open handle: a volume, and the last answer of unknown length (this project)
@@ -27,6 +27,7 @@ call_bytes (Truncate cred now path size) = 128 + length path
 call_bytes (Chmod cred now path perm) = 128 + length path
 call_bytes (Chown cred now path uid gid) = 128 + length path
 call_bytes (Times cred now path atime mtime) = 128 + length path
+call_bytes (Mknod cred now path perm device) = 128 + length path
 
 -- the number of bytes that a journal counts as (this project)
 abbrev pub journal_bytes : List Record → ℕ

@@ -2,13 +2,14 @@
 ghost use Rattle.std.specs.Prelude.{◌≡◌, ◌↔◌, ◌⊎◌, ◌+◌, ◌^◌, ◌≤◌, None, Some, IfSome, length};
 ghost use Rattle.vol_volume.specs.Volume.{after_cut};
 ghost use Rattle.vol_volume.specs.declared.calls.Call.TheVariants as called;
-ghost use Rattle.unixvol_c.specs.Calls.{MakesNode, ReturnsCall, ReturnsNode};
+ghost use Rattle.unixvol_c.specs.Calls.{MakesNode, ReturnsCall, ReturnsNode, device_kind_of};
 ghost use Rattle.unixvol_c.specs.Opened.{CanCut};
 
 use crate::handle::Handle;
-use crate::{CLOSED, DONE, NO_MEMORY, TOO_MANY};
+use crate::{CLOSED, DONE, NO_DEVICE, NO_MEMORY, TOO_MANY};
 use std::alloc::Global;
 use vol_dir::Cred;
+use vol_layout::{DeviceId, DeviceKind};
 use vol_volume::{Bytes, Call, Done};
 
 /// Makes an empty regular file, and sets `inode` to its i-number.
@@ -67,6 +68,56 @@ pub extern "C" fn unixvol_mkdir(
         perm,
     };
     make_node(alloc, handle, call, inode)
+}
+
+/// Makes the special file of a device, of kind `c` (character) or `b` (block), and sets `inode` to its i-number.
+#[unsafe(no_mangle)]
+pub extern "C" fn unixvol_mknod(
+    alloc: Global,
+    handle: &mut Handle,
+    uid: u16,
+    gid: u16,
+    now: u32,
+    path: &[u8],
+    perm: u16,
+    kind: u8,
+    major: u8,
+    minor: u8,
+    inode: &mut u16,
+) -> i32
+    ensures made { IfSome (device_kind_of kind) (λ known. ReturnsNode handle.old.sealed.held handle.new.sealed.held
+        (called.Mknod (record { uid = uid; gid = gid }) now path.now perm (record { kind = known; major = major; minor = minor })) inode.old inode.new result) }
+    ensures unnamed { device_kind_of kind ≡ None → (result ≡ CLOSED) ⊎ (result ≡ NO_DEVICE) }
+    ensures closed { device_kind_of kind ≡ None → (result ≡ CLOSED ↔ handle.old.sealed.held ≡ None) }
+    ensures unchanged { device_kind_of kind ≡ None → (handle.new.sealed.held ≡ handle.old.sealed.held) × (inode.new ≡ inode.old) }
+{
+    let Some(kind) = device_kind_of(kind) else {
+        return if handle.is_open() { NO_DEVICE } else { CLOSED };
+    };
+    let Ok(path) = Bytes::from_slice(alloc, path) else {
+        return not_copied(handle);
+    };
+    let cred = Cred { uid, gid };
+    let device = DeviceId { kind, major, minor };
+    let call = Call::Mknod {
+        cred,
+        now,
+        path,
+        perm,
+        device,
+    };
+    make_node(alloc, handle, call, inode)
+}
+
+/// Returns the kind of device with a letter.
+fn device_kind_of(letter: u8) -> Option<DeviceKind>
+    ensures { result ≡ device_kind_of letter }
+{
+    match letter {
+        b'c' => Some(DeviceKind::Character),
+        b'b' => Some(DeviceKind::Block),
+        _ => None,
+    }
 }
 
 /// Adds another name to a node other than a directory.

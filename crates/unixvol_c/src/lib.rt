@@ -19,7 +19,7 @@ mod structs;
 pub use answers::{unixvol_answer, unixvol_answer_size, unixvol_export, unixvol_report};
 pub use calls::{
     unixvol_chmod, unixvol_chown, unixvol_create, unixvol_cut, unixvol_link, unixvol_mkdir,
-    unixvol_rmdir, unixvol_times, unixvol_truncate, unixvol_unlink, unixvol_write,
+    unixvol_mknod, unixvol_rmdir, unixvol_times, unixvol_truncate, unixvol_unlink, unixvol_write,
 };
 pub use handle::Handle;
 pub use looks::{unixvol_compare, unixvol_look, unixvol_rescue};
@@ -70,6 +70,9 @@ pub const NO_REPORT: i32 = 305;
 
 /// There is no such look or comparison, as a map of one file in JSON; or a path isn't UTF-8.
 pub const NO_LOOK: i32 = 306;
+
+/// No kind of device has this letter.
+pub const NO_DEVICE: i32 = 307;
 
 /// The i-node at a path, or with an i-number.
 pub const LOOK_INODE: u8 = 1;

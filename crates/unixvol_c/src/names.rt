@@ -67,6 +67,7 @@ fn own_text(number: u16) -> &'static str
         304 => "too many records",
         305 => "no such report",
         306 => "no such look",
+        307 => "no such device",
         _ => "unknown",
     }
 }

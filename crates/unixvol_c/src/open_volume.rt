@@ -148,6 +148,7 @@ fn lengths(call: &Call) -> (usize, usize)
         | Call::Truncate { path, .. }
         | Call::Chmod { path, .. }
         | Call::Chown { path, .. }
-        | Call::Times { path, .. } => (path.as_slice().len(), 0),
+        | Call::Times { path, .. }
+        | Call::Mknod { path, .. } => (path.as_slice().len(), 0),
     }
 }

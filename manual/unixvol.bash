@@ -32,7 +32,7 @@ _unixvol() {
     while [[ ${before[0]:-} == -* ]]; do before=("${before[@]:1}"); done
     command=${before[0]:-}
     if [ -z "$command" ]; then
-        mapfile -t COMPREPLY < <(compgen -W 'cat ls get find export sums inode super free block dump diff df map check icheck dcheck ncheck mkfs put import rm rmdir mkdir ln mv chmod chown touch boot salvage repair resize play migrate serve identify help --explain -h --help -V --version' -- "$current")
+        mapfile -t COMPREPLY < <(compgen -W 'cat ls get find export sums inode super free block dump diff df map check icheck dcheck ncheck mkfs put import rm rmdir mkdir ln mv chmod chown touch mknod boot salvage repair resize play migrate serve identify help --explain -h --help -V --version' -- "$current")
         return
     fi
     case $command in
@@ -65,6 +65,7 @@ _unixvol() {
         chmod) kinds='6,7,any file path any any' options='--at --trace --explain -h --help' valued='--at=any' ;;
         chown) kinds='6,7,any file path any any any' options='--at --trace --explain -h --help' valued='--at=any' ;;
         touch) kinds='6,7,any file path any' options='--at --trace --explain -h --help' valued='--at=any' ;;
+        mknod) kinds='6,7,any file path any any any any any' options='--at -o --owner --trace --explain -h --help' valued='--at=any -o=any --owner=any' ;;
         boot) kinds='6,7,any file file' options='--at --explain -h --help' valued='--at=any' ;;
         salvage) kinds='6,7,any file' options='--at -o --output -n --dry-run --explain -h --help' valued='--at=any -o=file --output=file' ;;
         repair) kinds='6,7,any file file any' options='--at --new -n --dry-run --blocks --cut --bad --bad-blocks --sizes --like --explain -h --help' valued='--at=any --blocks=any --bad=file --bad-blocks=any --sizes=any --like=rk05,rk06,rk07,rl01,rl02,rm03,rp03,rp04,rp06,rx01,rx02' ;;

@@ -22,6 +22,7 @@ use Rattle.command_changes.specs.Lookup.{last_name}
 use Rattle.command_changes.specs.Import.{IsUnimported}
 use Rattle.command_changes.specs.ImportLines.{left_lines}
 use Rattle.command_changes.specs.Mkdir.{HasMade, HasMissing, mkdir_all_calls, mkdir_calls}
+use Rattle.command_changes.specs.Mknod.{HasSpecial, mknod_calls}
 use Rattle.command_changes.specs.Mv.{HasMoved, move_calls}
 use Rattle.command_changes.specs.Put.{HasPut, put_calls}
 use Rattle.command_changes.specs.Rm.{IsCause}
@@ -29,6 +30,7 @@ use Rattle.command_changes.specs.Salvage.{IsUnsalvaged}
 use Rattle.command_changes.specs.Touch.{HasTimes, touch_call}
 use Rattle.command_changes.specs.Traced.{TracesCalls, TracesImport}
 use Rattle.command_changes.specs.declared.kept.GivenFile.{GivenFile}
+use Rattle.command_terms.specs.Permissions.{changed_permissions}
 use Rattle.command_terms.specs.declared.changes.Change.{Change}
 use Rattle.command_terms.specs.declared.changes.Change.TheVariants as changes
 
@@ -72,7 +74,7 @@ of_archive edition image archive path options now trace = record {
 -- or the free list is rebuilt. Afterwards PATH of `import` has the members of the archive that aren't left out below it; PATH of `put` leads to a file
 -- of these bytes, with what is kept, and the owner if one is given; PATH of `mkdir` leads to a directory with the owner, and so does PATH of `mkdir -p`
 -- unless its last name is `.` or `..`, but for the owner if the directory was there; FROM of `mv` leads nowhere, and the new path leads to the file that
--- FROM led to; the permissions at PATH of `chmod` are those that its change makes of the old ones; both times of the node at PATH of `touch` are NOW.
+-- FROM led to; PATH of `mknod` leads to the special file of its device, with its permissions and the owner; the permissions at PATH of `chmod` are those that its change makes of the old ones; both times of the node at PATH of `touch` are NOW.
 -- `boot` changes block 0 alone. `salvage` and `boot` have no trace (this project)
 abbrev pub changed : Edition → List ℕ → GivenFile → Change → Bool → Outcomes
 changed edition image given (changes.Put path file keep owner now) trace =
@@ -97,6 +99,9 @@ changed edition image given (changes.Chmod path change now) trace =
 changed edition image given (changes.Chown path uid gid now) trace = of_calls edition image (calls.Chown user now path.now uid gid ∷ []) trace
 changed edition image given (changes.Touch path now) trace =
     of_calls_leaving edition image (touch_call (reads_as edition image).tree now path.now ∷ []) (λ tree. HasTimes tree path.now now) trace
+changed edition image given (changes.Mknod path device change owner now) trace =
+    of_calls_leaving edition image (mknod_calls now device change owner path.now)
+    (λ tree. HasSpecial tree path.now device (changed_permissions change 0o644) owner) trace
 changed edition image given changes.Salvage trace =
     record { saves = untraced (IsSalvaged edition image); lines = []; fails = IsUnsalvaged edition image }
 changed edition image given (changes.Boot file) trace = record {

@@ -10,6 +10,7 @@ use crate::import::import_archive;
 use crate::kept::GivenFile;
 use crate::ln::ln;
 use crate::mkdir::{mkdir, mkdir_all};
+use crate::mknod::mknod;
 use crate::mv::mv;
 use crate::put::put;
 use crate::rm::{rm, rm_all};
@@ -94,6 +95,13 @@ pub fn perform(
             gid,
             now,
         } => chown(alloc, edition, image, path, Cred { uid, gid }, now),
+        Change::Mknod {
+            path,
+            device,
+            change,
+            owner,
+            now,
+        } => mknod(alloc, edition, image, path, device, change, owner, now),
     };
     traced(alloc, made, trace)
 }

@@ -91,7 +91,11 @@ fn unmade(alloc: Global, path: &[u8], cause: MemberFault) -> Result<Fault, Alloc
     ensures line { IfOk result (λ fault. fault_line fault ≡ member_line path.now cause) }
 {
     match cause {
-        MemberFault::Kind => in_words(alloc, path, b"neither a file, a directory nor a hard link"),
+        MemberFault::Kind => in_words(
+            alloc,
+            path,
+            b"neither a file, a directory, a hard link nor a device",
+        ),
         MemberFault::LongPath => in_words(alloc, path, b"a path above 4096 bytes"),
         MemberFault::LongName => in_words(alloc, path, b"a name above 14 bytes"),
         MemberFault::DotDot => in_words(alloc, path, b"a name .."),
@@ -102,6 +106,7 @@ fn unmade(alloc: Global, path: &[u8], cause: MemberFault) -> Result<Fault, Alloc
             b"a link to a path with a name above 14 bytes",
         ),
         MemberFault::DotDotLink => in_words(alloc, path, b"a link to a path with a name .."),
+        MemberFault::Device => in_words(alloc, path, b"a major or minor number above 255"),
         MemberFault::Owner => in_words(
             alloc,
             path,
@@ -169,7 +174,7 @@ fn path_of(call: &Call) -> &Bytes
     ensures { result.now ≡ path_of call.now }
 {
     match call {
-        Call::Create { path, .. } | Call::Mkdir { path, .. } => path,
+        Call::Create { path, .. } | Call::Mkdir { path, .. } | Call::Mknod { path, .. } => path,
         Call::Link { target, .. } => target,
         Call::Unlink { path, .. } | Call::Rmdir { path, .. } => path,
         Call::Write { path, .. } | Call::Truncate { path, .. } => path,

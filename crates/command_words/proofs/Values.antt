@@ -1,15 +1,21 @@
 -- An invocation can only be read from valid words; if a word isn't valid, there is no invocation.
-use Rattle.std.proofs.Common.{rules, ◌≡◌, ◌∙◌, ◌≤◌, ◌∷◌, ℕ, List, [], Option, None, codes, false, length, map, sym, ap, subst, inl, inr}
+use Rattle.std.proofs.Common.{rules, ◌≡◌, ◌⊎◌, ◌∙◌, ◌≤◌, ◌∷◌, ℕ, List, [], Option, None, codes, false, length, map, sym, ap, subst, inl, inr}
 use Rattle.std.specs.Borrow.{Bor}
 use Rattle.std.proofs.lemmas.List.{length-map}
 use Rattle.bad_maps.specs.Lists.{bytes_around}
 use Rattle.vol_layout.specs.declared.edition.Edition.{Edition}
 use Rattle.vol_layout.specs.declared.edition.Edition.TheVariants.{V7}
+use Rattle.vol_layout.specs.declared.mode.DeviceKind.{DeviceKind}
+use Rattle.vol_layout.specs.declared.mode.DeviceKind.TheVariants.{Character, Block}
+use Rattle.command_terms.specs.Permissions.{change_to}
+use Rattle.command_terms.specs.declared.changes.Change.TheVariants as changes
+use Rattle.command_terms.specs.declared.permissions.PermissionChange.{PermissionChange}
 use Rattle.command_terms.specs.declared.bad_looks.BadLook.TheVariants as bad_looks
 use Rattle.command_terms.specs.declared.looks.Look.TheVariants as looks
 use Rattle.command_words.specs.BadWords.{IsBadImageGiven, IsImageGiven, IsReadIfAny, sizes_of}
 use Rattle.command_words.specs.Disks.{disk_blocks}
-use Rattle.command_words.specs.Invocations.{AreValues, AsksForNothing, IsGiven, IsOneWrong, IsVolumeWrong, NameAsksFor, Words, is_set, verb_of}
+use Rattle.command_words.specs.Invocations.{AreValues, AsksForNothing, IsDeviceKind, IsGiven, IsOneWrong, IsVolumeWrong, NameAsksFor, Words, is_set, verb_of}
+use Rattle.command_words.specs.Permissions.{ArePermissionsIfAny, IsPermissionsOr}
 use Rattle.command_words.specs.Verbs.{Argument, IsNoCommand, arguments_of, on_volume, verb_name}
 use Rattle.command_words.specs.declared.invocation.BadImage.{BadImage}
 use Rattle.command_words.specs.declared.invocation.Copying.TheVariants as copies
@@ -27,6 +33,17 @@ scripts_value items words are least most =
       subst (λ (n : ℕ). 1 ≤ n) (sym same_length) least,
       subst (λ (n : ℕ). n ≤ 64) (sym same_length) most,
     )
+
+-- a word that names a kind of devices is one of the two
+kind_value : (kind : DeviceKind) (word : List ℕ) → IsDeviceKind kind word → (word ≡ codes "c") ⊎ (word ≡ codes "b")
+kind_value Character word is = inl is
+kind_value Block word is = inr is
+
+-- a word for permissions that were chosen asks for a change of them
+permissions_value : (other : PermissionChange) (words : List (List ℕ)) (change : PermissionChange) → IsPermissionsOr other words change
+    → ArePermissionsIfAny words
+permissions_value other [] change is = tt
+permissions_value other (word ∷ more) change is = (change, is)
 
 -- the words about an image with lost blocks are valid
 abbrev AreLostValues : Words → Type 0
@@ -77,6 +94,10 @@ values_given clock given (invocations.LookBad volume image (bad_looks.Check grad
 values_given clock given (invocations.Look volume (looks.Block block form)) is = let whole = none_values given is.1.2 in search (rules, whole)
 values_given clock given (invocations.LookBad volume image (bad_looks.Block block form)) is =
     let whole = image_values given volume.edition image is.1.2 in search (rules, whole)
+values_given clock given (invocations.Change volume (changes.Mknod path device change owner now) trace) is =
+    let kind = kind_value device.kind _ is.1.1.0 in
+    let permissions = permissions_value (change_to 0o644) _ change is.1.2 in
+    search (rules, kind, permissions)
 values_given clock given invocation is = search (rules, scripts_value)
 
 -- if all words are valid, none of them is wrong

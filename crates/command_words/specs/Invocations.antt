@@ -5,13 +5,16 @@ use Rattle.std.specs.Path.{path_file_name}
 use Rattle.std.specs.Str.{bytes_eq}
 use Rattle.vol_layout.specs.declared.edition.Edition.{Edition}
 use Rattle.vol_layout.specs.declared.edition.Edition.TheVariants.{V6, V7}
+use Rattle.vol_layout.specs.declared.mode.DeviceId.{DeviceId}
+use Rattle.vol_layout.specs.declared.mode.DeviceKind.{DeviceKind}
+use Rattle.vol_layout.specs.declared.mode.DeviceKind.TheVariants as devices
 use Rattle.bad_maps.specs.Lists.{bytes_around}
 use Rattle.command_words.specs.BadWords.{IsBadImageGiven, IsReadIfAny, sizes_of}
 use Rattle.command_words.specs.Disks.{AreBlocksOf, disk_blocks, list_default}
 use Rattle.command_words.specs.Decimal.{IsNumberUpTo, IsNumberGiven, IsThreads, IsThreadsGiven}
 use Rattle.command_words.specs.Moment.{IsMomentOf}
 use Rattle.command_words.specs.Owners.{IsOwnerGiven, IsOwnerIfAny}
-use Rattle.command_words.specs.Permissions.{IsPermissionsGiven, IsPermissionsWord}
+use Rattle.command_words.specs.Permissions.{ArePermissionsIfAny, IsPermissionsGiven, IsPermissionsOr, IsPermissionsWord}
 use Rattle.command_words.specs.Verbs.{Argument, verb_name}
 use Rattle.command_words.specs.declared.fault.WordFault.{WordFault}
 use Rattle.command_words.specs.declared.fault.WordFault.TheVariants as faults
@@ -62,6 +65,7 @@ use Rattle.command_terms.specs.declared.options.Keep.{Keep}
 use Rattle.command_terms.specs.declared.options.Keep.TheVariants as keeps
 use Rattle.command_terms.specs.declared.changes.Change.{Change}
 use Rattle.command_terms.specs.declared.changes.Change.TheVariants as changes
+use Rattle.command_terms.specs.Permissions.{change_to}
 use Rattle.command_terms.specs.declared.options.Migration.{Migration}
 use Rattle.command_terms.specs.declared.options.Repairing.{Repairing}
 use Rattle.command_terms.specs.declared.plays.PlayForm.{PlayForm}
@@ -156,6 +160,17 @@ IsTargetGiven word inode (targets.Block block) = IsNumberGiven 4294967295 word b
 IsTargetGiven word inode (targets.Inode number) = IsNumberGiven 4294967295 word number × (is_path word ≡ false) × (inode ≡ true)
 IsTargetGiven word inode (targets.Path path) = (path.now ≡ word) × (is_path word ≡ true)
 
+-- the word names this kind of devices (mknod)
+abbrev pub IsDeviceKind : DeviceKind → List ℕ → Type 0
+IsDeviceKind devices.Character word = word ≡ codes "c"
+IsDeviceKind devices.Block word = word ≡ codes "b"
+
+-- the words name this device: its kind, its major and its minor number (mknod)
+abbrev pub IsDeviceGiven : Words → DeviceId → Type 0
+IsDeviceGiven given device = IsDeviceKind device.kind (the_word given (codes "KIND"))
+    × IsNumberGiven 255 (the_word given (codes "MAJOR")) device.major
+    × IsNumberGiven 255 (the_word given (codes "MINOR")) device.minor
+
 -- the words are valid for an argument of this kind (this project)
 abbrev pub IsValue : Option ℕ → WordKind → List (List ℕ) → Type 0
 IsValue clock kinds.Edition words =
@@ -170,6 +185,9 @@ IsValue clock kinds.WordOr words = IsNumberIfAny 65535 words
 IsValue clock kinds.Blocks words = (blocks : ℕ) × AreBlocksOf (first_word words) blocks
 IsValue clock kinds.Long words = IsNumberUpTo 4294967295 (first_word words)
 IsValue clock kinds.Permissions words = IsPermissionsWord (first_word words)
+IsValue clock kinds.PermissionsOr words = ArePermissionsIfAny words
+IsValue clock kinds.DeviceKind words = (first_word words ≡ codes "c") ⊎ (first_word words ≡ codes "b")
+IsValue clock kinds.Byte words = IsNumberUpTo 255 (first_word words)
 IsValue clock kinds.Owner words = IsOwnerIfAny words
 IsValue clock kinds.Threads words = IsThreads (first_word words)
 IsValue clock kinds.Moment words = (now : ℕ) × IsMomentGiven clock words now
@@ -220,6 +238,7 @@ change_verb (changes.Mv from to now) = verbs.Mv
 change_verb (changes.Chmod path change now) = verbs.Chmod
 change_verb (changes.Chown path uid gid now) = verbs.Chown
 change_verb (changes.Touch path now) = verbs.Touch
+change_verb (changes.Mknod path device change owner now) = verbs.Mknod
 change_verb changes.Salvage = verbs.Salvage
 change_verb (changes.Boot file) = verbs.Boot
 
@@ -428,6 +447,8 @@ IsChangeGiven clock given (changes.Chown path uid gid now) = IsPathGiven (given 
     × IsMomentGiven clock (given (codes "NOW")) now
 IsChangeGiven clock given (changes.Touch path now) =
     IsPathGiven (given (codes "PATH")) path.now × IsMomentGiven clock (given (codes "NOW")) now
+IsChangeGiven clock given (changes.Mknod path device change owner now) = IsPathGiven (given (codes "PATH")) path.now × IsDeviceGiven given device
+    × IsPermissionsOr (change_to 0o644) (given (codes "PERM")) change × IsMomentGiven clock (given (codes "NOW")) now × IsOwnerGiven (given (codes "owner")) owner
 IsChangeGiven clock given (changes.Boot file) = file.now ≡ the_word given (codes "FILE")
 IsChangeGiven clock given changes.Salvage = (is_set (given (codes "dry-run")) ≡ false) × IsLeftOut given (codes "output")
 

@@ -84,6 +84,16 @@ IsPermissionsGiven word change = permissions_of word ≡ Some change
 abbrev pub IsPermissionsWord : List ℕ → Type 0
 IsPermissionsWord word = (change : PermissionChange) × IsPermissionsGiven word change
 
+-- if there is a word, it asks for a change of permissions (this project)
+abbrev pub ArePermissionsIfAny : List (List ℕ) → Type 0
+ArePermissionsIfAny [] = Unit {0}
+ArePermissionsIfAny (word ∷ more) = IsPermissionsWord word
+
+-- the change of permissions that the first word asks for, or `other` if there is no word (this project)
+abbrev pub IsPermissionsOr : PermissionChange → List (List ℕ) → PermissionChange → Type 0
+IsPermissionsOr other [] change = change ≡ other
+IsPermissionsOr other (word ∷ more) change = IsPermissionsGiven word change
+
 -- the bits of an i-node's permissions that WHO doesn't have are the same after a change, whatever they are (chmod)
 abbrev pub KeepsOthers : ℕ → PermissionChange → Type 0
 KeepsOthers who change = (old i : ℕ) → i < 12 → bit_at who i ≡ 0 → bit_at (changed_permissions change old) i ≡ bit_at old i

@@ -157,6 +157,11 @@ row_of verbs.Mv = (codes "mv", on_volume (word (codes "FROM") ∷ word (codes "T
 row_of verbs.Chmod = (codes "chmod", on_volume (path needs.Once ∷ (codes "PERM", kinds.Permissions, needs.Once) ∷ moment ∷ option (codes "trace") ∷ []))
 row_of verbs.Chown = (codes "chown", on_volume (path needs.Once ∷ number (codes "UID") ∷ number (codes "GID") ∷ moment ∷ option (codes "trace") ∷ []))
 row_of verbs.Touch = (codes "touch", on_volume (path needs.Once ∷ moment ∷ option (codes "trace") ∷ []))
+row_of verbs.Mknod = (
+  codes "mknod",
+  on_volume (path needs.Once ∷ (codes "KIND", kinds.DeviceKind, needs.Once) ∷ (codes "MAJOR", kinds.Byte, needs.Once) ∷ (codes "MINOR", kinds.Byte, needs.Once)
+      ∷ (codes "PERM", kinds.PermissionsOr, needs.Maybe) ∷ moment ∷ owner ∷ option (codes "trace") ∷ []),
+)
 row_of verbs.Boot = (codes "boot", on_volume (word (codes "FILE") ∷ []))
 row_of verbs.Salvage = (codes "salvage", on_volume (valued (codes "output") 111 values.Copy ∷ lettered (codes "dry-run") 110 ∷ []))
 row_of verbs.Repair = (
@@ -187,7 +192,7 @@ abbrev pub all_verbs : List Verb
 all_verbs =
     verbs.Cat ∷ verbs.Ls ∷ verbs.Get ∷ verbs.Find ∷ verbs.Export ∷ verbs.Sums ∷ verbs.Inode ∷ verbs.Super ∷ verbs.Free ∷ verbs.Block
     ∷ verbs.Dump ∷ verbs.Diff ∷ verbs.Df ∷ verbs.Map ∷ verbs.Check ∷ verbs.Icheck ∷ verbs.Dcheck ∷ verbs.Ncheck ∷ verbs.Mkfs ∷ verbs.Put ∷ verbs.Import ∷ verbs.Rm
-    ∷ verbs.Rmdir ∷ verbs.Mkdir ∷ verbs.Ln ∷ verbs.Mv ∷ verbs.Chmod ∷ verbs.Chown ∷ verbs.Touch ∷ verbs.Boot ∷ verbs.Salvage ∷ verbs.Repair ∷ verbs.Resize ∷ verbs.Play ∷ verbs.Migrate
+    ∷ verbs.Rmdir ∷ verbs.Mkdir ∷ verbs.Ln ∷ verbs.Mv ∷ verbs.Chmod ∷ verbs.Chown ∷ verbs.Touch ∷ verbs.Mknod ∷ verbs.Boot ∷ verbs.Salvage ∷ verbs.Repair ∷ verbs.Resize ∷ verbs.Play ∷ verbs.Migrate
     ∷ verbs.Serve ∷ verbs.Identify ∷ []
 
 -- no command has this name (this project)

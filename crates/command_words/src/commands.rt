@@ -24,6 +24,7 @@ pub(crate) mod map;
 pub(crate) mod migrate;
 pub(crate) mod mkdir;
 pub(crate) mod mkfs;
+pub(crate) mod mknod;
 pub(crate) mod mv;
 pub(crate) mod ncheck;
 pub(crate) mod play;

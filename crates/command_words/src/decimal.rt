@@ -16,6 +16,16 @@ pub(crate) fn word_of(text: &str) -> Option<u16>
     text.parse().ok()
 }
 
+/// Reads a number from 0 to 255, written as [`word_of`] reads it.
+pub(crate) fn byte_of(text: &str) -> Option<u8>
+    ensures { SomeIff result (IsNumberUpTo 255 text.now) (digits_value 10 text.now) }
+{
+    if is_signed(text) {
+        return None;
+    }
+    text.parse::<u8>().ok()
+}
+
 /// Reads a 32-bit number, written as [`word_of`] reads it.
 pub(crate) fn long_of(text: &str) -> Option<u32>
     ensures { SomeIff result (IsNumberUpTo 4294967295 text.now) (digits_value 10 text.now) }

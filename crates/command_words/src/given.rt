@@ -3,11 +3,11 @@ ghost use Rattle.std.specs.Prelude.{◌≡◌, ◌≤◌, true, ℕ, List, None,
 ghost use Rattle.command_words.specs.Decimal.{IsNumberUpTo, IsNumberGiven, IsThreads, IsThreadsGiven};
 ghost use Rattle.command_words.specs.Disks.{AreBlocksOf};
 ghost use Rattle.command_words.specs.Owners.{IsOwnerGiven, IsOwnerIfAny, IsOwnerNamed, IsOwnerWord};
-ghost use Rattle.command_words.specs.Permissions.{IsPermissionsGiven, IsPermissionsWord};
-ghost use Rattle.command_words.specs.Invocations.{IsEditionGiven, IsEditionNamed, IsMomentGiven, IsNodeGiven, IsNodeWord, IsNumberOr, IsPathGiven, IsPathWord, IsPlaceWord, IsRadixGiven, IsRescueGiven, IsTargetGiven, IsValue, IsWrong, TellsOf, is_path, is_set, the_word};
+ghost use Rattle.command_words.specs.Permissions.{ArePermissionsIfAny, IsPermissionsGiven, IsPermissionsOr, IsPermissionsWord};
+ghost use Rattle.command_words.specs.Invocations.{IsDeviceKind, IsEditionGiven, IsEditionNamed, IsMomentGiven, IsNodeGiven, IsNodeWord, IsNumberOr, IsPathGiven, IsPathWord, IsPlaceWord, IsRadixGiven, IsRescueGiven, IsTargetGiven, IsValue, IsWrong, TellsOf, is_path, is_set, the_word};
 ghost use Rattle.command_words.specs.declared.parameters.WordKind.TheVariants as kinds;
 
-use crate::decimal::{long_of, threads_of, word_of};
+use crate::decimal::{byte_of, long_of, threads_of, word_of};
 use crate::disks::blocks_of;
 use crate::fault::{Said, WordFault, WrongWord};
 use crate::moment::moment_of;
@@ -18,7 +18,7 @@ use command_terms::{DumpTarget, NodeName, PermissionChange};
 use std::alloc::{AllocError, Global};
 use vol_dir::Cred;
 use vol_fields::Radix;
-use vol_layout::Edition;
+use vol_layout::{DeviceKind, Edition};
 
 /// The words given for the arguments of a command.
 pub trait Given<'a> {
@@ -246,6 +246,46 @@ pub(crate) fn permissions_in<'a, G: Given<'a>>(
         Some(change) => Ok(change),
         None => Err(wrong(name, text, texts::PERMISSIONS)),
     }
+}
+
+/// Reads the change of permissions given for an argument, or returns `other` if it was left out.
+pub(crate) fn permissions_or<'a, G: Given<'a>>(
+    given: &G,
+    name: &'a str,
+    other: PermissionChange,
+) -> Result<PermissionChange, WordFault<'a>>
+    ensures read { IfOk result (IsPermissionsOr other (G.words given.now name.now)) }
+    ensures refused { IfErr result (TellsOf (ArePermissionsIfAny (G.words given.now name.now) → ⊥)) }
+{
+    match given.first(name) {
+        Some(text) => match permissions_of(text) {
+            Some(change) => Ok(change),
+            None => Err(wrong(name, text, texts::PERMISSIONS)),
+        },
+        None => Ok(other),
+    }
+}
+
+/// Reads the kind of a device.
+pub(crate) fn device_kind_in<'a, G: Given<'a>>(given: &G) -> Result<DeviceKind, WordFault<'a>>
+    ensures read { IfOk result (λ kind. IsDeviceKind kind (the_word (G.words given.now) (codes "KIND"))) }
+    ensures refused { IfErr result (TellsOf (IsValue None kinds.DeviceKind (G.words given.now (codes "KIND")) → ⊥)) }
+{
+    let text = text_in(given, "KIND");
+    match text {
+        "c" => Ok(DeviceKind::Character),
+        "b" => Ok(DeviceKind::Block),
+        _ => Err(wrong("KIND", text, texts::DEVICE_KINDS)),
+    }
+}
+
+/// Reads the number from 0 to 255 given for an argument.
+pub(crate) fn byte_in<'a, G: Given<'a>>(given: &G, name: &'a str) -> Result<u8, WordFault<'a>>
+    ensures read { IfOk result (λ number. IsNumberGiven 255 (the_word (G.words given.now) name.now) number) }
+    ensures refused { IfErr result (TellsOf (IsNumberUpTo 255 (the_word (G.words given.now) name.now) → ⊥)) }
+{
+    let text = text_in(given, name);
+    byte_of(text).ok_or(wrong(name, text, texts::BYTE))
 }
 
 /// Reads the user and the group of an option, if it was given.

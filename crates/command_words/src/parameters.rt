@@ -26,6 +26,12 @@ pub enum WordKind {
     Place,
     /// Permissions in octal digits, or changes of them in letters.
     Permissions,
+    /// The same; they may be left out.
+    PermissionsOr,
+    /// The kind of a device, `c` or `b`.
+    DeviceKind,
+    /// A number from 0 to 255.
+    Byte,
     /// A user and a group: two 16-bit numbers with a colon between them; they may be left out.
     Owner,
     /// A number of threads, 1 to 64.

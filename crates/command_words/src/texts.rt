@@ -34,6 +34,10 @@ pub const NO_NODE: &str =
 pub const NO_PLACE: &str =
     "not a decimal number from 0 to 4294967295, nor a path that begins with a slash";
 
+pub const BYTE: &str = "not a decimal number from 0 to 255";
+
+pub const DEVICE_KINDS: &str = "c for a device of characters, b for one of blocks";
+
 pub const WORD: &str = "not a decimal number from 0 to 65535";
 
 pub const LONG: &str = "not a decimal number from 0 to 4294967295";

@@ -63,5 +63,7 @@ fn form_in_words(form: WordForm) -> &'static str {
         WordForm::Path => "a path",
         WordForm::Permissions => "an octal number up to 7777",
         WordForm::Bytes => "two hexadecimal digits for each byte, or `-`",
+        WordForm::DeviceKind => "`c` or `b`",
+        WordForm::DeviceNumber => "a number up to 255",
     }
 }

@@ -184,6 +184,7 @@ impl<'a> Subject<'a> {
             Change::Chmod { path, .. } => (Verb::Chmod, About::Path(path)),
             Change::Chown { path, .. } => (Verb::Chown, About::Path(path)),
             Change::Touch { path, .. } => (Verb::Touch, About::Path(path)),
+            Change::Mknod { path, .. } => (Verb::Mknod, About::Path(path)),
             Change::Salvage => (Verb::Salvage, About::Image),
             Change::Boot { .. } => (Verb::Boot, About::Image),
         };

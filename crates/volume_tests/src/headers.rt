@@ -104,6 +104,8 @@ fn header(flag: TypeFlag, permissions: u64) -> ReadHeader {
         gid: 5,
         size: 0,
         modified: 1_000_000_000,
+        major: 0,
+        minor: 0,
     }
 }
 
@@ -121,6 +123,8 @@ fn headers_are_read(rt: HostRuntime) {
         gid: 0,
         size: 126,
         modified: 0,
+        major: 0,
+        minor: 0,
     };
     check_read(&rt, alloc, &GNU_LONG, b"././@LongLink", b"", name);
     let link = header(TypeFlag::Member(MemberKind::Link), 0o640);

@@ -20,21 +20,23 @@ pub(crate) const ABOUT: &str = "Adds the files and directories of a tar archive 
 pub(crate) const MORE: &str = "\
 Examples:
   unixvol import 7 disk.img /usr/src < src.tar
-  unixvol export 6 old.img | unixvol import --skip-special 7 new.img
+  unixvol export 6 old.img | unixvol import 7 new.img
   unixvol import --owner 3:3 7 disk.img /usr/src < src.tar
   unixvol import --trace 7 disk.img /usr/src < src.tar         what each call changed, field by field
 
 The archive is read from standard input, which can't be a terminal. Its format is ustar, GNU tar, pax or V7's tar.
-Its members are made below PATH: directories and files with their permissions and owners, files with their bytes
-and times of modification, and more names of files. All members are made, or none. If there are any, PATH must
+Its members are made below PATH: directories, files and special files with their permissions, owners and times of
+modification, files with their bytes, and more names of files. All members are made, or none. If there are any, PATH must
 exist, unless a member whose name is empty or a slash makes it. What follows the end of the archive is dropped, a
 second archive too.
 
 If a directory on the way to a member is missing, it is made too, with permissions 0755, user 0 and group 0. A
 directory that the volume already has stays as it is. A name longer than 14 bytes is refused, never cut, and so is
-a path longer than 4096 bytes. Symbolic links are refused, as these systems have none. Special files are refused
-too: these systems make them with mknod, but no command here does. Files stored as sparse are refused: make the
-archive with tar without -S, or with bsdtar --no-read-sparse.
+a path longer than 4096 bytes. Symbolic links and FIFOs are refused, as these systems have none. Files stored as
+sparse are refused: make the archive with tar without -S, or with bsdtar --no-read-sparse.
+
+Character and block files keep the major and the minor number of their device, which are 0 to 255 here. `export`
+writes a multiplexor of the seventh edition as the character or block file that it multiplexes, and so it comes back.
 
 With --skip-special, special files are left out, and each has a line on standard error. These are character and
 block files, FIFOs, and links to what is left out.
@@ -47,8 +49,8 @@ Status:
   1  `unixvol: unsound, rule N`: this is the first rule that the volume breaks; `unixvol check` says what breaks it
      `unixvol: archive, byte N: WHY`: the archive can't be read from the header at this byte on
      `unixvol: MEMBER: WHY`: this member can't be made as it is, because of its kind, its path, the path of the file
-     that it links to, a field of its header that isn't a number, or an owner or group above the edition's highest,
-     255 in the sixth and 32767 in the seventh; or it is a sparse file
+     that it links to, a field of its header that isn't a number, a major or minor number above 255, or an owner or
+     group above the edition's highest, 255 in the sixth and 32767 in the seventh; or it is a sparse file
      `unixvol: 17 Exists: MEMBER`: its path, or that of a directory on the way, is taken by something that isn't
      the directory wanted
      `unixvol: 2 NoEntry: MEMBER`: PATH doesn't exist, or the file that the member links to doesn't

@@ -26,8 +26,10 @@ Each line of a script is NOW UID GID followed by one of these, with single space
   create PATH PERM        mkdir PATH PERM        link FROM TO          unlink PATH        rmdir PATH
   write PATH OFFSET HEX   truncate PATH LENGTH   chmod PATH PERM       chown PATH UID GID
   times PATH ATIME MTIME  stat PATH              read PATH OFFSET LEN  list PATH          cut
-PERM is octal. HEX has two hexadecimal digits for each byte, or is `-` for no bytes. A script whose first line is
-`view` reads without waiting for the others; its other lines are stat, read or list. There may be 16 such scripts.
+  mknod PATH PERM KIND MAJOR MINOR
+PERM is octal. HEX has two hexadecimal digits for each byte, or is `-` for no bytes. KIND is c or b, as for
+`unixvol mknod`. A script whose first line is `view` reads without waiting for the others; its other lines are
+stat, read or list. There may be 16 such scripts.
 
 The scripts share the volume. Lines of different scripts may come in any order, but each call is made as a whole.
 All scripts are read before the first call is made. Then each line of a script has a line of output, by script and

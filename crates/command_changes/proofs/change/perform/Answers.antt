@@ -2,12 +2,13 @@ use Rattle.command_faults.proofs.Concluded.{among}
 use Rattle.command_changes.proofs.ChangedPermissions.{chmod_leaves}
 use Rattle.command_changes.proofs.Imported.{archive_among}
 use Rattle.command_changes.proofs.MadeDirectories.{directories_leave, directory_leaves}
+use Rattle.command_changes.proofs.MadeSpecials.{special_leaves}
 use Rattle.command_changes.proofs.MovedNames.{move_leaves}
 use Rattle.command_changes.proofs.PutBytes.{put_leaves}
 use Rattle.command_changes.proofs.TouchedNodes.{touch_leaves}
 use Rattle.command_changes.proofs.TracedCalls.{calls_among, leaving_among, removal_among}
 use Rattle.command_changes.proofs.change.perform.Goals as goal
-use Rattle.command_changes.proofs.change.perform.Goals.{in-Put, in-RmAll, in-MkdirAll, in-Mv, in-Touch, in-Rm, in-Rmdir, in-Mkdir, in-Ln, in-Chmod, in-Chown}
+use Rattle.command_changes.proofs.change.perform.Goals.{in-Put, in-RmAll, in-MkdirAll, in-Mv, in-Touch, in-Rm, in-Rmdir, in-Mkdir, in-Ln, in-Chmod, in-Chown, in-Mknod}
 use Rattle.std.proofs.Common.{refl, sym}
 
 pub returns-in-Import : goal.returns-in-Import
@@ -40,5 +41,7 @@ returns c = elim c.match-change.branch [
   | in-Ln w ↦ rw w.in-Ln.is (calls_among _ _ _ _ _ _ _ w.made-is w.ln-made.ensures.made w.ln-made.ensures.fault (c.traced.ensures.made, c.traced.ensures.memory, c.traced.ensures.fault))
   | in-Chmod w ↦
       rw w.in-Chmod.is (leaving_among _ _ _ _ _ _ _ _ w.made-is (λ bytes makes. chmod_leaves _ _ bytes _ _ _ makes) w.chmod-made.ensures.made w.chmod-made.ensures.fault (c.traced.ensures.made, c.traced.ensures.memory, c.traced.ensures.fault))
+  | in-Mknod w ↦
+      rw w.in-Mknod.is (leaving_among _ _ _ _ _ _ _ _ w.made-is (λ bytes makes. special_leaves _ _ _ _ _ _ bytes _ makes) w.mknod-made.ensures.made w.mknod-made.ensures.fault (c.traced.ensures.made, c.traced.ensures.memory, c.traced.ensures.fault))
   | in-Chown w ↦ rw w.in-Chown.is (calls_among _ _ _ _ _ _ _ w.made-is w.chown-made.ensures.made w.chown-made.ensures.fault (c.traced.ensures.made, c.traced.ensures.memory, c.traced.ensures.fault))
 ]

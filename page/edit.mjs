@@ -50,6 +50,21 @@ export async function makeDirectory(directory) {
     given.name.slice(0, 14)));
 }
 
+export async function makeSpecial(directory) {
+  const given = await asks('New special file', [
+    { name: 'name', label: `Name in ${directory.path}`, hint: 'At most 14 bytes.' },
+    { name: 'kind', label: 'Kind of the device', value: 'c', options: [{ value: 'c', label: 'of characters, as a terminal' },
+      { value: 'b', label: 'of blocks, as a disk' }] },
+    { name: 'major', label: 'Major number', value: '0', hint: 'It names the driver, from 0 to 255.' },
+    { name: 'minor', label: 'Minor number', value: '0', hint: 'The driver is given it, from 0 to 255.' },
+    { name: 'perm', label: 'Permissions, octal', value: '0644' },
+  ], { ok: 'Make' });
+  if (!given?.name) return;
+  const { name, kind, major, minor, perm } = given;
+  if (await changes(['mknod', ...at(), join(directory.word, name), kind, major, minor, perm], `${name} was made.`)) await reveal(join(directory.path,
+    name.slice(0, 14)));
+}
+
 export async function move(entry) {
   const given = await asks('Rename or move', [{ name: 'to', label: 'New path', value: entry.word }], { ok: 'Rename' });
   if (!given?.to || given.to === entry.word) return;

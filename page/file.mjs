@@ -1,7 +1,7 @@
 // The tab of the selected file or directory: what it is, its bytes in three forms, and what can be done with it.
 import { button, counted, el, link, longTable, modeText, moment, save, say } from './dom.mjs';
 import { asText, isText, od } from './dumps.mjs';
-import { changeMode, exportTree, makeDirectory, move, putChosen, remove } from './edit.mjs';
+import { changeMode, exportTree, makeDirectory, makeSpecial, move, putChosen, remove } from './edit.mjs';
 import { at, go, run, state } from './shelf.mjs';
 
 const FIRST = 1 << 16; // bytes that are shown at first
@@ -17,7 +17,8 @@ function facts(entry) {
   const known = [entry.kind];
   if (entry.permissions !== undefined) known.push(modeText(entry.kind, entry.permissions));
   if (entry.uid !== undefined) known.push(`user ${entry.uid}, group ${entry.gid}`);
-  if (entry.size !== undefined) known.push(counted(entry.size, 'byte'));
+  if (entry.major !== undefined) known.push(`major ${entry.major}, minor ${entry.minor}`);
+  else if (entry.size !== undefined) known.push(counted(entry.size, 'byte'));
   if (entry.links !== undefined) known.push(counted(entry.links, 'link'));
   if (entry.modified !== undefined) known.push(`${moment(entry.modified)} UTC`);
   return known.join(' · ');
@@ -46,6 +47,7 @@ function actions(entry) {
     { id, disabled: isFixed || isOff, title: isFixed ? 'only a sound volume is changed' : '' });
   const made = isDirectory
     ? [changing('Put files here…', 'put', putChosen), changing('New directory…', 'mkdir', makeDirectory),
+      changing('New special file…', 'mknod', makeSpecial),
       button('Export as tar', () => exportTree(entry), { id: 'export', disabled: entry.word === null })]
     : [button('Download', () => download(entry), { id: 'download', disabled: entry.kind !== 'file' })];
   made.push(changing('Permissions…', 'chmod', changeMode));

@@ -6,7 +6,7 @@ import { chooser, printed } from './views.mjs';
 
 const NAMES = ['first.script', 'second.script'];
 const FORMS = ['create PATH PERM', 'mkdir PATH PERM', 'link FROM TO', 'unlink PATH', 'rmdir PATH', 'write PATH OFFSET HEX', 'truncate PATH LENGTH',
-  'chmod PATH PERM', 'chown PATH UID GID', 'times PATH ATIME MTIME', 'stat PATH', 'read PATH OFFSET LEN', 'list PATH'];
+  'chmod PATH PERM', 'chown PATH UID GID', 'times PATH ATIME MTIME', 'mknod PATH PERM KIND MAJOR MINOR', 'stat PATH', 'read PATH OFFSET LEN', 'list PATH'];
 const texts = ['1000 0 0 mkdir /made 755\n1001 3 5 stat /\n1002 0 0 create /made/note 644\n1003 0 0 write /made/note 0 48692e0a\n',
   '1000 0 0 create /other 600\n1001 0 0 link /other /more\n1002 0 0 rmdir /none\n1003 0 0 unlink /other\n'];
 

@@ -90,14 +90,15 @@ const itemOf = (path) => [...$('tree').querySelectorAll('[role=treeitem]')].find
 function item(node, level, opened) {
   const { kids } = node;
   const isOpen = kids && opened.has(node.path);
-  const size = node.size === undefined ? '' : node.size.toLocaleString('en');
+  const device = node.major === undefined ? '' : `${node.major}, ${node.minor}`;
+  const size = device || (node.size === undefined ? '' : node.size.toLocaleString('en'));
   const mode = node.permissions === undefined ? '' : modeText(node.kind, node.permissions);
   const line = el('div', { className: 'line' },
     el('span', { className: 'name' }, el('span', { className: 'mark', 'aria-hidden': 'true' }, kids ? (isOpen ? '▾' : '▸') : ' '), node.name),
     el('span', { className: 'mode' }, mode), el('span', { className: 'owner' }, node.uid === undefined ? '' : `${node.uid} ${node.gid}`),
     el('span', { className: 'size' }, size), el('span', { className: 'date' }, node.modified === undefined ? '' : moment(node.modified)));
   const made = el('li', { role: 'treeitem', 'aria-level': level, 'aria-expanded': kids ? String(Boolean(isOpen)) : null, tabIndex: -1, 'data-path': node.path,
-    'aria-selected': 'false', 'aria-label': `${node.name}, ${node.kind}${size && !kids ? `, ${size} bytes` : ''}` }, line);
+    'aria-selected': 'false', 'aria-label': `${node.name}, ${node.kind}${size && !kids ? (device ? `, major and minor ${device}` : `, ${size} bytes`) : ''}` }, line);
   made.style.setProperty('--depth', level - 1);
   line.addEventListener('click', () => does(() => (kids && toggle(made), pick(made))));
   if (isOpen) made.append(group(node, level + 1, opened));

@@ -462,8 +462,8 @@ LIST
     while IFS='|' read -r name line; do
         unimported "unixvol: $line" "$edition" "$archives/$name.tar"
     done << 'ROWS'
-symbolic|b: neither a file, a directory nor a hard link
-fifo|fifo: neither a file, a directory nor a hard link
+symbolic|b: neither a file, a directory, a hard link nor a device
+fifo|fifo: neither a file, a directory, a hard link nor a device
 long|abcdefghijklmno: a name above 14 bytes
 parent|../ok: a name ..
 owner|ok: an owner or a group above the edition's highest
@@ -527,10 +527,11 @@ done
 cat > make.py << 'PYTHON'
 import sys, tarfile
 
-def add(name, kind=tarfile.REGTYPE, link="", mode=0o755):
+def add(name, kind=tarfile.REGTYPE, link="", mode=0o755, numbers=(0, 0)):
     """Appends a member without bytes."""
     it = tarfile.TarInfo(name)
     it.type, it.linkname, it.mode = kind, link, mode
+    it.devmajor, it.devminor = numbers
     archive.addfile(it)
 
 with tarfile.open(sys.argv[1], "w", format=tarfile.PAX_FORMAT) as archive:
@@ -552,6 +553,9 @@ with tarfile.open(sys.argv[1], "w", format=tarfile.PAX_FORMAT) as archive:
         add("/", tarfile.DIRTYPE)
         add(last, tarfile.DIRTYPE, mode=0o1711)
         add("f")
+    elif what == "device":
+        add("dev/tty", tarfile.CHRTYPE, mode=0o622, numbers=tuple(int(number) for number in last.split(",")))
+        add("dev/rk", tarfile.BLKTYPE, mode=0o640, numbers=(0, 255))
 PYTHON
 dots=$(printf './%.0s' $(seq 2045))
 for edition in 6 7; do
@@ -646,16 +650,47 @@ for edition in 6 7; do
     has "the directory of an import into edition $edition that it makes" 'drwx--x--t 2 0 0' "$("$program" ls -l "$edition" disk.img / | awk '$NF == "new" { print $2, $3, $4, $5 }')"
 done
 
-# Special files: without the option the first of them is refused; with it they are left out, in the order of the archive, and the rest is made. A pack
-# with special files, and a link to one, is copied so.
+# special EDITION IMAGE PATH: the mode, the links, the owner, the numbers and the time of a special file, its first address, and the sum of the others
+special() {
+    "$program" ls -l "$1" "$2" "$3" | sed 's/, */,/' | awk '{ print $2, $3, $4, $5, $6, $7, $8 }'
+    "$program" inode "$1" "$2" "$3" | awk '$1 == "addr" { for (k = 3; k <= NF; k++) rest += $k; print $2, rest + 0 }'
+}
+
+# Special files are made with their numbers, and links to them; an export and an import into either edition keep them. With the option they are left out, in the
+# order of the archive, and the rest is made.
 for edition in 6 7; do
     cp "tree.v$edition" pack.img
     played_on() { printf '%b\n' "${@:3}" > script; "$program" play "$1" "$2" script > output 2> error; has "the status of a play on $2" 0 "$?$(cat error)"; }
     played_on "$edition" pack.img '1000 3 5 mkdir /dev 755' '1000 3 5 link /null /dev/null'
     "$program" export "$edition" pack.img > pack.tar
+    for other in 6 7; do
+        cp "blank.v$other" disk.img
+        "$program" import "$other" disk.img / 2000 < pack.tar > output 2> error
+        echo $? > status
+        wants "import of a pack of edition $edition with special files into edition $other" 0 none none
+        "$program" export "$other" disk.img > again.tar
+        saves "the archive of a pack of edition $edition that went into edition $other" again.tar pack.tar
+        "$program" check "$other" disk.img > output
+        has "a sound volume of edition $other with special files" 0 $?
+        for path in /null /dev/null /disk; do
+            has "$path of edition $edition in edition $other" "$(special "$edition" pack.img "$path")" "$(special "$other" disk.img "$path")"
+        done
+        has "another name of a special file in edition $other" "$(number "$other" disk.img /null)" "$(number "$other" disk.img /dev/null)"
+    done
+    # The greatest numbers, and greater ones.
     cp "blank.v$edition" disk.img
-    unimported 'unixvol: dev/null: neither a file, a directory nor a hard link' "$edition" pack.tar
-    saves 'an image into which no pack was imported' disk.img "blank.v$edition"
+    python3 make.py device.tar device 255,255
+    "$program" import "$edition" disk.img / 2000 < device.tar > output 2> error
+    echo $? > status
+    wants "import of devices into edition $edition" 0 none none
+    has "the devices of edition $edition" 'crw--w--w- 255,255 brw-r----- 0,255' \
+        "$(for path in /dev/tty /dev/rk; do "$program" ls -l "$edition" disk.img "$path" | sed 's/, */,/' | awk '{ print $2, $6 }'; done | paste -s -d ' ' -)"
+    cp "blank.v$edition" disk.img
+    for numbers in 256,0 0,256; do
+        python3 make.py device.tar device "$numbers"
+        unimported 'unixvol: dev/tty: a major or minor number above 255' "$edition" device.tar
+    done
+    saves 'an image into which no device was imported' disk.img "blank.v$edition"
     cp disk.img copy.img
     "$program" import --skip-special "$edition" copy.img / 2000 < pack.tar > output 2> error
     echo $? > status
@@ -685,7 +720,7 @@ PYTHON
     { head -c 512 "$archives/fifo.tar"; cat "$archives/symbolic.tar"; } > both.tar
     "$program" import --skip-special "$edition" copy.img < both.tar > output 2> error
     echo $? > status
-    echo 'unixvol: b: neither a file, a directory nor a hard link' > line
+    echo 'unixvol: b: neither a file, a directory, a hard link nor a device' > line
     wants "import of a FIFO and a symbolic link into edition $edition" 1 none line
     saves 'an image into which no symbolic link was imported' copy.img "blank.v$edition"
     # Without special files the option changes nothing.

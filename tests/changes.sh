@@ -360,6 +360,36 @@ END
     head -c 511 start.img > cut.img
     refuses 1 'unixvol: unsound, rule 1' boot "$edition" cut.img hello
     saves 'a volume whose boot block was refused' start.img wanted
+
+    # Special files: their modes, times and first addresses, byte by byte, in the i-nodes that a new volume gives out first.
+    "$program" mkfs "$edition" devices.img 200 10 0 0 0
+    prints none mknod "$edition" devices.img /tty c 3 5 620 1000
+    prints none mknod "$edition" devices.img rk0 b 255 0 u+x,go= 1000 --owner 3:4
+    if [ "$edition" = 6 ]; then
+        holds 'a character device' devices.img 4224 '90 A1 01 00 00 00 00 00 05 03 00 00 00 00 00 00 00 00 00 00 00 00 00 00 00 00 E8 03 00 00 E8 03'
+        holds 'a block device' devices.img 4192 'C0 E1 01 03 04 00 00 00 00 FF 00 00'
+    else
+        holds 'a character device' devices.img 6080 '90 21 01 00 00 00 00 00 00 00 00 00 00 05 03 00 00 00'
+        holds 'the times of a character device' devices.img 6132 '00 00 E8 03 00 00 E8 03 00 00 E8 03'
+        holds 'a block device' devices.img 6016 'C0 61 01 00 03 00 04 00 00 00 00 00 00 00 FF 00 00 00'
+    fi
+    "$program" ls -l "$edition" devices.img | awk '{ print $2, $3, $4, $5, $6 $7, $NF }' > output
+    has 'the special files in a listing' 'brwx------ 1 3 4 255,0 rk0 crw--w---- 1 0 0 3,5 tty' "$(tail -n 2 output | paste -s -d ' ' -)"
+    has 'the device of a special file' '"major":3 "minor":5' "$("$program" ls "$edition" devices.img /tty --json | grep -o '"major":3\|"minor":5' | paste -s -d ' ' -)"
+    has 'what check says of a volume with devices' 0 "$("$program" check "$edition" devices.img > output; echo $?)"
+    cp devices.img wanted
+    refuses 1 'unixvol: 17 Exists' mknod "$edition" devices.img / c 3 5 620 1000
+    refuses 1 'unixvol: 17 Exists' mknod "$edition" devices.img /tty c 3 5 620 1000
+    refuses 1 'unixvol: 2 NoEntry' mknod "$edition" devices.img /no/x c 3 5 620 1000
+    refuses 1 'unixvol: 20 NotDirectory' mknod "$edition" devices.img /tty/x c 3 5 620 1000
+    refuses 1 'unixvol: 104 BadId' mknod "$edition" devices.img /x c 3 5 620 1000 --owner 65535:0
+    misread "error: invalid value 'p' for '<KIND>': c for a device of characters, b for one of blocks" mknod "$edition" devices.img /x p 3 5
+    misread "error: invalid value '256' for '<MAJOR>': not a decimal number from 0 to 255" mknod "$edition" devices.img /x c 256 5
+    misread "error: invalid value '256' for '<MINOR>': not a decimal number from 0 to 255" mknod "$edition" devices.img /x c 3 256
+    misread "error: invalid value '8' for '<PERM>': not an octal number from 0 to 7777" mknod "$edition" devices.img /x c 3 5 8
+    saves 'a volume whose special files stay' devices.img wanted
+    prints none rm "$edition" devices.img /rk0 2000
+    has 'what is left' 'tty' "$("$program" ls "$edition" devices.img | awk '{ print $NF }' | grep -v '^\.')"
 done
 
 echo "$passed passed, $failed failed"

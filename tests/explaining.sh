@@ -349,7 +349,7 @@ has 'a file with --explain' 0 $?
 # The command line's own errors, with the number of a word that isn't text.
 misread "error: invalid value '8'" --explain ls 8 "$image"
 misread "error: invalid value '8' for '<EDITION>': 6 for the Sixth, 7 for the Seventh" ls 8 "$image"
-for words in 'chmod|755' 'chown|1 2' 'touch|' 'import|'; do
+for words in 'chmod|755' 'chown|1 2' 'touch|' 'mknod|c 3 5' 'import|'; do
     misread "error: invalid value '' for '" "${words%|*}" 6 "$image" '' ${words#*|}
     has "what ${words%|*} says of an empty path" 1 "$(grep -c ': it is empty; the root is /$' error)"
 done

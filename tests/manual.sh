@@ -56,7 +56,7 @@ has 'commands with other words in manual/_unixvol' "$branches" "$found"
 source "$manual/unixvol.bash"
 cp "$samples/linux_made.v7" disk.img
 mkdir away
-completes 'mkfs mkdir' mk
+completes 'mkfs mkdir mknod' mk
 completes '6 7 any' ls ''
 completes '6 7' mkfs ''
 completes 'disk.img' ls 7 disk
@@ -82,7 +82,7 @@ completes '/etc/motd' get 7 'disk\.img' /etc/m
 HOME=$folder completes '/etc/motd' get 7 '~/disk.img' /etc/m
 completes '--explain' --ex
 completes '--explain' rm 7 --ex
-completes 'mkfs mkdir' --explain mk
+completes 'mkfs mkdir mknod' --explain mk
 completes '/etc/motd' --explain get 7 disk.img /etc/m
 
 # With an option that has a value a command's words are the same, except those of `put -t` and `get -o`.

@@ -250,6 +250,24 @@ umount mnt
 unmounted 'a volume that is full' 0 ''
 sound 7 small
 
+# Special files are made, copied and saved with their numbers.
+for edition in 6 7; do
+    "$program" mkfs "$edition" special 400 10 0 0 1000
+    mounted "$edition" special
+    mknod -m 620 mnt/tty c 3 5
+    mknod -m 640 mnt/rk b 0 255
+    cp -a mnt/tty mnt/copy
+    has "numbers that are too great, in edition $edition" 'Operation not permitted' "$(LC_ALL=C mknod mnt/no c 256 0 2>&1 | sed 's/.*: //')"
+    has "a FIFO in edition $edition" 'Operation not permitted' "$(LC_ALL=C mkfifo mnt/no 2>&1 | sed 's/.*: //')"
+    has "special files in edition $edition" 'copy c 3 5 620 rk b 0 ff 640 tty c 3 5 620' \
+        "$(cd mnt && stat -c '%n %F %t %T %a' copy rk tty | sed 's/ character special file / c /; s/ block special file / b /' | paste -s -d ' ')"
+    umount mnt
+    unmounted "special files in edition $edition" 0 ''
+    sound "$edition" special
+    has "special files that are saved in edition $edition" 'crw--w---- 3,5 copy brw-r----- 0,255 rk crw--w---- 3,5 tty' \
+        "$("$program" ls -l "$edition" special / | sed 's/, */,/' | awk '$NF !~ /^\./ { print $2, $6, $NF }' | paste -s -d ' ')"
+done
+
 # The server dies: the image is the old one, or that of the last save.
 cp volume old
 mounted 7 volume

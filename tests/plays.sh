@@ -70,7 +70,7 @@ unread 'a long line' 1 1 long_line
 unread 'a long line that ends too soon' 1 1 no_permissions
 { yes '5 0 0 cut' | head -7000; echo x; } > bad_end
 unread 'a bad line after many good ones' 1 7001 bad_end
-has 'the rows in lines' 52 "$(grep -c . "$data/lines")"
+has 'the rows in lines' 66 "$(grep -c . "$data/lines")"
 
 # The fault of the first faulty script is reported, even if the image is faulty too.
 printf '%s\n' '5 0 0 cut' > good
@@ -109,9 +109,10 @@ cat > commands << 'END'
 4294967295 1 65535 list /d
 4294967295 1 65535 cut
 4294967295 1 65535 write /a 0 -
+4294967295 1 65535 mknod /t 620 b 255 007
 END
 refused=$(seq -f '1.%.0f 104 BadId' 12 | paste -s -d '|' -)
-plays 1 "$refused|1.13 cut 0|1.14 104 BadId|records 0|confirmed 13|gone 0" 7 commands
+plays 1 "$refused|1.13 cut 0|1.14 104 BadId|1.15 104 BadId|records 0|confirmed 14|gone 0" 7 commands
 # As one whose group is the seventh edition's greatest, and finally as user 0.
 sed 's/ 1 65535 / 1 32767 /' commands > able
 cat >> able << 'END'
@@ -123,10 +124,12 @@ cat >> able << 'END'
 4294967295 0 0 stat /a
 4294967295 0 0 stat /d
 4294967295 0 0 stat /b
+4294967295 0 0 mknod /t 620 b 255 007
+4294967295 0 0 stat /t
 END
 plays 1 "1.1 ok 16|1.2 ok 15|1.3 ok 0|1.4 ok 0|1.5 22 Invalid|1.6 ok 2|1.7 22 Invalid|1.8 ok 0|1.9 104 BadId|1.10 stat 2 dir 0777 3 0 0 80\
-|1.11 13 Access|1.12 list 2|1.13 cut 6|1.14 13 Access|1.15 read 0000|1.16 ok 0|1.17 read 004a|1.18 read 4aff|1.19 ok 0|1.20 stat 16 file 0000 1 32767 0 9\
-|1.21 stat 15 dir 7777 2 1 32767 32|1.22 2 NoEntry|records 2|confirmed 13|gone 8" 7 able
+|1.11 13 Access|1.12 list 2|1.13 cut 6|1.14 13 Access|1.15 1 NotOwner|1.16 read 0000|1.17 ok 0|1.18 read 004a|1.19 read 4aff|1.20 ok 0\
+|1.21 stat 16 file 0000 1 32767 0 9|1.22 stat 15 dir 7777 2 1 32767 32|1.23 2 NoEntry|1.24 ok 14|1.25 stat 14 special 0620 1 0 0 0|records 3|confirmed 16|gone 8" 7 able
 runs inode 7 played 16
 has 'the times of a file that was played' '4294967295 4294967295 4294967295' "$(awk '/time/ { print $2 }' output | paste -s -d ' ' -)"
 { head -c 7 /dev/zero; printf 'J\xff'; } > bytes
@@ -145,15 +148,16 @@ cat > calls << END
 14 0 0 mkdir //e 0
 15 0 0 rmdir //e
 16 0 0 write d/f 0 -
+16 0 0 mknod /d/t 620 b 0 255
 17 0 0 unlink /none
 18 0 0 stat /d
 END
-head -n 12 calls | sed 's/ 755$/ 0755/; s/ 644$/ 0644/; s/ 7$/ 0007/; s/ 4a4B$/ 4a4b/; s/e 0$/e 0000/' > journal
+head -n 13 calls | sed 's/ 755$/ 0755/; s/ 620 / 0620 /; s/ 644$/ 0644/; s/ 7$/ 0007/; s/ 4a4B$/ 4a4b/; s/e 0$/e 0000/' > journal
 cp made.7 played
 runs play --journal 7 played calls
 has 'the status of a play with its journal' 1 "$(cat status)"
-has 'the lines before a journal' 'records 12|confirmed 14' "$(tail -n 14 output | head -n 2 | paste -s -d '|' -)"
-tail -n 12 output > lines
+has 'the lines before a journal' 'records 13|confirmed 15' "$(tail -n 15 output | head -n 2 | paste -s -d '|' -)"
+tail -n 13 output > lines
 has 'the journal of a play' '' "$(diff journal lines)"
 cp made.7 again
 "$program" play 7 again journal > output

@@ -47,14 +47,24 @@ cat > all << 'END'
 17 0 0 unlink /d/f
 18 0 0 rmdir /d
 19 256 0 stat /
+20 0 4 mknod /tty 620 c 3 5
+21 0 0 mknod /tty 620 b 3 5
+22 0 0 mknod / 620 c 3 5
+23 7 0 mknod /rk0 620 b 255 0
+24 0 0 mknod /rk0 7777 b 255 0
+25 0 0 read /tty 0 1
+26 0 0 stat /tty
 END
 printf '%s\n' '1.1 ok 32' '1.2 13 Access' '1.3 ok 31' '1.4 ok 4' '1.5 ok 0' '1.6 ok 0' '1.7 read 42430a' '1.8 read -' '1.9 list 3' \
     '1.10 stat 32 dir 0755 2 0 0 48' '1.11 ok 0' '1.12 ok 0' '1.13 1 NotOwner' '1.14 ok 0' '1.15 stat 31 file 7777 2 3 4 1' \
-    '1.16 101 NotEmpty' '1.17 ok 0' '1.18 ok 0' '1.19 104 BadId' 'records 10' 'confirmed 19' > lines
+    '1.16 101 NotEmpty' '1.17 ok 0' '1.18 ok 0' '1.19 104 BadId' '1.20 ok 32' '1.21 17 Exists' '1.22 17 Exists' '1.23 1 NotOwner' '1.24 ok 30' \
+    '1.25 102 NotRegular' '1.26 stat 32 special 0620 1 0 4 0' 'records 12' 'confirmed 26' > lines
 cp made played
 runs play 6 played all
 wants 'all calls and queries in a script' 1 lines none
-printf '%s\n' '    1 .' '    1 ..' '   31 g' > lines
+holds 'a special file of characters that was played' played 2016 '90 A1 01 00 04 00 00 00 05 03 00 00 00 00'
+holds 'a special file of blocks that was played' played 1952 'FF EF 01 00 00 00 00 00 00 FF 00 00 00 00'
+printf '%s\n' '    1 .' '    1 ..' '   31 g' '   30 rk0' '   32 tty' > lines
 prints lines ls 6 played /
 : > no_line
 cp made played

@@ -150,7 +150,7 @@ for edition in 6 7; do
     # Changes. Random ones leave a sound image.
     rm -rf temporary
     mkdir temporary
-    for kind in session linux mine full known replaced rescued gone lost; do
+    for kind in session linux mine full known devices replaced rescued gone lost; do
         rm -f empty.*
         "$program" mkfs "$edition" empty 6000 40 0 0 1000
         changes $kind empty

@@ -55,6 +55,7 @@ cat > calls << 'END'
 1016 0 0 write d/f 0 -
 END
 printf '1017 0 0 write /d/f 5120 %s\n' "$(head -c 1000 /dev/zero | od -An -v -tx1 | tr -d ' \n')" >> calls
+echo '1018 0 0 mknod /d/t 620 b 0 255' >> calls
 
 # traced EDITION SCRIPT: the trace of a script on a new volume is, call by call, the journal's line and the differences that the call made
 traced() {
@@ -232,6 +233,7 @@ traces chmod /f u+x,go-r 3000 <<< '3000 0 0 chmod /f 700'
 traces chown /d 3 4 3000 <<< '3000 0 0 chown /d 3 4'
 traces touch /f 3000 <<< '3000 0 0 times /f 3000 3000'
 traces touch /n 3000 <<< '3000 0 0 create /n 644'
+traces mknod /tty c 3 5 622 3000 <<< '3000 0 0 mknod /tty 622 c 3 5'
 
 # An archive, from standard input: a file below a directory that is missing, and a special file that is left out, which has a line.
 mkdir -p packed/e

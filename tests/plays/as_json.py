@@ -13,7 +13,7 @@ def escaped(text):
 def of_line(line, call, word, rest):
     """Returns what the object of a line has besides its place. `call` is the call or query in the script."""
     if word == "ok":
-        key = {"create": "ino", "mkdir": "ino", "write": "count"}.get(call)
+        key = {"create": "ino", "mkdir": "ino", "mknod": "ino", "write": "count"}.get(call)
         if key is None:
             assert rest == ["0"], line
             return {"line": "ok"}

@@ -9,15 +9,16 @@ Usage: changes.py session PROGRAM EDITION IMAGE      an empty volume of 6,000 bl
        changes.py lost PROGRAM EDITION IMAGE         the same, and no other file can be written either
        changes.py full PROGRAM EDITION IMAGE         writes until the volume is full
        changes.py known PROGRAM EDITION IMAGE        what the server remembers of a node between two requests
+       changes.py devices PROGRAM EDITION IMAGE      special files
 It prints a line for each thing that is wrong. Structs and numbers are those of Linux's include/uapi/linux/fuse.h."""
-import fcntl, os, struct, subprocess, sys, time
+import fcntl, os, re, struct, subprocess, sys, time
 import kernel as k
 from kernel import Attributes, Kernel, check, printed
 
 EPERM, EIO, EEXIST, EXDEV, ENOTDIR, EISDIR, EINVAL, EFBIG, ENOSPC, ENOTEMPTY, ESTALE = 1, 5, 17, 18, 20, 21, 22, 27, 28, 39, 116
 FSYNC, FSYNCDIR = 20, 30
 SIZE, MODE, UID, GID, ATIME, MTIME, ATIME_NOW = 8, 1, 2, 4, 16, 32, 128
-FILE, DIRECTORY, PIPE = 0o100000, 0o040000, 0o010000
+FILE, DIRECTORY, PIPE, CHARACTER, BLOCK, SOCKET = 0o100000, 0o040000, 0o010000, 0o020000, 0o060000, 0o140000
 
 
 class Changing(Kernel):
@@ -32,8 +33,8 @@ class Changing(Kernel):
         error, reply = self.ask(opcode, directory, body)
         return error if error else (struct.unpack_from("<Q", reply)[0], Attributes(reply[40:]))
 
-    def mknod(self, directory, name, mode=FILE | 0o644):
-        return self.entry(k.MKNOD, directory, struct.pack("<IIII", mode, 0, 0, 0) + name + b"\0")
+    def mknod(self, directory, name, mode=FILE | 0o644, device=0):
+        return self.entry(k.MKNOD, directory, struct.pack("<IIII", mode, device, 0, 0) + name + b"\0")
 
     def mkdir(self, directory, name, mode=0o755):
         return self.entry(k.MKDIR, directory, struct.pack("<II", mode, 0) + name + b"\0")
@@ -318,6 +319,27 @@ def known(volume):
     middle(volume, d)
 
 
+def number(major, minor):
+    """Linux's number of a device (new_encode_dev)."""
+    return minor & 0xFF | major << 8 | (minor & ~0xFF) << 12
+
+
+def devices(volume):
+    """Special files have the kind and the numbers that they are made with; greater numbers than an i-node has room for are refused."""
+    for name, kind, major, minor in ((b"tty", CHARACTER, 3, 5), (b"rk", BLOCK, 0, 255), (b"last", CHARACTER, 255, 255)):
+        node, made = volume.mknod(k.ROOT, name, kind | 0o620, number(major, minor))
+        check(f"the device {name}", (kind | 0o620, 1, 0, number(major, minor)), (made.mode, made.nlink, made.size, made.rdev))
+        check(f"the device {name} by its node", number(major, minor), volume.attributes(node).rdev)
+    for label, kind, major, minor in (("major", CHARACTER, 256, 0), ("minor", BLOCK, 0, 256), ("greatest", BLOCK, 4095, 0xFFFFF)):
+        check(f"a device whose {label} number is too great", EPERM, error_of(volume.mknod(k.ROOT, b"no", kind | 0o600, number(major, minor))))
+    check("a socket", EPERM, error_of(volume.mknod(k.ROOT, b"no", SOCKET | 0o600)))
+    check("a device of that name", EEXIST, error_of(volume.mknod(k.ROOT, b"tty", CHARACTER | 0o600, number(3, 5))))
+    check("fsync", 0, volume.sync())
+    rows = [re.sub(rb", *", b",", row).split() for row in volume.saved("ls", "-l", "/").splitlines()]
+    check("what is saved", [(b"crw--w----", b"255,255", b"last"), (b"brw--w----", b"0,255", b"rk"), (b"crw--w----", b"3,5", b"tty")],
+          sorted(((row[1], row[5], row[-1]) for row in rows if row[1][:1] in b"cb"), key=lambda row: row[-1]))
+
+
 def closed(volume, d):
     """Files that are closed when they are removed take no room, however many there were: together twice the image's size."""
     most, piece, removed = 2 * os.path.getsize(volume.image), bytes(131072), 0
@@ -367,8 +389,8 @@ def main():
         with open(image + ".unixvol-rescue-0", "wb") as file:
             file.write(b"earlier")
     volume = Changing(program, edition, image, *{"mine": ["--mine"], "rescued": ["--rescue", image + ".kept"]}.get(kind, []))
-    {"session": session, "linux": linux, "mine": mine, "replaced": replaced, "rescued": replaced, "gone": gone, "lost": gone, "full": full, "known": known}[kind](volume)
-    if kind in ("session", "linux", "mine", "full", "known"):
+    {"session": session, "linux": linux, "mine": mine, "replaced": replaced, "rescued": replaced, "gone": gone, "lost": gone, "full": full, "known": known, "devices": devices}[kind](volume)
+    if kind in ("session", "linux", "mine", "full", "known", "devices"):
         check("the status and the lines", (0, ""), volume.end())
         is_sound("the end", volume)
     if kind == "session":

@@ -34,7 +34,7 @@ pub use lost::lost_inodes;
 pub use owner_texts::push_owners;
 pub use owners::{Owner, inspect_block};
 pub use shares::shared_blocks;
-pub use shown_blocks::{node_uses, shown_uses};
+pub use shown_blocks::{all_shown, node_uses, shown_uses};
 pub use space::in_use;
 pub use super_report::{SuperReport, inspect_super};
 pub use svg_picture::svg;

@@ -25,8 +25,8 @@ pub fn shown_uses(
     all_shown(alloc, &uses)
 }
 
-/// Returns blocks with these uses, all shown.
-fn all_shown(alloc: Global, uses: &[Use]) -> Result<Vec<Option<Use>>, AllocError>
+/// Returns blocks with these uses, all shown. Takes two bytes of memory for each block.
+pub fn all_shown(alloc: Global, uses: &[Use]) -> Result<Vec<Option<Use>>, AllocError>
     ensures { IfOk result (λ shown. shown.items ≡ map (λ u. Some u) uses.now) }
 {
     uses.iter().map(|usage| Some(*usage)).collect(alloc)

@@ -1,11 +1,9 @@
 -- Laws of the number of lines of a name report.
-use Rattle.std.proofs.Common.{◌≡◌, ◌≢◌, ℕ, zero, suc, ◌+◌, ◌-◌, ◌*◌, ◌≤◌, ◌∙◌, sym, ap, if◌then◌else◌, List, [], ◌∷◌, map, length, Option, None, Some, Bool, true, false, Ok, Err, refl, subst, arith}
-use Rattle.std.specs.List.{sum_by}
+use Rattle.std.proofs.Common.{◌≡◌, ◌≢◌, ℕ, zero, suc, ◌+◌, ◌-◌, ◌≤◌, ◌∙◌, sym, ap, if◌then◌else◌, List, [], ◌∷◌, map, length, Option, None, Some, Bool, true, false, Ok, subst, arith}
 use Rattle.std.proofs.lemmas.List.{length-map}
 use Rattle.vol_layout.specs.Geometry.{geometry_read}
 use Rattle.vol_layout.specs.declared.edition.Edition.{Edition}
 use Rattle.vol_layout.specs.declared.geometry.Geometry.{Geometry}
-use Rattle.vol_layout.specs.declared.mode.Kind.{Kind}
 use Rattle.vol_layout.specs.declared.mode.Kind.TheVariants as kinds
 use Rattle.vol_file.specs.Rules.{kind_at}
 use Rattle.vol_dir.specs.Entries.{entry_at, slot_count}

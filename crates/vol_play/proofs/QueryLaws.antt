@@ -1,7 +1,7 @@
 -- The results of a view's queries.
-use Rattle.std.proofs.Common.{◌≡◌, ℕ, ◌≤◌, ◌-◌, List, [], ◌∷◌, length, true, refl, ap, subst, arith, length-append}
+use Rattle.std.proofs.Common.{◌≡◌, ℕ, ◌≤◌, ◌-◌, List, [], ◌∷◌, true, refl, subst, arith}
 use Rattle.vol_views.specs.declared.history.LogEntry.{LogEntry}
-use Rattle.vol_views.specs.Logs.{history_of, number_of, origin_in}
+use Rattle.vol_views.specs.Logs.{history_of, origin_in}
 use Rattle.vol_receipts.specs.Agrees.{AgreesAfter, next_of, place_of}
 use Rattle.vol_receipts.specs.declared.receipts.Asked.{Asked}
 use Rattle.vol_receipts.specs.declared.receipts.Asked.TheVariants.{Question}
@@ -11,7 +11,7 @@ use Rattle.vol_receipts.specs.declared.receipts.Outcome.TheVariants.{Accepted, R
 use Rattle.vol_receipts.specs.declared.receipts.Receipt.{Receipt}
 use Rattle.vol_scripts.specs.declared.played.Played.{Played}
 use Rattle.vol_scripts.specs.declared.played.Played.TheVariants as played
-use Rattle.vol_views.specs.Views.{AgreesIn, GoesOn}
+use Rattle.vol_views.specs.Views.{AgreesIn}
 use Rattle.vol_volume.specs.declared.calls.Record.{Record}
 use Rattle.vol_volume.specs.declared.queries.Query.{Query}
 use Rattle.vol_play.specs.Steps.{CameInTurn, CameOfQuery, CameOfView, is_seen, cuts_made, next_after, places_made}

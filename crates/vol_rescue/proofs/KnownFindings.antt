@@ -1,17 +1,14 @@
 -- The violations that rest on no lost block are right, whatever the lost blocks held.
-use Rattle.std.proofs.Common.{◌≡◌, ◌≢◌, ℕ, ◌%◌, ◌≤◌, ◌⊎◌, ◌&&◌, ◌∙◌, Bool, true, false, not, if◌then◌else◌, List, [], Option, None, Some, refl, sym, ap, subst, arith, inl, inr, nat_le}
+use Rattle.std.proofs.Common.{◌≡◌, ◌≢◌, ℕ, ◌%◌, ◌≤◌, ◌⊎◌, ◌∙◌, Bool, true, false, not, if◌then◌else◌, List, [], Some, refl, sym, ap, subst, arith, inl, inr, nat_le}
 use Rattle.std.proofs.lemmas.Bool.{leb-true, and_parts, true≢false}
 use Rattle.vol_layout.specs.Edition.{constants}
 use Rattle.vol_layout.specs.Geometry.{Fits}
-use Rattle.vol_layout.specs.Inode.{inode_of, kind_of}
+use Rattle.vol_layout.specs.Inode.{kind_of}
 use Rattle.vol_layout.specs.Body.{body, body_size}
-use Rattle.vol_layout.specs.BlockPointers.{IsFile, form_at, mode_of}
-use Rattle.vol_layout.specs.declared.edition.Edition.TheVariants.{V7}
 use Rattle.vol_layout.specs.declared.geometry.Geometry.{Geometry}
 use Rattle.vol_layout.specs.declared.i_node.Inode.{Inode}
 use Rattle.vol_layout.specs.declared.mode.Kind.{Kind}
 use Rattle.vol_layout.specs.declared.mode.Kind.TheVariants as kinds
-use Rattle.vol_layout.specs.declared.block_map.BlockMap.TheVariants.{Small}
 use Rattle.vol_layout.proofs.InodeLaws.{KeepsInode, body_size_kept, file_kept, form_kept, inode_of_kept, mode_kept, size_kept}
 use Rattle.vol_file.specs.Rules.{HasKinds, HasSizes, kind_at, size_of}
 use Rattle.vol_dir.specs.Entries.{HasEntries, HasEntry, IsDirectory, entry_at}
@@ -21,7 +18,7 @@ use Rattle.vol_losses.proofs.Agreement.{body_agrees, node_agrees}
 use Rattle.vol_losses.proofs.SureFlags.{whole_is}
 use Rattle.vol_judge.specs.Entries.{IsFirstEntry, IsFirstSlot, IsWrongEntry}
 use Rattle.vol_judge.specs.INodes.{IsFirstKind, IsFirstSize}
-use Rattle.vol_judge.specs.Limits.{IsLinked, IsSized, KeepsBadBlocks}
+use Rattle.vol_judge.specs.Limits.{IsLinked, IsSized}
 use Rattle.vol_judge.specs.declared.finding.Finding.{Finding}
 use Rattle.vol_judge.specs.declared.finding.Finding.TheVariants as findings
 use Rattle.vol_judge.proofs.RuleNumbers.{read_sizes}

@@ -1,5 +1,5 @@
 -- Facts about published volumes and the log prefixes that views know.
-use Rattle.std.proofs.Common.{◌≡◌, ◌≢◌, ℕ, ◌+◌, ◌≤◌, List, [], ◌∷◌, ◌++◌, length, All, Option, None, Some, IfSome, refl, ap, sym, ◌∙◌, subst, arith, append_assoc, append-nil, length-append}
+use Rattle.std.proofs.Common.{◌≡◌, ℕ, ◌+◌, ◌≤◌, List, [], ◌∷◌, ◌++◌, length, All, Option, None, Some, IfSome, refl, ap, sym, ◌∙◌, subst, arith, append_assoc, append-nil, length-append}
 use Rattle.std.proofs.lemmas.List.Elements.{All-append, All-cons, All-nil}
 use mathlib.Core.List.{IsPrefix}
 use Rattle.logbook.specs.Pages.{Book}
@@ -26,9 +26,9 @@ use Rattle.vol_views.specs.declared.history.LogEntry.TheVariants.{Made}
 use Rattle.vol_views.specs.States.{state_of}
 use Rattle.vol_views.specs.Logs.{history_of, origin_in, number_of}
 use Rattle.vol_views.proofs.Logs.{history_more, origin_more}
-use Rattle.vol_views.specs.Views.{Watched, GoesOn, AgreesIn, IsNew}
+use Rattle.vol_views.specs.Views.{Watched, AgreesIn, IsNew}
 use Rattle.vol_views.proofs.Views.{agree_on}
-use Rattle.vol_shared.specs.Stored.{Stored, stored_of, stored_with, unpublished, next_number, IsCut, Follows}
+use Rattle.vol_shared.specs.Stored.{Stored, stored_of, stored_with, unpublished, next_number, IsCut}
 use Rattle.vol_shared.specs.Plays.{IsAnswered}
 use Rattle.vol_shared.specs.Close.{IsSettled}
 use Rattle.vol_shared.specs.Published.{IsPublished}

@@ -1,6 +1,7 @@
 // What changes a volume: files put in, directories made, names removed, and the archives that go in and out.
 import { Stopped, asks, chooseFiles, counted, save, say } from './dom.mjs';
 import { ask } from './engine.mjs';
+import { archiveOf } from './folders.mjs';
 import { addFile, at, choose, open, removeFile, run, state, wholeImage } from './shelf.mjs';
 import { reveal } from './tree.mjs';
 
@@ -128,6 +129,12 @@ async function savesArchive(args, name, limit = ASKED) {
 export async function importArchive(blob, name, directory) {
   const stdin = await bytesOf(blob);
   if (await changes(['import', ...at(), directory.word], `The files of ${name} are in ${directory.path}.`, { stdin, from: name })) await reveal(directory.path);
+}
+
+/** Makes files and folders of the host, with all that is below them, in a directory: all, or none. Nothing is replaced. */
+export async function importFolders(entries, directory) {
+  const names = entries.map((it) => it.name).join(', ');
+  await importArchive(await archiveOf(entries), names, directory);
 }
 
 const DISKS = [['rk05', 4872], ['rk06', 27126], ['rk07', 53790], ['rl01', 10240], ['rl02', 20480], ['rm03', 131680], ['rp03', 81200], ['rp04', 171798],

@@ -1,9 +1,10 @@
 // The page: its tabs, its buttons, and files that are dropped on it.
 import { $, asks, chooseFiles, counted, does, doing, el, fill, say } from './dom.mjs';
 import { showBytesOfBlock } from './bytes.mjs';
-import { exportTree, importArchive, insides, newVolume, putFiles, salvage } from './edit.mjs';
+import { exportTree, importArchive, importFolders, insides, newVolume, putFiles, salvage } from './edit.mjs';
 import { start, unixvol } from './engine.mjs';
 import { showFile } from './file.mjs';
+import { droppedEntries } from './folders.mjs';
 import { lessonText, showLessons } from './lessons.mjs';
 import { showMap } from './map.mjs';
 import { showPlay } from './play.mjs';
@@ -142,7 +143,7 @@ async function copyCommand() {
   }
 }
 
-/** Files that are dropped on the tree go into the volume; elsewhere they are opened. */
+/** Files and folders that are dropped on the tree go into the volume; files that are dropped elsewhere are opened. */
 function makeDrops() {
   addEventListener('dragover', (event) => {
     event.preventDefault();
@@ -154,16 +155,24 @@ function makeDrops() {
   addEventListener('drop', (event) => {
     event.preventDefault();
     const files = [...event.dataTransfer.files];
+    const entries = droppedEntries(event.dataTransfer);
     const item = event.target.closest?.('#tree') && state.image?.isSound ? (event.target.closest('[data-path]') ?? $('tree').querySelector('[data-path]'))
       : null;
-    does(() => (item ? dropInto(item.dataset.path, files) : openFiles(files)));
+    does(() => (item ? dropInto(item.dataset.path, files, entries) : openDropped(files, entries)));
   });
 }
 
-async function dropInto(path, files) {
+/** Opens files as images. A folder is none. */
+async function openDropped(files, entries) {
+  if (entries.some((it) => it.isDirectory)) return say('A folder is no image: drop it on the tree of a sound volume, to put it in.', true);
+  await openFiles(files);
+}
+
+async function dropInto(path, files, entries) {
   const root = await readTree(state.image);
   const node = root.all.get(path);
   const directory = node.kids ? node : root.all.get(node.up);
+  if (entries.some((it) => it.isDirectory)) return importFolders(entries, directory);
   const [first] = files;
   if (files.length === 1 && first.name.endsWith('.tar')) {
     const given = await asks(first.name,

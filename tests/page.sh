@@ -1,6 +1,6 @@
 #!/usr/bin/env bash
-# Runs rows of the other tests through the program for WebAssembly that `make page` built, by Node, compares it with the native program, by page/differ.mjs, and
-# drives the page in Chromium, by tests/page/rows.py.
+# Runs rows of the other tests through the program for WebAssembly that `make page` built, by Node, compares it with the native program, by page/differ.mjs, imports
+# what the page makes of a dropped folder, by tests/page/folders.mjs, and drives the page in Chromium, by tests/page/rows.py.
 # What is missing, or was built from other sources, is skipped with a message.
 # Usage: tests/page.sh FOLDER, which tools/page.sh built. ROWS names the scripts, if not those below; PROGRAM the native program, if it isn't ./unixvol; RUNS how
 # many runs are compared. It prints what fails, and ends with 'N passed, N failed, N skipped'.
@@ -33,6 +33,11 @@ test_same() {
     sed '$d; s/^/    /' "$room/output"
 }
 
+# test_folders: the archive of a folder that is dropped on the page
+test_folders() {
+    runs 'a dropped folder' tests/page/folders.mjs "$built"
+}
+
 # test_page: what the page shows and saves in a browser
 test_page() {
     command -v chromium chromium-browser google-chrome >/dev/null || skips "chromium is not here (Debian's chromium): the page in a browser" || return
@@ -44,6 +49,7 @@ if is_built; then
     if command -v node >/dev/null; then
         test_command
         test_same
+        test_folders
     else
         skips "node is not here (Debian's nodejs): the rows for WebAssembly"
     fi

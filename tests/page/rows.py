@@ -116,6 +116,17 @@ class Page(Browser):
             data.items.add(new File([Uint8Array.from(atob('{base64.b64encode(data).decode()}'), (it) => it.charCodeAt(0))], {name!r}));
             document.querySelector('[data-path="{path}"] > .line').dispatchEvent(new DragEvent('drop', {{ bubbles: true, dataTransfer: data }}))""")
 
+    def drops_folder(self, path, name, files):
+        """Drops a folder with these files, by name, on the line of a path in the tree, or on the page. A script can't make a folder, so what a browser gives
+        of one is stood in for."""
+        self.js(f"""const file = ([name, bytes]) => ({{ name, isDirectory: false, file: (done) => done(new File([bytes], name, {{ lastModified: 3e11 }})) }});
+            const kids = Object.entries({files!r}).map(file);
+            const createReader = () => ({{ readEntries: (done) => done(kids.splice(0, 1)) }});
+            const items = [{{ webkitGetAsEntry: () => ({{ name: {name!r}, isDirectory: true, createReader }}) }}];
+            const event = new DragEvent('drop', {{ bubbles: true }});
+            Object.defineProperty(event, 'dataTransfer', {{ value: {{ files: [], items }} }});
+            (document.querySelector('[data-path="{path}"] > .line') ?? document.body).dispatchEvent(event)""")
+
     def image(self, name):
         """The bytes of the image that is open, as the page saves it."""
         self.click("#save")
@@ -397,6 +408,16 @@ def check_new(page, native):
     page.says("drop is in the volume")
     native.write("new.img", page.image("new.img"))
     has("a file that was dropped", "dropped\n", native.out("get", 6, "new.img", "/drop"))
+    page.drops_folder("/", "src", {"b.c": "int x;\n", "a.c": "a\n"})
+    page.says("The files of src are in /")
+    native.write("new.img", page.image("new.img"))
+    has("a folder that was dropped", "/src\n/src/a.c\n/src/b.c\n", native.out("find", 6, "new.img", "/src"))
+    has("a file in it", "int x;\n", native.out("get", 6, "new.img", "/src/b.c"))
+    page.drops_folder("/", "src", {"c.c": "c\n", "a.c": "other\n"})
+    page.rests()
+    has("a folder with a file that is there", True, "Exists" in page.text("#said"))
+    page.drops_folder("no path", "src", {})
+    page.says("A folder is no image")
     names = re.findall(r"\S+$", subprocess.run(["tar", "-tf", archive], capture_output=True, check=True, text=True).stdout, re.M)
     page.drops("/", "again.tar", native.bytes("tree.tar"))
     page.answers()

@@ -411,7 +411,7 @@ def check_new(page, native):
     page.drops_folder("/", "src", {"b.c": "int x;\n", "a.c": "a\n"})
     page.says("The files of src are in /")
     native.write("new.img", page.image("new.img"))
-    has("a folder that was dropped", "/src\n/src/a.c\n/src/b.c\n", native.out("find", 6, "new.img", "/src"))
+    has("a folder that was dropped", "/src/a.c\n/src/b.c\n", native.out("find", 6, "new.img", "/src"))
     has("a file in it", "int x;\n", native.out("get", 6, "new.img", "/src/b.c"))
     page.drops_folder("/", "src", {"c.c": "c\n", "a.c": "other\n"})
     page.rests()

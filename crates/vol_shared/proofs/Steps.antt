@@ -1,7 +1,7 @@
 -- Each step preserves the rule of the table.
-use Rattle.std.proofs.Common.{◌≡◌, ◌≢◌, ℕ, ◌+◌, ◌-◌, ◌<◌, ◌≤◌, List, [], ◌∷◌, ◌++◌, length, set, slice_index, max, ◌==◌, Bool, true, false, cond, Option, Some, None, All, sym, refl, ap, ◌∙◌, subst, append_assoc, append-nil, length-append, arith, length-set, get_or-set_same}
+use Rattle.std.proofs.Common.{◌≡◌, ◌≢◌, ℕ, ◌+◌, ◌-◌, ◌<◌, ◌≤◌, List, [], ◌∷◌, ◌++◌, length, set, slice_index, max, ◌==◌, Bool, true, false, cond, Option, Some, None, All, sym, refl, ap, ◌∙◌, subst, append_assoc, append-nil, length-append, arith, length-set, get_or-set_same, ⊎_elim}
 use Rattle.std.proofs.lemmas.List.Elements.{All-append, All-cons, All-nil}
-use mathlib.Core.Option.{some}
+use mathlib.Core.Option.{some, some-injective, some-ne-none}
 use lib.ListN.{get_elem?}
 use prog.Atomic.{either}
 use Rattle.atomic_table.specs.Table.{State, Me, Step, Act, Allows, keeps, takes, gives, Valid, stepped, carried_after, rest}

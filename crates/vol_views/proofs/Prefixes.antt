@@ -1,5 +1,5 @@
 -- Prefixes of logs.
-use Rattle.std.proofs.Common.{◌≡◌, ap, sym, ◌∙◌, subst, inl, inr}
+use Rattle.std.proofs.Common.{◌≡◌, ap, sym, ◌∙◌, subst, inl, inr, ⊎_elim}
 use mathlib.Core.List.{IsPrefix}
 use Rattle.vol_views.specs.History.{Reached}
 use Rattle.vol_views.proofs.Beginnings.{prefix_self, prefix_trans}

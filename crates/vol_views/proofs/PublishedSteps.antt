@@ -1,5 +1,5 @@
 -- Each step preserves the rule of the published version.
-use Rattle.std.proofs.Common.{◌≡◌, ◌≢◌, ℕ, ◌+◌, List, [], ◌∷◌, ◌++◌, set, fold, refl, ap, sym, ◌∙◌, subst, inl, Some}
+use Rattle.std.proofs.Common.{◌≡◌, ◌≢◌, ℕ, ◌+◌, List, [], ◌∷◌, ◌++◌, set, fold, refl, ap, sym, ◌∙◌, subst, inl, ⊎_elim, Some}
 use Rattle.std.proofs.lemmas.List.{append-nil}
 use mathlib.Core.List.{IsPrefix}
 use mathlib.Core.Option.{some}

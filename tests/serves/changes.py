@@ -332,7 +332,13 @@ def devices(volume):
         check(f"the device {name} by its node", number(major, minor), volume.attributes(node).rdev)
     for label, kind, major, minor in (("major", CHARACTER, 256, 0), ("minor", BLOCK, 0, 256), ("greatest", BLOCK, 4095, 0xFFFFF)):
         check(f"a device whose {label} number is too great", EPERM, error_of(volume.mknod(k.ROOT, b"no", kind | 0o600, number(major, minor))))
-    check("a socket", EPERM, error_of(volume.mknod(k.ROOT, b"no", SOCKET | 0o600)))
+    for label, kind in (("socket", SOCKET), ("FIFO", PIPE), ("directory", DIRECTORY), ("multiplexor", 0o030000)):
+        check(f"a {label}", EPERM, error_of(volume.mknod(k.ROOT, b"no", kind | 0o600)))
+    volume.caller = (5, 6)
+    for kind in CHARACTER, BLOCK:
+        check("a device, by a user other than 0", EPERM, error_of(volume.mknod(k.ROOT, b"no", kind | 0o600)))
+    check("a file, by that user", (5, 6), (lambda made: (made.uid, made.gid))(volume.mknod(k.ROOT, b"own")[1]))
+    volume.caller = (0, 0)
     check("a device of that name", EEXIST, error_of(volume.mknod(k.ROOT, b"tty", CHARACTER | 0o600, number(3, 5))))
     check("fsync", 0, volume.sync())
     rows = [re.sub(rb", *", b",", row).split() for row in volume.saved("ls", "-l", "/").splitlines()]

@@ -31,8 +31,8 @@ def check(label, wanted, got):
         wrong.append(f"{label}: {got!r}, wanted {wanted!r}")
 
 
-def request(opcode, unique, node, body=b"", length=None):
-    return struct.pack("<IIQQIIII", 40 + len(body) if length is None else length, opcode, unique, node, 0, 0, 1, 0) + body
+def request(opcode, unique, node, body=b"", length=None, caller=(0, 0)):
+    return struct.pack("<IIQQIIII", 40 + len(body) if length is None else length, opcode, unique, node, *caller, 1, 0) + body
 
 
 def init_body():
@@ -57,11 +57,12 @@ class Kernel:
         self.ours.settimeout(20)
         self.server = subprocess.Popen([program, "serve", *options, edition, image], stdin=theirs, stdout=theirs, stderr=subprocess.PIPE)
         theirs.close()
-        self.options, self.unique = options, 0
+        # The user and the group that ask.
+        self.options, self.unique, self.caller = options, 0, (0, 0)
 
     def send(self, opcode, node, body=b"", length=None):
         self.unique += 2
-        self.ours.send(request(opcode, self.unique, node, body, length))
+        self.ours.send(request(opcode, self.unique, node, body, length, self.caller))
 
     def reply(self):
         got = self.ours.recv(1 << 20)

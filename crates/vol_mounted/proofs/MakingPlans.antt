@@ -237,7 +237,7 @@ pub making : (sight : Sight) (header : Header) (operation : Operation) → is_ma
 unfolding calls_of
 making sight header (operations.MkNod mode device name) it =
     then_holds _ (number_at sight header.node) _ (λ d at.
-    then_holds _ (ok_or (new_file mode device) mounted.NotPermitted) _ (λ file chosen.
+    then_holds _ (ok_or (new_file header.uid mode device) mounted.NotPermitted) _ (λ file chosen.
     then_holds _ (owner_of sight.geometry.edition sight.owner header) _ (λ owner owned.
     then_holds _ (name_at sight d name) _ (λ path found.
     let pathed = has_held (IsPathed sight d name) _ path (name_pathed sight d name) found in record {

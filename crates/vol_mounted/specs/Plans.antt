@@ -1,5 +1,5 @@
 -- The calls that requests make.
-use Rattle.std.specs.Prelude.{ℕ, ◌+◌, ◌-◌, ◌*◌, ◌%◌, ◌/◌, ◌^◌, ◌==◌, ◌&&◌, ◌||◌, nat_lt, nat_le, min, Bool, true, false, unwrap_or, is_none, if◌then◌else◌, List, [], ◌∷◌, ◌++◌, Option, None, Some, Result, Ok, Err}
+use Rattle.std.specs.Prelude.{ℕ, ◌+◌, ◌-◌, ◌*◌, ◌%◌, ◌/◌, ◌^◌, ◌==◌, ◌&&◌, ◌||◌, nat_lt, nat_le, min, Bool, true, false, not, unwrap_or, is_none, if◌then◌else◌, List, [], ◌∷◌, ◌++◌, Option, None, Some, Result, Ok, Err}
 use Rattle.std.specs.Option.{ok_or, option_to_list}
 use Rattle.fuse_words.specs.declared.attribute_changes.AttributeChanges.{AttributeChanges}
 use Rattle.fuse_words.specs.declared.attribute_changes.NewTime.{NewTime}
@@ -91,11 +91,12 @@ special_file kind device =
     if nat_lt 255 (major_of device) || nat_lt 255 (minor_of device) then None
     else Some (files.Special (record { kind = kind; major = major_of device; minor = minor_of device }))
 
--- the file that MKNOD makes, by a mode and Linux's number of a device: a regular file, or a character or block special file; None for a socket or a FIFO
--- (Linux, stat.h: S_IFCHR, S_IFBLK)
-abbrev pub new_file : ℕ → ℕ → Option NewFile
-new_file mode device =
+-- the file that MKNOD makes for a user, by a mode and Linux's number of a device: a regular file, or for user 0 a character or block special file; None for any
+-- other type or user, or a major or minor number above 255 (Linux, stat.h: S_IFCHR, S_IFBLK; mknod, section 2 of the manual)
+abbrev pub new_file : ℕ → ℕ → ℕ → Option NewFile
+new_file uid mode device =
     if is_regular mode then Some files.Regular
+    else if not (uid == 0) then None
     else if mode / 4096 % 16 == 2 then special_file devices.Character device
     else if mode / 4096 % 16 == 6 then special_file devices.Block device
     else None
@@ -103,7 +104,7 @@ new_file mode device =
 -- the calls of MKNOD in directory d (creat; mknod)
 abbrev pub file_calls : Sight → Header → ℕ → List ℕ → ℕ → ℕ → Result (List Call) MountedRefusal
 file_calls sight header d name mode device =
-    and_then (ok_or (new_file mode device) mounted.NotPermitted) (λ file.
+    and_then (ok_or (new_file header.uid mode device) mounted.NotPermitted) (λ file.
     and_then (owner_of sight.geometry.edition sight.owner header) (λ owner.
     and_then (name_at sight d name) (λ path. Ok (creation file user sight.now path (mode % 4096) ∷ given_to owner sight.now path))))
 

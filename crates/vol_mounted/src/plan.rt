@@ -26,7 +26,8 @@ impl Scene<'_> {
     ghost use Rattle.vol_mounted.specs.Refusals.{Gives};
     ghost use Rattle.vol_mounted.specs.Scenes.{sight_of};
 
-    /// Returns the calls of MKNOD. Regular files can be made, and special files whose major and minor numbers are at most 255.
+    /// Returns the calls of MKNOD. Regular files can be made, and by user 0 special files whose major and minor numbers are at most 255: the kernel lets every
+    /// user make character file 0, 0.
     pub(crate) fn make_file(
         &self,
         header: &Header,
@@ -37,7 +38,7 @@ impl Scene<'_> {
     ) -> Result<Calls, MountedRefusal>
         ensures { Gives (file_calls (sight_of self.now) header.now dir name.now mode device) result }
     {
-        let file = new_file(mode, device).ok_or(MountedRefusal::NotPermitted)?;
+        let file = new_file(header.uid, mode, device).ok_or(MountedRefusal::NotPermitted)?;
         let owner = owner_of(self.geometry.edition, self.owner, header)?;
         let path = self.path_of_name(dir, name)?;
         let again = Bytes::from_slice(self.alloc, path.as_slice())?;
@@ -236,12 +237,16 @@ fn special_file(kind: DeviceKind, device: u32) -> Option<NewFile>
     }))
 }
 
-/// Returns the file that MKNOD makes, by a mode and Linux's number of a device, or `None` for a socket or a FIFO.
-fn new_file(mode: u32, device: u32) -> Option<NewFile>
-    ensures { result ≡ new_file mode device }
+/// Returns the file that MKNOD makes for a user, by a mode and Linux's number of a device. `None` for any other type than a regular, character or block
+/// file's, for a special file if the user isn't 0, or if its major or minor number is above 255.
+fn new_file(uid: u32, mode: u32, device: u32) -> Option<NewFile>
+    ensures { result ≡ new_file uid mode device }
 {
     if is_regular(mode) {
         return Some(NewFile::Regular);
+    }
+    if uid != 0 {
+        return None;
     }
     match mode / 0o10000 % 16 {
         2 => special_file(DeviceKind::Character, device),

@@ -14,7 +14,8 @@ pub enum MountedRefusal {
     Request(RequestRefusal),
     /// The volume refuses a call.
     Call(Refusal),
-    /// Only regular files and directories can be made. If all nodes are shown as one user's, their owner can't be changed.
+    /// It can't be made here, as a symbolic link or a FIFO, or not by this user, as a special file. If all nodes are shown as one user's, their owner can't be
+    /// changed.
     NotPermitted,
     /// A directory can't be renamed. A program that wants to move it copies it instead.
     IsDirectory,

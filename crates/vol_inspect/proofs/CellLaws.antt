@@ -9,7 +9,7 @@ use Rattle.std.specs.declared.alloc.AllocError.{AllocError}
 use Rattle.std.proofs.lemmas.List.Sums.{count_by-le-length, length-filter}
 use Rattle.vol_inspect.specs.Cells.{cell_count, cell_of, has_fault, is_hidden, more_common, most_common, most_of, rivals, telling, use_count}
 use Rattle.vol_inspect.specs.Legend.{is_there, kinds, legend}
-use Rattle.vol_inspect.specs.Laws.{HidesNoFault, HidesNoGap, NoUseHasMore}
+use Rattle.vol_inspect.specs.Laws.{HidesNoFault, HidesNoGap, MarksAreRight, NoUseHasMore}
 use Rattle.vol_inspect.specs.declared.cell_groups.Cell.{Cell}
 use Rattle.vol_inspect.specs.declared.cell_groups.Cell.TheVariants as cells
 use Rattle.vol_inspect.specs.declared.uses.Use.{Use}
@@ -192,3 +192,83 @@ hides_no_gap blocks shown = (
       (not_hidden blocks (most_common blocks) shown uses.Unknown it.0 it.3, not_hidden blocks (most_common blocks) shown uses.Unreadable it.0 it.4),
   λ is. both_none (use_count uses.Lost blocks) (use_count uses.Twice blocks) (unsure_of blocks is),
 )
+
+-- a cell that is faulty hides a fault, or has one
+faulty_is : (empty lost twice unknown unread faulty : Bool) (best : Use)
+    → (if empty then cells.Blank else if lost || twice then cells.Faulty
+    else if unknown || unread then (if faulty then cells.Faulty else cells.Unsure) else cells.Of best) ≡ cells.Faulty
+    → (lost || (twice || faulty)) ≡ true
+faulty_is true lost twice unknown unread faulty best is = absurd (cc)
+faulty_is false true twice unknown unread faulty best is = refl
+faulty_is false false true unknown unread faulty best is = refl
+faulty_is false false false unknown unread true best is = refl
+faulty_is false false false true unread false best is = absurd (cc)
+faulty_is false false false false true false best is = absurd (cc)
+faulty_is false false false false false false best is = absurd (cc)
+
+-- a cell that is unsure hides a gap
+gap_is : (empty lost twice unknown unread faulty : Bool) (best : Use)
+    → (if empty then cells.Blank else if lost || twice then cells.Faulty
+    else if unknown || unread then (if faulty then cells.Faulty else cells.Unsure) else cells.Of best) ≡ cells.Unsure → (unknown || unread) ≡ true
+gap_is true lost twice unknown unread faulty best is = absurd (cc)
+gap_is false true twice unknown unread faulty best is = absurd (cc)
+gap_is false false true unknown unread faulty best is = absurd (cc)
+gap_is false false false true unread faulty best is = refl
+gap_is false false false false true faulty best is = refl
+gap_is false false false false false faulty best is = absurd (cc)
+
+-- a cell that is blank has no block of the use of most
+blank_is : (empty lost twice unknown unread faulty : Bool) (best : Use)
+    → (if empty then cells.Blank else if lost || twice then cells.Faulty
+    else if unknown || unread then (if faulty then cells.Faulty else cells.Unsure) else cells.Of best) ≡ cells.Blank → empty ≡ true
+blank_is true lost twice unknown unread faulty best is = refl
+blank_is false true twice unknown unread faulty best is = absurd (cc)
+blank_is false false true unknown unread faulty best is = absurd (cc)
+blank_is false false false true unread true best is = absurd (cc)
+blank_is false false false true unread false best is = absurd (cc)
+blank_is false false false false true true best is = absurd (cc)
+blank_is false false false false true false best is = absurd (cc)
+blank_is false false false false false faulty best is = absurd (cc)
+
+-- of a fault that is hidden there are blocks
+faults : (lost twice best n m : ℕ) (t : Bool) → ((not (lost == best) && nat_lt 0 n) || ((not (twice == best) && nat_lt 0 m) || t)) ≡ true
+    → (t ≡ true → (nat_lt 0 n || nat_lt 0 m) ≡ true) → (nat_lt 0 n || nat_lt 0 m) ≡ true
+faults lost twice best n m true some is = is refl
+faults lost twice best n m false some is = grind (arith, nat_tests)
+
+-- of a gap that is hidden there are blocks
+gaps : (unknown unread best n m : ℕ) → ((not (unknown == best) && nat_lt 0 n) || (not (unread == best) && nat_lt 0 m)) ≡ true → (1 ≤ n) ⊎ (1 ≤ m)
+gaps unknown unread best n m some = grind (arith, nat_tests)
+
+marked : (blocks : List (Option Use)) → cell_of blocks ≡ cells.Faulty → has_fault blocks ≡ true
+unfolding cell_of
+marked blocks is =
+    let best = most_common blocks in
+    faults (telling uses.Lost) (telling uses.Twice) (telling best) (use_count uses.Lost blocks) (use_count uses.Twice blocks) (has_fault blocks)
+    (faulty_is (use_count best blocks == 0) (is_hidden blocks best uses.Lost) (is_hidden blocks best uses.Twice) (is_hidden blocks best uses.Unknown)
+    (is_hidden blocks best uses.Unreadable) (has_fault blocks) best is) (λ has. has)
+
+unsure : (blocks : List (Option Use)) → cell_of blocks ≡ cells.Unsure
+    → (1 ≤ use_count uses.Unknown blocks) ⊎ (1 ≤ use_count uses.Unreadable blocks)
+unfolding cell_of
+unsure blocks is =
+    let best = most_common blocks in
+    gaps (telling uses.Unknown) (telling uses.Unreadable) (telling best) (use_count uses.Unknown blocks) (use_count uses.Unreadable blocks)
+    (gap_is (use_count best blocks == 0) (is_hidden blocks best uses.Lost) (is_hidden blocks best uses.Twice) (is_hidden blocks best uses.Unknown)
+    (is_hidden blocks best uses.Unreadable) (has_fault blocks) best is)
+
+-- a number that is equal to 0 by a test is 0
+is_zero : (n : ℕ) → (n == 0) ≡ true → n ≡ 0
+is_zero n is = grind (arith, nat_tests)
+
+blank : (blocks : List (Option Use)) → cell_of blocks ≡ cells.Blank → (u : Use) → use_count u blocks ≡ 0
+unfolding cell_of
+blank blocks is u =
+    let best = most_common blocks in
+    let none = is_zero (use_count best blocks) (blank_is (use_count best blocks == 0) (is_hidden blocks best uses.Lost) (is_hidden blocks best uses.Twice)
+    (is_hidden blocks best uses.Unknown) (is_hidden blocks best uses.Unreadable) (has_fault blocks) best is) in
+    let above = none_above blocks u in
+    omega (arith, above, none)
+
+pub marks_are_right : MarksAreRight
+marks_are_right blocks = (marked blocks, unsure blocks, blank blocks)

@@ -89,14 +89,14 @@ cell_count each n = (n + (each - 1)) / each
 abbrev pub cells : ℕ → List (Option Use) → List Cell
 cells each blocks = map (λ k. cell_of (piece each blocks k)) (range_with_len 0 (cell_count each (length blocks)))
 
--- true if a cell has a fault that it doesn't show (this project)
+-- true if a cell is marked as faulty (this project)
 abbrev pub is_faulty : Cell → Bool
 is_faulty shows.Blank = false
 is_faulty (shows.Of u) = false
 is_faulty shows.Faulty = true
 is_faulty shows.Unsure = false
 
--- true if a cell has a gap that it doesn't show, and no fault (this project)
+-- true if a cell is marked as unsure (this project)
 abbrev pub is_unsure : Cell → Bool
 is_unsure shows.Blank = false
 is_unsure (shows.Of u) = false

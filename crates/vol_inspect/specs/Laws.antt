@@ -7,7 +7,7 @@ use Rattle.vol_layout.specs.BlockPointers.{form_at, named}
 use Rattle.vol_layout.specs.declared.geometry.Geometry.{Geometry}
 use Rattle.vol_file.specs.Clears.{first_block}
 use Rattle.vol_reports.specs.Icheck.{is_lost}
-use Rattle.vol_inspect.specs.Cells.{cell_of, use_count}
+use Rattle.vol_inspect.specs.Cells.{cell_of, has_fault, use_count}
 use Rattle.vol_inspect.specs.Extents.{single, extents_of}
 use Rattle.vol_inspect.specs.Owners.{owners_of}
 use Rattle.vol_inspect.specs.declared.cell_groups.Cell.TheVariants as cells
@@ -57,3 +57,12 @@ HidesNoGap =
     → (cell_of blocks ≡ cells.Of shown
     → ((use_count uses.Unknown blocks ≡ 0) ⊎ (shown ≡ uses.Unknown)) × ((use_count uses.Unreadable blocks ≡ 0) ⊎ (shown ≡ uses.Unreadable)))
     × (cell_of blocks ≡ cells.Unsure → (use_count uses.Lost blocks ≡ 0) × (use_count uses.Twice blocks ≡ 0))
+
+-- a faulty cell has a block that is lost or named twice; an unsure one has a block that is unreadable or whose use isn't known; and a blank one has none that is
+-- shown (this project)
+abbrev pub MarksAreRight : Type 0
+MarksAreRight =
+    (blocks : List (Option Use))
+    → (cell_of blocks ≡ cells.Faulty → has_fault blocks ≡ true)
+    × (cell_of blocks ≡ cells.Unsure → (1 ≤ use_count uses.Unknown blocks) ⊎ (1 ≤ use_count uses.Unreadable blocks))
+    × (cell_of blocks ≡ cells.Blank → (u : Use) → use_count u blocks ≡ 0)

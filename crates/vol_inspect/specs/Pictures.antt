@@ -59,7 +59,7 @@ unfoldable pub rows_text : Bool → ℕ → ℕ → List Cell → List ℕ
 rows_text coloured width each found =
     flat_map (λ k. row_cell coloured width each (slice_index_or found k cells.Blank) k) (range_with_len 0 (length found))
 
--- a line of the legend: the number of blocks, the letter, and what it stands for (this project)
+-- a line of the legend: the number of blocks, the letter, and what it means (this project)
 abbrev pub legend_line : Bool → List (Option Use) → List Cell → Cell → List ℕ
 legend_line coloured blocks found kind =
     number_column (legend_count blocks found kind) ++ (codes " " ++ (cell_text coloured kind ++ (codes " " ++ (label kind ++ codes "\n"))))

@@ -66,7 +66,7 @@ squares_text width each titles blocks found =
     flat_map (λ k. titled_text titles (piece each blocks k) (k * each) (slice_index_or found k cells.Blank) (10 * (k % width)) (10 * (k / width)))
     (range_with_len 0 (length found))
 
--- what a kind of cell stands for, and its number of blocks, beside a square (SVG 1.1)
+-- what a kind of cell shows, and its number of blocks, beside a square (SVG 1.1)
 abbrev pub swatch_text : List (Option Use) → List Cell → Cell → ℕ → List ℕ
 swatch_text blocks found kind y =
     codes "<text x='14' y='" ++ (decimal y ++ (codes "'>" ++ (label kind ++ (codes " " ++ (decimal (legend_count blocks found kind) ++ codes "</text>\n")))))

@@ -12,9 +12,9 @@ pub enum Cell {
     Blank,
     /// The use of most of its blocks.
     Of(Use),
-    /// Some of its blocks are lost or named twice, and another use has most.
+    /// Some of its blocks are lost or named twice, and not all of its faults and gaps are of the use that has most.
     Faulty,
-    /// Some of its blocks are unreadable or their use isn't known, and another use has most; none is lost or named twice.
+    /// None of its blocks is lost or named twice; some are unreadable or of unknown use, and not all of these are of the use that has most.
     Unsure,
 }
 

@@ -81,7 +81,7 @@ impl Cell {
         }
     }
 
-    /// True if the cell has a fault that it doesn't show.
+    /// True if the cell is marked as faulty.
     fn is_faulty(self) -> bool
         ensures { result ≡ is_faulty self }
     {
@@ -91,7 +91,7 @@ impl Cell {
         }
     }
 
-    /// True if the cell has a gap that it doesn't show, and no fault.
+    /// True if the cell is marked as unsure.
     fn is_unsure(self) -> bool
         ensures { result ≡ is_unsure self }
     {

@@ -294,7 +294,7 @@ fn push_entry(
     push_swatch(text, blocks, cells, kind, y + 9)
 }
 
-/// Appends what a kind of cell stands for, and its number of blocks.
+/// Appends what a kind of cell shows, and its number of blocks.
 fn push_swatch(
     text: &mut String,
     blocks: &[Option<Use>],

@@ -36,7 +36,7 @@ pub enum Use {
     Twice,
     /// A block that couldn't be read. No block of an image has this use; it is for pictures of what is left of a volume.
     Unreadable,
-    /// A block whose use isn't known, since blocks that couldn't be read may tell it. It is for such pictures too.
+    /// A block whose use isn't known, since blocks that couldn't be read may show it. It is for such pictures too.
     Unknown,
 }
 

@@ -141,6 +141,10 @@ count_grows shape m (suc n) order =
 no_block : (b : ℕ) → names_block no_shape b ≡ false
 no_block b = elim (last_place Small b) as (λ o. option_map_or (λ (p : List ℕ). false) o false ≡ false) [ None ↦ refl | Some p ↦ refl ]
 
+-- the empty shape has no stored blocks
+pub none_stored : (n : ℕ) → stored_blocks no_shape n ≡ []
+none_stored n = below_holes no_shape 0 n (omega arith) (λ b from to. no_block b)
+
 -- the empty shape needs no positions
 pub none_needed : (n : ℕ) → places_for no_shape n ≡ 0
 none_needed n = count_holes no_shape 0 n (omega arith) (λ b from to. no_block b) ∙ none_below no_shape

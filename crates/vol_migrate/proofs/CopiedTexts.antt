@@ -194,7 +194,7 @@ write_number from to old image i b m k len w =
 pub write_file : (from to : Geometry) (old image : List ℕ) (i b m k len : ℕ) → WritesRun from to old image i b m k len → IsFile to image (i + 1)
 write_file from to old image i b m k len w =
     let used = file_is_used old from i w.file in
-    carried_file old from to w.stage.now image i (progress from old i b i) w.may used (w.stage.stage.carried i used)
+    carried_file old from to w.stage.now image i (progress from old i b i) w.may w.file (w.stage.stage.carried i used)
 
 -- the bytes to be written end within the greatest size
 pub write_greatest : (from to : Geometry) (old image : List ℕ) (i b m k len : ℕ) → WritesRun from to old image i b m k len
@@ -213,7 +213,7 @@ write_room from to old image blocks i b m k len w rules =
     let used = file_is_used old from i w.file in
     let stage = w.stage.stage in
     let here = subst (IsCarried from to old w.stage.now image i) (progress_self from old i b) (stage.carried i used) in
-    let need = need_is old from to w.stage.now image i b k len w.may used here w.first w.begun w.holds.few in
+    let need = need_is old from to w.stage.now image i b k len w.may w.file here w.first w.begun w.holds.few in
     let within = w.holds.within in
     let begun = w.begun in
     let room = need_room old from to w.stage.now image i b k stage w.may used w.named (omega (arith, within, begun)) in
@@ -230,7 +230,7 @@ write_carries from to old image new text i b m k len w written size bytes = λ n
     let begun = w.begun in
     let few = w.holds.few in
     let within = w.holds.within in
-    stage_written old from to now image new text i b k w.may stage (file_is_used old from i w.file) w.named
+    stage_written old from to now image new text i b k w.may stage w.file w.named
     (written stage.blocks stage.sound) w.first (omega (arith, begun, size)) (omega (arith, few, size)) (omega (arith, within, size))
     (λ x low at. let whole = w.whole x low at in omega (arith, whole, size))
     (λ r low. bytes r (omega (arith, low, size)))

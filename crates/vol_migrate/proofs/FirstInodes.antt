@@ -4,12 +4,12 @@ use Rattle.std.proofs.lemmas.Bool.{cases_eq}
 use Rattle.pdp_words.specs.Words.{SameOutside}
 use Rattle.vol_layout.specs.Edition.{constants}
 use Rattle.vol_layout.specs.Geometry.{Fits}
-use Rattle.vol_layout.specs.Inode.{inode_of, inode_place, raised_inode}
+use Rattle.vol_layout.specs.Inode.{inode_of, inode_place}
 use Rattle.vol_layout.specs.declared.geometry.Geometry.{Geometry}
 use Rattle.vol_layout.specs.declared.mode.Kind.TheVariants as kinds
 use Rattle.vol_layout.proofs.InodeLaws.{KeepsInode, inode_apart, inode_of_kept, place_from, place_room}
 use Rattle.vol_file.specs.Rules.{kind_at}
-use Rattle.vol_migrate.specs.Stages.{IsUsed, HasInodesBelow}
+use Rattle.vol_migrate.specs.Stages.{IsUsed, HasInodesBelow, first_inode}
 
 -- an i-list of zeros has the i-nodes below 1
 pub inodes_none : (from to : Geometry) (old image : List ℕ) (now : ℕ) → Fits to image
@@ -49,14 +49,15 @@ byte_kept to image new k j r is byte stays =
 -- writing i-node `i` adds it
 pub inodes_more : (from to : Geometry) (old image new : List ℕ) (now i : ℕ) → IsUsed from old i
     → SameOutside image new (inode_place to.edition (i + 1)) (inode_place to.edition (i + 1) + (constants to.edition).inode_bytes)
-    → inode_of to.edition new (i + 1) ≡ raised_inode (inode_of from.edition old i) now
+    → inode_of to.edition new (i + 1) ≡ first_inode (kind_at from old i) (inode_of from.edition old i) now
     → slice_index new (inode_place to.edition (i + 1) + 51) ≡ slice_index image (inode_place to.edition (i + 1) + 51)
     → HasInodesBelow from to old now image i → HasInodesBelow from to old now new (i + 1)
 inodes_more from to old image new now i used same put stays has = record {
   done = λ j low other.
       elim (cases_eq j i) [
         | inl is ↦
-            let P : ℕ → Type 0 = λ k. inode_of to.edition new (k + 1) ≡ raised_inode (inode_of from.edition old k) now in subst P (sym is) put
+            let P : ℕ → Type 0 = λ k. inode_of to.edition new (k + 1) ≡ first_inode (kind_at from old k) (inode_of from.edition old k) now in
+            subst P (sym is) put
         | inr apart ↦
             let kept : KeepsInode to image new (j + 1) = inode_apart to image new (i + 1) (j + 1) (omega arith) (omega arith) (λ e. apart (omega (arith, e))) same in
             inode_of_kept to image new (j + 1) kept ∙ has.done j (omega (arith, low, apart)) other

@@ -1,5 +1,5 @@
 -- The volume before any block is copied.
-use Rattle.std.proofs.Common.{◌≡◌, ◌≢◌, ◌∙◌, sym, ap, subst, refl, ℕ, zero, suc, ◌+◌, ◌-◌, ◌*◌, ◌/◌, ◌<◌, ◌≤◌, not, Bool, false, List, [], ◌∷◌, None, Some, length, get_or, slice_index, replicate, ◌⊎◌, inl, inr, arith}
+use Rattle.std.proofs.Common.{◌≡◌, ◌≢◌, ◌∙◌, sym, ap, subst, refl, ℕ, zero, suc, ◌+◌, ◌-◌, ◌*◌, ◌/◌, ◌<◌, ◌≤◌, not, Bool, true, false, List, [], ◌∷◌, None, Some, length, get_or, slice_index, replicate, ◌⊎◌, inl, inr, arith}
 use Rattle.std.proofs.lemmas.Bool.{cases_eq, cases_lt, eq-eqb, true≢false}
 use Rattle.std.proofs.lemmas.Grind.{common_steps}
 use Rattle.std.proofs.lemmas.List.{get_or-replicate}
@@ -7,7 +7,7 @@ use Rattle.pdp_words.specs.Words.{SameOutside}
 use Rattle.vol_layout.specs.Edition.{constants}
 use Rattle.vol_layout.specs.Geometry.{Fits}
 use Rattle.vol_layout.specs.Inode.{inode_of, inode_place, raised_inode, kind_of}
-use Rattle.vol_layout.specs.BlockPointers.{IsPlaceOf, form_at, mode_of, named, pointer_in, stored}
+use Rattle.vol_layout.specs.BlockPointers.{IsFile, IsPlaceOf, form_at, mode_of, named, pointer_in, stored}
 use Rattle.vol_layout.specs.BlockMaps.{IsPlace, first_count, has_places, last_place}
 use Rattle.vol_layout.specs.declared.geometry.Geometry.{Geometry}
 use Rattle.vol_layout.specs.declared.i_node.Inode.{Inode}
@@ -28,10 +28,10 @@ use Rattle.vol_file.specs.Rules.{HasKinds, HasSizes, kind_at, size_of}
 use Rattle.vol_dir.specs.Tree.{shapes}
 use Rattle.vol_layout.proofs.EditionLaws.{super_order, mode_room}
 use Rattle.vol_change.proofs.WholeLaws.{zone_behind}
-use Rattle.vol_migrate.specs.Stages.{IsUsed, IsVacant, MayMigrate, HasInodes, HasSuper, IsCarried, IsStage, progress}
+use Rattle.vol_migrate.specs.Stages.{IsUsed, IsVacant, MayMigrate, HasInodes, HasSuper, IsCarried, IsStage, first_addresses, progress}
 use Rattle.vol_migrate.proofs.CarriedBlocks.{none_below}
 use Rattle.vol_migrate.proofs.StageSteps.{carried_kind, carried_size, form_seventh, progress_self, progress_after, super_stays}
-use Rattle.vol_migrate.proofs.StageLaws.{old_rules, used_is_file, hole_byte}
+use Rattle.vol_migrate.proofs.StageLaws.{old_rules, file_is_used, used_file, hole_byte}
 
 -- a kind is `Free` or another kind
 pub free_or : (kind : Kind) → (kind ≡ kinds.Free) ⊎ (kind ≢ kinds.Free)
@@ -85,22 +85,32 @@ named_zero geometry image k form (j ∷ (a ∷ p)) fits zeros few place =
     ap (λ m. pointer_in geometry image m j) (named_zero geometry image k form (a ∷ p) fits zeros few place.2)
     ∙ entry_out geometry image 0 j (zero_out geometry image fits)
 
--- the addresses of each new i-node are 0
-zeros_put : (from to : Geometry) (old image : List ℕ) (now i : ℕ) → HasInodes from to old now image → IsUsed from old i
-    → (inode_of to.edition image (i + 1)).addresses ≡ replicate 13 0
-zeros_put from to old image now i has used =
-    let last = used.last in ap (λ (node : Inode). node.addresses) (has.done i (omega (arith, last)) used)
+-- the first addresses of a file are zeros
+first_zeros : (kind : Kind) (node : Inode) → has_places kind ≡ true → first_addresses kind node ≡ replicate 13 0
+first_zeros kinds.Regular node file = refl
+first_zeros kinds.Directory node file = refl
+first_zeros kinds.Free node file = refl
+first_zeros kinds.Odd node file = refl
+first_zeros kinds.Special node file = absurd (true≢false (sym file))
 
--- no number is stored for a logical block of a new i-node
-stored_zero : (from to : Geometry) (old image : List ℕ) (now i b : ℕ) → HasInodes from to old now image → Fits to image → IsUsed from old i
+-- the addresses of each new file are 0
+zeros_put : (from to : Geometry) (old image : List ℕ) (now i : ℕ) → HasInodes from to old now image → IsFile from old i
+    → (inode_of to.edition image (i + 1)).addresses ≡ replicate 13 0
+zeros_put from to old image now i has file =
+    let last = file.last in
+    ap (λ (node : Inode). node.addresses) (has.done i (omega (arith, last)) (file_is_used old from i file))
+    ∙ first_zeros (kind_at from old i) (inode_of from.edition old i) file.kind
+
+-- no number is stored for a logical block of a new file
+stored_zero : (from to : Geometry) (old image : List ℕ) (now i b : ℕ) → HasInodes from to old now image → Fits to image → IsFile from old i
     → stored to image (i + 1) (form_at to image (i + 1)) b ≡ 0
-stored_zero from to old image now i b has fits used =
+stored_zero from to old image now i b has fits file =
     elim (last_place (form_at to image (i + 1)) b) as (λ o. last_place (form_at to image (i + 1)) b ≡ o
     → stored to image (i + 1) (form_at to image (i + 1)) b ≡ 0) [
       | None ↦ λ e. stored_none to image (i + 1) (form_at to image (i + 1)) b e
       | Some p ↦ λ e.
           stored_is to image (i + 1) (form_at to image (i + 1)) b p e
-          ∙ named_zero to image (i + 1) (form_at to image (i + 1)) p fits (zeros_put from to old image now i has used)
+          ∙ named_zero to image (i + 1) (form_at to image (i + 1)) p fits (zeros_put from to old image now i has file)
           (addresses_of to.edition (mode_of to image (i + 1))) (last_leaf (form_at to image (i + 1)) b p e).place
     ] refl
 
@@ -113,28 +123,18 @@ first_carried from to old image now i has fits used =
     let P : Inode → Type 0 = λ node. node ≡ record (raised_inode (inode_of from.edition old i) now) { addresses = node.addresses } in
     record {
       inode = subst P (sym put) refl;
-      done = λ x low below. absurd (omega (arith, below));
-      rest = λ x low above. hole_byte to image (i + 1) x fits (stored_zero from to old image now i (x / 512) has fits used);
-      names = λ p place.
-          ap not (eq-eqb (named to image (i + 1) p) 0
-          (named_zero to image (i + 1) Deep p fits (zeros_put from to old image now i has used) (omega arith) place));
+      device = λ special.
+          ap (λ (node : Inode). node.addresses) put ∙ ap (λ kind. first_addresses kind (inode_of from.edition old i)) special;
+      file = λ is.
+          let file = used_file old from i (kind_at from old i) used refl is in
+          record {
+            done = λ x low below. absurd (omega (arith, below));
+            rest = λ x low above. hole_byte to image (i + 1) x fits (stored_zero from to old image now i (x / 512) has fits file);
+            names = λ p place.
+                ap not (eq-eqb (named to image (i + 1) p) 0
+                (named_zero to image (i + 1) Deep p fits (zeros_put from to old image now i has file) (omega arith) place));
+          };
     }
-
--- each block-map position of a file of the new volume is 0
-names_none : (from to : Geometry) (old image : List ℕ) (now k : ℕ) (p : List ℕ) → HasInodes from to old now image → Fits to image
-    → IsPlaceOf to image k p → named to image k p ≡ 0
-names_none from to old image now k p has fits place =
-    elim (vacant_or from old k) [
-      | inl vacant ↦
-          let zero = mode_zero from to old image now k has place.file.first place.file.last vacant in
-          let free : kind_at to image k ≡ kinds.Free = ap (kind_of to.edition) zero ∙ kind_zero to.edition in
-          let none : has_places (kind_at to image k) ≡ false = ap has_places free in
-          absurd (true≢false (sym place.file.kind ∙ none))
-      | inr carried ↦
-          let zeros : (inode_of to.edition image k).addresses ≡ replicate 13 0 =
-          ap (λ x. (inode_of to.edition image x).addresses) carried.1 ∙ zeros_put from to old image now carried.0 has carried.2 in
-          named_zero to image k (form_at to image k) p fits zeros (addresses_of to.edition (mode_of to image k)) place.place
-    ]
 
 -- each i-node of the new volume is free, or has the kind of an i-node of the old one
 kind_cases : (from to : Geometry) (old image : List ℕ) (now k : ℕ) → MayMigrate old from to → HasInodes from to old now image → Fits to image
@@ -153,6 +153,19 @@ kind_cases from to old image now k may has fits first last =
                 ∙ carried_kind from to old image now carried.0 0 may.sixth may.seventh (old_rules old from to may).sound.kinds carried.2
                 (first_carried from to old image now carried.0 has fits carried.2),
           )
+    ]
+
+-- each block-map position of a file of the new volume is 0
+names_none : (from to : Geometry) (old image : List ℕ) (now k : ℕ) (p : List ℕ) → MayMigrate old from to → HasInodes from to old now image → Fits to image
+    → IsPlaceOf to image k p → named to image k p ≡ 0
+names_none from to old image now k p may has fits place =
+    elim (kind_cases from to old image now k may has fits place.file.first place.file.last) [
+      | inl free ↦ let none : has_places (kind_at to image k) ≡ false = ap has_places free in absurd (true≢false (sym place.file.kind ∙ none))
+      | inr carried ↦
+          let file = used_file old from carried.0 (kind_at to image k) carried.2 (sym carried.3) place.file.kind in
+          let zeros : (inode_of to.edition image k).addresses ≡ replicate 13 0 =
+          ap (λ x. (inode_of to.edition image x).addresses) carried.1 ∙ zeros_put from to old image now carried.0 has file in
+          named_zero to image k (form_at to image k) p fits zeros (addresses_of to.edition (mode_of to image k)) place.place
     ]
 
 -- rule 3 holds for the new volume
@@ -196,7 +209,7 @@ first_sizes from to old image now may has fits =
           elim (kind_cases from to old image now k may has fits file.first file.last) [
             | inl free ↦ let none : has_places (kind_at to image k) ≡ false = ap has_places free in absurd (true≢false (sym file.kind ∙ none))
             | inr carried ↦
-                let greatest = rules.sound.sizes.greatest carried.0 (used_is_file old from to carried.0 may carried.2) in
+                let greatest = rules.sound.sizes.greatest carried.0 (used_file old from carried.0 (kind_at to image k) carried.2 (sym carried.3) file.kind) in
                 let size = ap (size_of to image) carried.1
                 ∙ carried_size from to old image now carried.0 0 (first_carried from to old image now carried.0 has fits carried.2) in
                 omega (arith, greatest, size, six, seven)
@@ -262,12 +275,12 @@ first_stage from to old made put image now may before fits super listed inodes k
         fits = fits;
         kinds = first_kinds from to old image now may has fits;
         sizes = first_sizes from to old image now may has fits;
-        zoned = λ k p place some. absurd (some (names_none from to old image now k p has fits place));
+        zoned = λ k p place some. absurd (some (names_none from to old image now k p may has fits place));
         free = free;
-        apart = λ k j p q place other some e. absurd (some (names_none from to old image now k p has fits place));
+        apart = λ k j p q place other some e. absurd (some (names_none from to old image now k p may has fits place));
         outside = λ k p place i.
             let inside = unused_in to (replicate to.zone_end false) to.zone_start (named to image k p) (omega (arith, zone)) i in
-            let zero = names_none from to old image now k p has fits place in
+            let zero = names_none from to old image now k p may has fits place in
             omega (arith, inside.0, zero, behind);
       };
       room = omega (arith, long, none);

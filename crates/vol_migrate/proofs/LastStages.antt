@@ -6,6 +6,7 @@ use Rattle.std.proofs.lemmas.Bool.{cases_Bool, cases_lt, and_parts, leb-true}
 use Rattle.std.proofs.lemmas.List.{ext_get_or}
 use Rattle.vol_layout.specs.Body.{body, body_size}
 use Rattle.vol_layout.specs.Edition.{constants}
+use Rattle.vol_layout.specs.BlockPointers.{IsFile}
 use Rattle.vol_layout.specs.Inode.{inode_of, kind_of}
 use Rattle.vol_layout.specs.declared.geometry.Geometry.{Geometry}
 use Rattle.vol_layout.specs.declared.i_node.Inode.{Inode}
@@ -28,7 +29,7 @@ use Rattle.vol_migrate.specs.Stages.{IsUsed, IsVacant, MayMigrate, IsCarried, Is
 use Rattle.vol_migrate.proofs.RaisedGraphs.{RaisesGraph, raised_entry}
 use Rattle.vol_migrate.proofs.RaisedSlots.{slot_raised, entry_raised}
 use Rattle.vol_migrate.proofs.StageSteps.{carried_kind, carried_size, progress_before}
-use Rattle.vol_migrate.proofs.StageLaws.{old_rules, used_is_file}
+use Rattle.vol_migrate.proofs.StageLaws.{old_rules, file_is_used, used_file}
 use Rattle.vol_migrate.proofs.FirstStages.{free_or, vacant_or, zero_mode}
 
 -- all files are copied
@@ -43,38 +44,41 @@ all_carried from to old image now i stage used =
     subst (IsCarried from to old now image i) (progress_before from old (from.last_inode + 1) 0 i (omega (arith, last))) (stage.carried i used)
 
 -- both bodies of a file have the file's size
-sizes_same : (from to : Geometry) (old image : List ℕ) (now i : ℕ) → MayMigrate old from to → IsLast from to old now image → IsUsed from old i
+sizes_same : (from to : Geometry) (old image : List ℕ) (now i : ℕ) → MayMigrate old from to → IsLast from to old now image → IsFile from old i
     → (body_size from old i ≡ size_of from old i) × (body_size to image (i + 1) ≡ size_of from old i)
-sizes_same from to old image now i may stage used =
-    let greatest = (old_rules old from to may).sound.sizes.greatest i (used_is_file old from to i may used) in
-    let size = carried_size from to old image now i (whole_blocks (size_of from old i)) (all_carried from to old image now i stage used) in
+sizes_same from to old image now i may stage file =
+    let greatest = (old_rules old from to may).sound.sizes.greatest i file in
+    let size = carried_size from to old image now i (whole_blocks (size_of from old i))
+    (all_carried from to old image now i stage (file_is_used old from i file)) in
     let six : (constants from.edition).greatest ≡ 16777215 = ap (λ e. (constants e).greatest) may.sixth in
     let seven : (constants to.edition).greatest ≡ 1082201088 = ap (λ e. (constants e).greatest) may.seventh in
     (omega (arith, greatest), omega (arith, greatest, size, six, seven))
 
 -- each byte of a file's body is copied
-pub body_carried : (from to : Geometry) (old image : List ℕ) (now i x : ℕ) → MayMigrate old from to → IsLast from to old now image → IsUsed from old i
+pub body_carried : (from to : Geometry) (old image : List ℕ) (now i x : ℕ) → MayMigrate old from to → IsLast from to old now image → IsFile from old i
     → x < size_of from old i → get_or (body to image (i + 1)) x 0 ≡ carried_byte (kind_at from old i) (body from old i) x
-body_carried from to old image now i x may stage used low =
-    (all_carried from to old image now i stage used).done x low (omega (arith, low))
+body_carried from to old image now i x may stage file low =
+    ((all_carried from to old image now i stage (file_is_used old from i file)).file file.kind).done x low (omega (arith, low))
 
 -- the body of a regular file is unchanged
 pub regular_body : (from to : Geometry) (old image : List ℕ) (now i : ℕ) → MayMigrate old from to → IsLast from to old now image → IsUsed from old i
     → kind_at from old i ≡ kinds.Regular → body to image (i + 1) ≡ body from old i
 regular_body from to old image now i may stage used regular =
-    let sizes = sizes_same from to old image now i may stage used in
+    let file = used_file old from i kinds.Regular used regular refl in
+    let sizes = sizes_same from to old image now i may stage file in
     let left = length-body to image (i + 1) in
     let right = length-body from old i in
     ext_get_or 0 (body to image (i + 1)) (body from old i) (omega (arith, left, right, sizes.0, sizes.1))
     (λ x h.
-    body_carried from to old image now i x may stage used (omega (arith, h, left, sizes.1))
+    body_carried from to old image now i x may stage file (omega (arith, h, left, sizes.1))
     ∙ ap (λ k. carried_byte k (body from old i) x) regular)
 
 -- the entry in each slot of a directory is raised
 entry_carried : (from to : Geometry) (old image : List ℕ) (now i s : ℕ) → MayMigrate old from to → IsLast from to old now image → IsUsed from old i
     → kind_at from old i ≡ kinds.Directory → entry_at to image (i + 1) s ≡ raised_entry (entry_at from old i s)
 entry_carried from to old image now i s may stage used directory =
-    let sizes = sizes_same from to old image now i may stage used in
+    let file = used_file old from i kinds.Directory used directory refl in
+    let sizes = sizes_same from to old image now i may stage file in
     let whole = ready_slots from old i may.ready (record { first = used.first; last = used.last; kind = directory }) in
     let left = length-body to image (i + 1) in
     let right = length-body from old i in
@@ -82,7 +86,7 @@ entry_carried from to old image now i s may stage used directory =
       | inl low ↦
           let slot = slot_raised (body from old i) (body to image (i + 1)) s (omega (arith, low, right, sizes.0)) (omega (arith, low, left, sizes.0, sizes.1))
           (λ x from_here to_here.
-          body_carried from to old image now i x may stage used (omega (arith, to_here, low, sizes.0))
+          body_carried from to old image now i x may stage file (omega (arith, to_here, low, sizes.0))
           ∙ ap (λ k. carried_byte k (body from old i) x) directory) in
           entry_at_in to image (i + 1) s (omega (arith, low, sizes.0, sizes.1))
           ∙ (ap entry_in slot
@@ -101,7 +105,7 @@ pub slots_carried : (from to : Geometry) (old image : List ℕ) (now i : ℕ) �
     → kind_at from old i ≡ kinds.Directory → slots to image (i + 1) ≡ map raised_entry (slots from old i)
 unfolding slots
 slots_carried from to old image now i may stage used directory =
-    let sizes = sizes_same from to old image now i may stage used in
+    let sizes = sizes_same from to old image now i may stage (used_file old from i kinds.Directory used directory refl) in
     let count : slot_count to image (i + 1) ≡ slot_count from old i = omega (arith, sizes.0, sizes.1) in
     ap (λ n. map (entry_at to image (i + 1)) (range_with_len 0 n)) count
     ∙ map_each (entry_at to image (i + 1)) (entry_at from old i) 0 (slot_count from old i)

@@ -15,7 +15,7 @@ use Rattle.vol_check.proofs.Remade.{remade_inode, remade_content}
 use Rattle.vol_migrate.specs.Migrate.{HasZeros, HasRaisedSlots}
 use Rattle.vol_migrate.specs.Stages.{IsUsed, MayMigrate, carried_byte}
 use Rattle.vol_migrate.proofs.StageSteps.{carried_kind, super_stays}
-use Rattle.vol_migrate.proofs.StageLaws.{old_rules, carried_file}
+use Rattle.vol_migrate.proofs.StageLaws.{old_rules, carried_file, used_file}
 use Rattle.vol_migrate.proofs.LastStages.{IsLast, all_carried, body_carried, used_or, unused_vacant}
 
 -- zeros are unchanged when the free list is rebuilt
@@ -51,6 +51,7 @@ last_slots from to old made new now used may stage keeps named = λ i x is low.
       last = is.last;
       some = λ free. let both : kinds.Directory ≡ kinds.Free = sym is.kind ∙ free in absurd (cc);
     } in
-    let file = carried_file old from to now made i (whole_blocks (size_of from old i)) may one (all_carried from to old made now i stage one) in
+    let old_file = used_file old from i kinds.Directory one is.kind refl in
+    let file = carried_file old from to now made i (whole_blocks (size_of from old i)) may old_file (all_carried from to old made now i stage one) in
     ap (λ xs. get_or xs x 0) ((remade_content to made new used (i + 1) stage.sound.fits named keeps stage.sound.zoned file.first file.last).bytes file)
-    ∙ (body_carried from to old made now i x may stage one low ∙ ap (λ k. carried_byte k (body from old i) x) is.kind)
+    ∙ (body_carried from to old made now i x may stage old_file low ∙ ap (λ k. carried_byte k (body from old i) x) is.kind)

@@ -1,5 +1,6 @@
 pub mod RaisedGraphs
 pub mod RaisedNames
+pub mod RaisedDevices
 pub mod CarriedBlocks
 pub mod NewPlaces
 pub mod FileShapes

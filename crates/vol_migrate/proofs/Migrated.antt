@@ -23,15 +23,16 @@ use Rattle.vol_check.proofs.Remade.{salvaged}
 use Rattle.vol_mkfs.specs.Mkfs.{is_size, sizes_bytes, volume_of, IsMakeable, IsNoneOf}
 use Rattle.vol_migrate.specs.Migrate.{HasZeros, HasRaisedSlots, IsMigrated, IsRelisted}
 use Rattle.vol_migrate.specs.Raised.{raised}
-use Rattle.vol_migrate.specs.Refuse.{has_device, has_above, places_needed, refusal}
+use Rattle.vol_migrate.specs.Refuse.{has_refused, has_above, places_needed, refusal}
 use Rattle.vol_migrate.specs.Stages.{HasInodes, HasSuper, IsStage, MayMigrate}
+use Rattle.vol_migrate.specs.declared.devices.Devices.{Devices}
 use Rattle.vol_migrate.specs.declared.fault.MigrateFault.TheVariants as faults
 use Rattle.vol_mkfs.proofs.NewSizes.{fits_makeable}
 use Rattle.vol_migrate.proofs.FirstStages.{first_stage}
 use Rattle.vol_migrate.proofs.LastReadings.{state_raised}
 use Rattle.vol_migrate.proofs.LastZeros.{last_zeros, last_slots}
 use Rattle.vol_migrate.proofs.LastStages.{IsLast}
-use Rattle.vol_migrate.proofs.Refused.{plain_all, number_all}
+use Rattle.vol_migrate.proofs.Refused.{number_all}
 
 -- the geometry of a sound image can be read
 pub sound_read : (image : List ℕ) → IsSound V6 image → geometry_read V6 image ≡ Ok (geometry_of V6 image)
@@ -74,9 +75,9 @@ relisted geometry old mid new used seventh sizes fits after rules marked same ke
 
 -- a sound volume that passes all checks may be migrated
 pub may_migrate : (old : List ℕ) (from : Geometry) (blocks list_blocks : ℕ) → IsSound V6 old → from ≡ geometry_of V6 old → Fits from old
-    → IsMakeable (volume_of V7 blocks list_blocks) → has_device (tree from old) ≡ false → has_above (tree from old) (8 * list_blocks) ≡ false
+    → IsMakeable (volume_of V7 blocks list_blocks) → has_above (tree from old) (8 * list_blocks) ≡ false
     → places_needed (state from old) ≤ blocks - (list_blocks + 2) → MayMigrate old from (volume_of V7 blocks list_blocks)
-may_migrate old from blocks list_blocks sound is fits makeable device above space =
+may_migrate old from blocks list_blocks sound is fits makeable above space =
     let sixth : from.edition ≡ V6 = ap (λ (g : Geometry). g.edition) is in
     let ready : Rules1To12 from old = record {
       fits = fits;
@@ -89,7 +90,6 @@ may_migrate old from blocks list_blocks sound is fits makeable device above spac
       seventh = refl;
       ready = ready;
       makeable = makeable;
-      plain = λ i first last. plain_all from old i device first last;
       numbers = λ i used. number_all from old (8 * list_blocks) i above used (known i used.first used.last);
       space = space;
     }
@@ -128,26 +128,26 @@ sound_sizes image geometry is rules = subst (λ g. HasSizes g image) (sym is) (r
 -- the facts if all checks of a migration pass
 pub record IsAllowed (state : State) (blocks list_blocks : ℕ) : Type 0 where
   pub size : is_size V7 blocks list_blocks ≡ true
-  pub device : has_device state.tree ≡ false
   pub above : has_above state.tree (8 * list_blocks) ≡ false
   pub space : places_needed state ≤ blocks - (list_blocks + 2)
 
 -- `IsAllowed` holds if there is no refusal
-pub allowed : (state : State) (blocks list_blocks : ℕ) → refusal V6 state blocks list_blocks ≡ None → IsAllowed state blocks list_blocks
-allowed state blocks list_blocks none =
-    go (is_size V7 blocks list_blocks) (has_device state.tree) (has_above state.tree (8 * list_blocks))
-    (ltb (blocks - (list_blocks + 2)) (places_needed state)) refl refl refl refl none where
-      go : (size device above full : Bool) → is_size V7 blocks list_blocks ≡ size → has_device state.tree ≡ device
+pub allowed : (state : State) (blocks list_blocks : ℕ) (devices : Devices) → refusal V6 state blocks list_blocks devices ≡ None
+    → IsAllowed state blocks list_blocks
+allowed state blocks list_blocks devices none =
+    go (is_size V7 blocks list_blocks) (has_refused devices state.tree) (has_above state.tree (8 * list_blocks))
+    (ltb (blocks - (list_blocks + 2)) (places_needed state)) refl refl refl none where
+      go : (size device above full : Bool) → is_size V7 blocks list_blocks ≡ size
           → has_above state.tree (8 * list_blocks) ≡ above → ltb (blocks - (list_blocks + 2)) (places_needed state) ≡ full
           → (if size then
           (if device then Some faults.HasDevice else if above then Some faults.NoInode else if full then Some faults.NoSpace else None)
           else Some faults.Bounds) ≡ None
           → IsAllowed state blocks list_blocks
-      go true false false false s d a f e = record { size = s; device = d; above = a; space = ltb-false _ _ f }
-      go true false false true s d a f e = absurd (cc)
-      go true false true full s d a f e = absurd (cc)
-      go true true above full s d a f e = absurd (cc)
-      go false device above full s d a f e = absurd (cc)
+      go true false false false s a f e = record { size = s; above = a; space = ltb-false _ _ f }
+      go true false false true s a f e = absurd (cc)
+      go true false true full s a f e = absurd (cc)
+      go true true above full s a f e = absurd (cc)
+      go false device above full s a f e = absurd (cc)
 
 -- the volume made of zeros, with super-block, i-nodes and free list, is at its first stage
 pub made_first : (old zeros made put image : List ℕ) (from to : Geometry) (now : ℕ) → MayMigrate old from to → zeros ≡ replicate (512 * to.zone_end) 0

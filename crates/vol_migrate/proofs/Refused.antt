@@ -1,9 +1,10 @@
 -- The reasons not to migrate a volume, from the kinds of its i-nodes.
-use Rattle.std.proofs.Common.{◌≡◌, ◌≢◌, ◌∙◌, sym, ap, refl, ℕ, zero, suc, ◌+◌, ◌-◌, ◌<◌, ◌≤◌, ltb, Bool, true, false, List, inl, inr, arith}
+use Rattle.std.proofs.Common.{◌≡◌, ◌≢◌, ◌∙◌, sym, ap, refl, ℕ, zero, suc, ◌+◌, ◌-◌, ◌/◌, ◌<◌, ◌≤◌, ltb, not, Bool, true, false, List, inl, inr, arith}
 use Rattle.std.specs.Prelude.{◌||◌, ◌&&◌}
 use Rattle.std.specs.List.{list_any, range_with_len}
 use Rattle.std.specs.Option.{option_map, option_map_or}
 use Rattle.std.proofs.lemmas.Bool.{cases_Bool, cases_lt, lt-ltb, le-ltb, true≢false}
+use Rattle.vol_layout.specs.BlockPointers.{mode_of}
 use Rattle.vol_layout.specs.Inode.{inode_of}
 use Rattle.vol_layout.specs.declared.geometry.Geometry.{Geometry}
 use Rattle.vol_layout.specs.declared.mode.Kind.{Kind}
@@ -14,9 +15,9 @@ use Rattle.vol_file.proofs.MissingLaws.{any_more}
 use Rattle.vol_dir.specs.Tree.{Node, Tree, tree, node_of, node_with, content_of}
 use Rattle.vol_change.proofs.FileInodes.{none_passes}
 use Rattle.vol_dir.proofs.WalkLaws.{node_inside}
-use Rattle.vol_volume.specs.Verdict.{is_device}
-use Rattle.vol_migrate.specs.Refuse.{has_device, has_above, is_device_at, is_node_at, is_above_at}
+use Rattle.vol_migrate.specs.Refuse.{has_above, keeps, is_refused, is_refused_at, is_node_at, is_above_at}
 use Rattle.vol_migrate.specs.Stages.{IsUsed}
+use Rattle.vol_migrate.specs.declared.devices.Devices.{Devices}
 
 -- if no number below `i` passes a test and `i` doesn't, no number up to `i` does
 pub none_more : (f : ℕ → Bool) (i : ℕ) → 1 ≤ i → list_any f (range_with_len 1 (i - 1)) ≡ false → f i ≡ false
@@ -47,13 +48,13 @@ none_from f last i none first within =
       | inr off ↦ off
     ]
 
--- true if a kind is `Special`
-abbrev pub is_special : Kind → Bool
-is_special kinds.Special = true
-is_special kinds.Free = false
-is_special kinds.Regular = false
-is_special kinds.Directory = false
-is_special kinds.Odd = false
+-- true if an i-node of this kind, with these type bits and addresses, is a special file that isn't kept
+abbrev pub refuses : Devices → ℕ → List ℕ → Kind → Bool
+refuses devices type addresses kinds.Special = not (keeps devices type addresses)
+refuses devices type addresses kinds.Free = false
+refuses devices type addresses kinds.Regular = false
+refuses devices type addresses kinds.Directory = false
+refuses devices type addresses kinds.Odd = false
 
 -- true if a kind has a node in the tree
 abbrev pub is_node : Kind → Bool
@@ -63,15 +64,16 @@ is_node kinds.Special = true
 is_node kinds.Regular = true
 is_node kinds.Directory = true
 
--- the node of an i-node is a special file if and only if the i-node's kind is `Special`
-device_by : (geometry : Geometry) (image : List ℕ) (i : ℕ) (kind : Kind)
-    → option_map_or (λ (node : Node). is_device node.content) (option_map (node_with (inode_of geometry.edition image i)) (content_of geometry image i kind)) false
-    ≡ is_special kind
-device_by geometry image i kinds.Free = refl
-device_by geometry image i kinds.Regular = refl
-device_by geometry image i kinds.Directory = refl
-device_by geometry image i kinds.Special = refl
-device_by geometry image i kinds.Odd = refl
+-- the node of an i-node is a special file that isn't kept if and only if the i-node is one
+refused_by : (devices : Devices) (geometry : Geometry) (image : List ℕ) (i : ℕ) (kind : Kind)
+    → option_map_or (λ (node : Node). is_refused devices node.content)
+    (option_map (node_with (inode_of geometry.edition image i)) (content_of geometry image i kind)) false
+    ≡ refuses devices (mode_of geometry image i / 4096) (inode_of geometry.edition image i).addresses kind
+refused_by devices geometry image i kinds.Free = refl
+refused_by devices geometry image i kinds.Regular = refl
+refused_by devices geometry image i kinds.Directory = refl
+refused_by devices geometry image i kinds.Special = refl
+refused_by devices geometry image i kinds.Odd = refl
 
 node_by : (geometry : Geometry) (image : List ℕ) (i : ℕ) (kind : Kind)
     → option_map_or (λ (node : Node). true) (option_map (node_with (inode_of geometry.edition image i)) (content_of geometry image i kind)) false ≡ is_node kind
@@ -81,13 +83,14 @@ node_by geometry image i kinds.Directory = refl
 node_by geometry image i kinds.Special = refl
 node_by geometry image i kinds.Odd = refl
 
--- the node of an i-number is a special file if and only if the i-node's kind is `Special`
-pub device_here : (geometry : Geometry) (image : List ℕ) (i : ℕ) → 1 ≤ i → i ≤ geometry.last_inode
-    → option_map_or (λ (node : Node). is_device node.content) ((tree geometry image).nodes i) false ≡ is_special (kind_at geometry image i)
+-- the node of an i-number is a special file that isn't kept if and only if the i-node is one
+pub refused_here : (devices : Devices) (geometry : Geometry) (image : List ℕ) (i : ℕ) → 1 ≤ i → i ≤ geometry.last_inode
+    → is_refused_at devices (tree geometry image) i
+    ≡ refuses devices (mode_of geometry image i / 4096) (inode_of geometry.edition image i).addresses (kind_at geometry image i)
 unfolding node_of
-device_here geometry image i first last =
-    ap (λ o. option_map_or (λ (node : Node). is_device node.content) o false) (node_inside geometry image i first last)
-    ∙ device_by geometry image i (kind_at geometry image i)
+refused_here devices geometry image i first last =
+    ap (λ o. option_map_or (λ (node : Node). is_refused devices node.content) o false) (node_inside geometry image i first last)
+    ∙ refused_by devices geometry image i (kind_at geometry image i)
 
 -- an i-number has a node if and only if its kind has one
 pub node_here : (geometry : Geometry) (image : List ℕ) (i : ℕ) → 1 ≤ i → i ≤ geometry.last_inode
@@ -95,18 +98,6 @@ pub node_here : (geometry : Geometry) (image : List ℕ) (i : ℕ) → 1 ≤ i �
 unfolding node_of
 node_here geometry image i first last =
     ap (λ o. option_map_or (λ (node : Node). true) o false) (node_inside geometry image i first last) ∙ node_by geometry image i (kind_at geometry image i)
-
--- a kind other than `Special` fails the test
-pub not_special : (kind : Kind) → kind ≢ kinds.Special → is_special kind ≡ false
-not_special kinds.Free other = refl
-not_special kinds.Regular other = refl
-not_special kinds.Directory other = refl
-not_special kinds.Odd other = refl
-not_special kinds.Special other = absurd (other refl)
-
--- a kind that fails the test isn't `Special`
-pub special_not : (kind : Kind) → is_special kind ≡ false → kind ≢ kinds.Special
-special_not kind none is = true≢false (sym (ap is_special is) ∙ none)
 
 -- a kind that is neither free nor odd has a node
 pub used_node : (kind : Kind) → kind ≢ kinds.Free → kind ≢ kinds.Odd → is_node kind ≡ true
@@ -127,15 +118,6 @@ above_low tree last i low = ap (λ t. t && is_node_at tree i) (le-ltb last (i + 
 -- an i-number without a node fails the test
 pub above_none : (tree : Tree) (last i : ℕ) → is_node_at tree i ≡ false → is_above_at tree last i ≡ false
 above_none tree last i none = ap (λ t. ltb last (i + 1) && t) none ∙ none_passes (ltb last (i + 1))
-
--- no i-node of a volume without special files is one
-pub plain_all : (geometry : Geometry) (image : List ℕ) (i : ℕ) → has_device (tree geometry image) ≡ false → 1 ≤ i → i ≤ geometry.last_inode
-    → kind_at geometry image i ≢ kinds.Special
-unfolding tree
-plain_all geometry image i none first last =
-    special_not (kind_at geometry image i)
-    (sym (device_here geometry image i first last)
-    ∙ none_from (is_device_at (tree geometry image)) geometry.last_inode i none first last)
 
 -- if no node's i-number plus one is above `last`, each used i-node has room
 pub number_all : (geometry : Geometry) (image : List ℕ) (last i : ℕ) → has_above (tree geometry image) last ≡ false → IsUsed geometry image i

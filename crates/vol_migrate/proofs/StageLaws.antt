@@ -1,5 +1,5 @@
 -- Copying the files of a volume one after another.
-use Rattle.std.proofs.Common.{◌≡◌, ◌≢◌, ◌∙◌, sym, ap, subst, refl, ℕ, zero, suc, ◌+◌, ◌*◌, ◌/◌, ◌%◌, ◌<◌, ◌≤◌, eqb, true, false, not, List, [], length, get_or, replicate, length-append, inl, inr, arith}
+use Rattle.std.proofs.Common.{◌≡◌, ◌∙◌, sym, ap, subst, refl, ℕ, zero, suc, ◌+◌, ◌*◌, ◌/◌, ◌%◌, ◌<◌, ◌≤◌, eqb, true, false, not, List, length, get_or, replicate, length-append, inl, inr, arith}
 use Rattle.std.specs.List.{range_with_len}
 use Rattle.std.proofs.lemmas.Bool.{cases_eq, cases_lt, cases_Bool, eqb-true, true≢false}
 use Rattle.std.proofs.lemmas.List.{get_or_past}
@@ -35,7 +35,7 @@ use Rattle.vol_migrate.proofs.CarriedBlocks.{below_holes, count_holes, count_run
 use Rattle.vol_migrate.proofs.FirstInodes.{byte_kept}
 use Rattle.vol_migrate.proofs.FileShapes.{bare_need, names_stored}
 use Rattle.vol_migrate.proofs.RaisedSlots.{raised_none}
-use Rattle.vol_migrate.proofs.StageSteps.{carried_kind, form_seventh, touched_run, progress_self, progress_other, progress_before, progress_after, super_stays, other_stays, self_carried}
+use Rattle.vol_migrate.proofs.StageSteps.{carried_kind, form_seventh, touched_run, progress_self, progress_other, progress_before, progress_after, super_stays, other_stays, bare_carried, self_carried}
 
 -- rules 3 to 8 hold for a volume that may be migrated
 pub old_rules : (old : List ℕ) (from to : Geometry) → MayMigrate old from to → Rules3To8 from old
@@ -49,42 +49,32 @@ file_is_used old from i file = record {
   some = λ free. let none : has_places (kind_at from old i) ≡ false = ap has_places free in absurd (true≢false (sym file.kind ∙ none));
 }
 
--- a kind that is neither free, odd nor special has a block map
-places_by : (kind : Kind) → kind ≢ kinds.Free → kind ≢ kinds.Odd → kind ≢ kinds.Special → has_places kind ≡ true
-places_by kinds.Regular some known plain = refl
-places_by kinds.Directory some known plain = refl
-places_by kinds.Free some known plain = absurd (some refl)
-places_by kinds.Odd some known plain = absurd (known refl)
-places_by kinds.Special some known plain = absurd (plain refl)
-
--- a used i-node of a volume that may be migrated is a file
-pub used_is_file : (old : List ℕ) (from to : Geometry) (i : ℕ) → MayMigrate old from to → IsUsed from old i → IsFile from old i
-used_is_file old from to i may used = record {
-  first = used.first;
-  last = used.last;
-  kind = places_by (kind_at from old i) used.some ((old_rules old from to may).sound.kinds.known i used.first used.last) (may.plain i used.first used.last);
-}
+-- a used i-node of a kind that has a block map is a file
+pub used_file : (old : List ℕ) (from : Geometry) (i : ℕ) (kind : Kind) → IsUsed from old i → kind_at from old i ≡ kind → has_places kind ≡ true
+    → IsFile from old i
+used_file old from i kind used is places = record { first = used.first; last = used.last; kind = ap has_places is ∙ places }
 
 -- the new i-node of a copied file is a file
-pub carried_file : (old : List ℕ) (from to : Geometry) (now : ℕ) (image : List ℕ) (i n : ℕ) → MayMigrate old from to → IsUsed from old i
+pub carried_file : (old : List ℕ) (from to : Geometry) (now : ℕ) (image : List ℕ) (i n : ℕ) → MayMigrate old from to → IsFile from old i
     → IsCarried from to old now image i n → IsFile to image (i + 1)
-carried_file old from to now image i n may used carried = record {
-  first = omega arith;
-  last = may.numbers i used;
-  kind = ap has_places (carried_kind from to old image now i n may.sixth may.seventh (old_rules old from to may).sound.kinds used carried)
-      ∙ (used_is_file old from to i may used).kind;
-}
+carried_file old from to now image i n may file carried =
+    let used = file_is_used old from i file in
+    record {
+      first = omega arith;
+      last = may.numbers i used;
+      kind = ap has_places (carried_kind from to old image now i n may.sixth may.seventh (old_rules old from to may).sound.kinds used carried) ∙ file.kind;
+    }
 
 -- writing the next blocks of a file needs as many blocks as are counted for them
-pub need_is : (old : List ℕ) (from to : Geometry) (now : ℕ) (image : List ℕ) (i b k len : ℕ) → MayMigrate old from to → IsUsed from old i
+pub need_is : (old : List ℕ) (from to : Geometry) (now : ℕ) (image : List ℕ) (i b k len : ℕ) → MayMigrate old from to → IsFile from old i
     → IsCarried from to old now image i b → 1 ≤ k → 512 * k < len + 512 → len ≤ 512 * k
     → need to image (i + 1) (512 * b) len ≡ need_of Deep (is_on_ways Deep (stored_blocks (shapes from old i) b)) (range_with_len b k)
-need_is old from to now image i b k len may used carried first begun few =
-    let file = carried_file old from to now image i b may used carried in
+need_is old from to now image i b k len may is carried first begun few =
+    let file = carried_file old from to now image i b may is carried in
     let form = form_seventh to image (i + 1) may.seventh file in
     let places : at_places Deep (is_named to image (i + 1)) ≡ at_places Deep (is_on_ways Deep (stored_blocks (shapes from old i) b)) =
     λ t p. guarded (is_place Deep p) (is_named to image (i + 1) p) (is_on_ways Deep (stored_blocks (shapes from old i) b) p)
-    (λ passes. carried.names p (place_passed Deep p passes)) t in
+    (λ passes. (carried.file is.kind).names p (place_passed Deep p passes)) t in
     ap (λ f. need_of f (is_named to image (i + 1)) (touched (512 * b) len)) form
     ∙ (ap (need_of Deep (is_named to image (i + 1))) (touched_run b k len first begun few)
     ∙ (sym (need_places Deep (is_named to image (i + 1)) (range_with_len b k))
@@ -107,21 +97,21 @@ need_room old from to now image i b k stage may used some within =
 
 -- after the write of `k` blocks from `b` on, these are copied
 pub stage_written : (old : List ℕ) (from to : Geometry) (now : ℕ) (image new text : List ℕ) (i b k : ℕ) → MayMigrate old from to
-    → (stage : IsStage from to old now image i b) → IsUsed from old i → ((c : ℕ) → b ≤ c → c < b + k → names_block (shapes from old i) c ≡ true)
+    → (stage : IsStage from to old now image i b) → IsFile from old i → ((c : ℕ) → b ≤ c → c < b + k → names_block (shapes from old i) c ≡ true)
     → Writes to image new (i + 1) (512 * b) text stage.blocks
     → 1 ≤ k → 512 * k < length text + 512 → length text ≤ 512 * k → 512 * b + length text ≤ size_of from old i
     → ((x : ℕ) → x < size_of from old i → x / 512 < b + k → x < 512 * b + length text)
     → ((r : ℕ) → r < length text → get_or text r 0 ≡ carried_byte (kind_at from old i) (body from old i) (512 * b + r))
     → IsStage from to old now new i (b + k)
-stage_written old from to now image new text i b k may stage used some writes first begun few within whole bytes =
+stage_written old from to now image new text i b k may stage old_file some writes first begun few within whole bytes =
+    let used = file_is_used old from i old_file in
     let here : IsCarried from to old now image i b =
     subst (IsCarried from to old now image i) (progress_self from old i b) (stage.carried i used) in
-    let file = carried_file old from to now image i b may used here in
-    let old_file = used_is_file old from to i may used in
+    let file = carried_file old from to now image i b may old_file here in
     let rules = old_rules old from to may in
     let greatest = rules.sound.sizes.greatest i old_file in
     let limit : (constants from.edition).greatest ≡ 16777215 = ap (λ e. (constants e).greatest) may.sixth in
-    let need = need_is old from to now image i b k (length text) may used here first begun few in
+    let need = need_is old from to now image i b k (length text) may old_file here first begun few in
     let more = count_run (shapes from old i) b k some in
     let count = writes.count in
     let parts : length stage.blocks ≡ length writes.taken + length writes.rest = ap length writes.free ∙ length-append writes.taken writes.rest in
@@ -135,13 +125,13 @@ stage_written old from to now image new text i b k may stage used some writes fi
           elim (cases_eq j i) [
             | inl same ↦
                 let now_here : IsCarried from to old now new i (b + k) =
-                self_carried from to old image new text stage.blocks now i b k may.sixth may.seventh file (omega (arith, greatest, limit)) some writes first begun few within whole
-                bytes here in
+                self_carried from to old image new text stage.blocks now i b k may.sixth may.seventh old_file.kind file (omega (arith, greatest, limit)) some writes first begun
+                few within whole bytes here in
                 let P : ℕ → Type 0 = λ h. IsCarried from to old now new h (progress from old i (b + k) h) in
                 subst P (sym same) (subst (IsCarried from to old now new i) (sym (progress_self from old i (b + k))) now_here)
             | inr apart ↦
                 let was = stage.carried j other in
-                let is = (carried_file old from to now image j (progress from old i b j) may other was).kind in
+                let is = carried_kind from to old image now j (progress from old i b j) may.sixth may.seventh rules.sound.kinds other was in
                 let still = other_stays from to old image new now (i + 1) j (progress from old i b j) stage.sound.fits writes.alone (omega arith)
                 (λ e. apart (omega (arith, e))) (may.numbers j other) may.seventh is was in
                 subst (IsCarried from to old now new j) (progress_other from old i b (b + k) j apart) still
@@ -208,26 +198,30 @@ stored_hole from old i b sixth file hole =
 
 -- passing holes leaves the stage as if they were copied
 pub stage_holes : (old : List ℕ) (from to : Geometry) (now : ℕ) (image : List ℕ) (i m n : ℕ) → MayMigrate old from to → IsStage from to old now image i m
-    → IsUsed from old i → m ≤ n → ((b : ℕ) → m ≤ b → b < n → names_block (shapes from old i) b ≡ false) → IsStage from to old now image i n
-stage_holes old from to now image i m n may stage used order holes =
+    → IsFile from old i → m ≤ n → ((b : ℕ) → m ≤ b → b < n → names_block (shapes from old i) b ≡ false) → IsStage from to old now image i n
+stage_holes old from to now image i m n may stage file order holes =
+    let used = file_is_used old from i file in
     let here : IsCarried from to old now image i m =
     subst (IsCarried from to old now image i) (progress_self from old i m) (stage.carried i used) in
-    let file = used_is_file old from to i may used in
+    let has = here.file file.kind in
     let fits = may.ready.fits in
     let same = count_holes (shapes from old i) m n order holes in
     let room = stage.room in
     let now_here : IsCarried from to old now image i n = record {
       inode = here.inode;
-      done = λ x low below.
-          elim (cases_lt (x / 512) m) [
-            | inl earlier ↦ here.done x low earlier
-            | inr later ↦
-                here.rest x low later
-                ∙ sym (carried_hole from old i x (kind_at from old i) fits
-                (stored_hole from old i (x / 512) may.sixth file (holes (x / 512) later below)))
-          ];
-      rest = λ x low above. here.rest x low (omega (arith, order, above));
-      names = λ p place. here.names p place ∙ sym (ap (λ blocks. is_on_ways Deep blocks p) (below_holes (shapes from old i) m n order holes));
+      device = here.device;
+      file = λ is. record {
+        done = λ x low below.
+            elim (cases_lt (x / 512) m) [
+              | inl earlier ↦ has.done x low earlier
+              | inr later ↦
+                  has.rest x low later
+                  ∙ sym (carried_hole from old i x (kind_at from old i) fits
+                  (stored_hole from old i (x / 512) may.sixth file (holes (x / 512) later below)))
+            ];
+        rest = λ x low above. has.rest x low (omega (arith, order, above));
+        names = λ p place. has.names p place ∙ sym (ap (λ blocks. is_on_ways Deep blocks p) (below_holes (shapes from old i) m n order holes));
+      };
     } in
     record {
       blocks = stage.blocks;
@@ -282,9 +276,9 @@ stage_next old from to now image i first stage =
     }
 
 -- passing an i-node that isn't a file leads to the next i-node
-pub stage_pass : (old : List ℕ) (from to : Geometry) (now : ℕ) (image : List ℕ) (i : ℕ) → MayMigrate old from to → 1 ≤ i → i ≤ from.last_inode
+pub stage_pass : (old : List ℕ) (from to : Geometry) (now : ℕ) (image : List ℕ) (i : ℕ) → 1 ≤ i → i ≤ from.last_inode
     → has_places (kind_at from old i) ≡ false → IsStage from to old now image i 0 → IsStage from to old now image (i + 1) 0
-stage_pass old from to now image i may first last bare stage =
+stage_pass old from to now image i first last bare stage =
     let room = stage.room in
     let more = before_more from old i first in
     let need = bare_need from old i first last bare in
@@ -296,9 +290,12 @@ stage_pass old from to now image i may first last bare stage =
       room = omega (arith, room, more, none, need, start);
       super_block = stage.super_block;
       carried = λ j other.
-          let is_file = (used_is_file old from to j may other).kind in
-          subst (IsCarried from to old now image j)
-          (progress_next from old i 0 j (λ is. absurd (true≢false (sym is_file ∙ (ap (λ k. has_places (kind_at from old k)) is ∙ bare)))))
-          (stage.carried j other);
+          elim (cases_eq j i) [
+            | inl is ↦
+                bare_carried from to old image now j (progress from old i 0 j) (progress from old (i + 1) 0 j)
+                (ap (λ k. has_places (kind_at from old k)) is ∙ bare) (stage.carried j other)
+            | inr apart ↦
+                subst (IsCarried from to old now image j) (progress_next from old i 0 j (λ is. absurd (apart is))) (stage.carried j other)
+          ];
       zeros = stage.zeros;
     }

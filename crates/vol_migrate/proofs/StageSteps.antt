@@ -1,8 +1,8 @@
 -- Copying one more logical block.
-use Rattle.std.proofs.Common.{◌≡◌, ◌≢◌, ◌∙◌, sym, ap, subst, refl, ℕ, zero, suc, ◌+◌, ◌-◌, ◌*◌, ◌/◌, ◌%◌, ◌<◌, ◌≤◌, eqb, ltb, true, cond, if◌then◌else◌, not, List, [], length, get_or, inl, inr, arith}
+use Rattle.std.proofs.Common.{◌≡◌, ◌≢◌, ◌∙◌, sym, ap, subst, refl, ℕ, zero, suc, ◌+◌, ◌-◌, ◌*◌, ◌/◌, ◌%◌, ◌<◌, ◌≤◌, eqb, ltb, true, false, cond, if◌then◌else◌, not, List, length, get_or, inl, inr, arith}
 use Rattle.std.specs.Prelude.{◌||◌}
 use Rattle.std.specs.List.{range_with_len}
-use Rattle.std.proofs.lemmas.Bool.{cases_lt, eq-eqb, ne_eqb, lt-ltb, le-ltb}
+use Rattle.std.proofs.lemmas.Bool.{cases_lt, eq-eqb, ne_eqb, lt-ltb, le-ltb, true≢false}
 use Rattle.pdp_words.specs.Words.{long}
 use Rattle.vol_layout.specs.Body.{body}
 use Rattle.vol_layout.specs.Edition.{constants}
@@ -35,7 +35,7 @@ use Rattle.vol_migrate.specs.Stages.{IsUsed, IsCarried, HasSuper, progress, carr
 use Rattle.vol_migrate.proofs.CarriedBlocks.{on_run}
 
 -- a copied i-node has the raised mode of the old one
-carried_mode : (from to : Geometry) (old image : List ℕ) (now i n : ℕ) → IsCarried from to old now image i n
+pub carried_mode : (from to : Geometry) (old image : List ℕ) (now i n : ℕ) → IsCarried from to old now image i n
     → mode_of to image (i + 1) ≡ raised_mode (mode_of from old i)
 carried_mode from to old image now i n carried =
     sym (inode_mode to.edition image (inode_place to.edition (i + 1)))
@@ -137,35 +137,48 @@ super_stays to now old new has len below behind =
 
 -- another copied i-node is unchanged by a write that changes only one file
 pub other_stays : (from to : Geometry) (old image new : List ℕ) (now k j n : ℕ) → Fits to image → ChangesFileAlone to image new k → 1 ≤ k → j + 1 ≢ k
-    → j + 1 ≤ to.last_inode → to.edition ≡ V7 → (has_places (kind_at to image (j + 1)) ≡ true) → IsCarried from to old now image j n → IsCarried from to old now new j n
-other_stays from to old image new now k j n fits alone first other last seventh is carried =
+    → j + 1 ≤ to.last_inode → to.edition ≡ V7 → kind_at to image (j + 1) ≡ kind_at from old j → IsCarried from to old now image j n
+    → IsCarried from to old now new j n
+other_stays from to old image new now k j n fits alone first other last seventh kind carried =
     let kept : KeepsInode to image new (j + 1) = elsewhere_inode to image new k (j + 1) fits alone.elsewhere first (omega arith) last other in
     let same : inode_of to.edition new (j + 1) ≡ inode_of to.edition image (j + 1) = inode_of_kept to image new (j + 1) kept in
-    let file : IsFile to image (j + 1) = record { first = omega arith; last = last; kind = is } in
-    let form = form_seventh to image (j + 1) seventh file in
-    let bodies : body to new (j + 1) ≡ body to image (j + 1) = alone.bodies (j + 1) other file in
     let P : Inode → Type 0 = λ node. node ≡ record (raised_inode (inode_of from.edition old j) now) { addresses = node.addresses } in
     record {
       inode = subst P (sym same) carried.inode;
-      done = λ x low below. ap (λ xs. get_or xs x 0) bodies ∙ carried.done x low below;
-      rest = λ x low above. ap (λ xs. get_or xs x 0) bodies ∙ carried.rest x low above;
-      names = λ p place.
-          ap (λ m. not (eqb m 0))
-          (alone.places (j + 1) p other (record { file = file; place = subst (λ f. IsPlace f p) (sym form) place }))
-          ∙ carried.names p place;
+      device = λ special. ap (λ (node : Inode). node.addresses) same ∙ carried.device special;
+      file = λ is.
+          let has = carried.file is in
+          let file : IsFile to image (j + 1) = record { first = omega arith; last = last; kind = ap has_places kind ∙ is } in
+          let form = form_seventh to image (j + 1) seventh file in
+          let bodies : body to new (j + 1) ≡ body to image (j + 1) = alone.bodies (j + 1) other file in
+          record {
+            done = λ x low below. ap (λ xs. get_or xs x 0) bodies ∙ has.done x low below;
+            rest = λ x low above. ap (λ xs. get_or xs x 0) bodies ∙ has.rest x low above;
+            names = λ p place.
+                ap (λ m. not (eqb m 0))
+                (alone.places (j + 1) p other (record { file = file; place = subst (λ f. IsPlace f p) (sym form) place }))
+                ∙ has.names p place;
+          };
     }
+
+-- the number of copied blocks of an i-node that isn't a file is of no account
+pub bare_carried : (from to : Geometry) (old image : List ℕ) (now i m n : ℕ) → has_places (kind_at from old i) ≡ false
+    → IsCarried from to old now image i m → IsCarried from to old now image i n
+bare_carried from to old image now i m n bare carried =
+    record { inode = carried.inode; device = carried.device; file = λ is. absurd (true≢false (sym is ∙ bare)) }
 
 -- a write of `k` blocks from `b` on copies these blocks of the file
 pub self_carried : (from to : Geometry) (old image new text free : List ℕ) (now i b k : ℕ) → from.edition ≡ V6 → to.edition ≡ V7
-    → IsFile to image (i + 1) → size_of from old i ≤ 16777215
+    → has_places (kind_at from old i) ≡ true → IsFile to image (i + 1) → size_of from old i ≤ 16777215
     → ((c : ℕ) → b ≤ c → c < b + k → names_block (shapes from old i) c ≡ true)
     → Writes to image new (i + 1) (512 * b) text free
     → 1 ≤ k → 512 * k < length text + 512 → length text ≤ 512 * k → 512 * b + length text ≤ size_of from old i
     → ((x : ℕ) → x < size_of from old i → x / 512 < b + k → x < 512 * b + length text)
     → ((r : ℕ) → r < length text → get_or text r 0 ≡ carried_byte (kind_at from old i) (body from old i) (512 * b + r))
     → IsCarried from to old now image i b → IsCarried from to old now new i (b + k)
-self_carried from to old image new text free now i b k sixth seventh file limit some writes first begun few within whole bytes carried =
+self_carried from to old image new text free now i b k sixth seventh is file limit some writes first begun few within whole bytes carried =
     let h = i + 1 in
+    let has = carried.file is in
     let form : form_at to image h ≡ Deep = form_seventh to image h seventh file in
     let touches : touched (512 * b) (length text) ≡ range_with_len b k = touched_run b k (length text) first begun few in
     let mode : mode_of to new h ≡ mode_of to image h =
@@ -204,26 +217,29 @@ self_carried from to old image new text free now i b k sixth seventh file limit 
         modified = modified t;
         changed = changed t;
       };
-      done = λ x low below.
-          ap (λ xs. get_or xs x 0) writes.body
-          ∙ elim (cases_lt (x / 512) b) [
-            | inl earlier ↦
-                spliced_before (body to image h) (512 * b) text x starts (omega (arith, earlier)) ∙ carried.done x low earlier
-            | inr later ↦
-                let in_text = whole x low below in
-                let r = x - 512 * b in
-                let at : 512 * b + r ≡ x = omega (arith, later) in
-                ap (λ y. get_or (spliced (body to image h) (512 * b) text) y 0) (sym at)
-                ∙ (spliced_inside (body to image h) (512 * b) text r starts (omega (arith, in_text, later))
-                ∙ (bytes r (omega (arith, in_text, later)) ∙ ap (carried_byte (kind_at from old i) (body from old i)) at))
-          ];
-      rest = λ x low above.
-          ap (λ xs. get_or xs x 0) writes.body
-          ∙ (spliced_after (body to image h) (512 * b) text x starts (omega (arith, above, few)) ∙ carried.rest x low (omega (arith, above)));
-      names = λ p place.
-          let new_form : form_at to new h ≡ Deep = ap (form_of to.edition) mode ∙ form in
-          writes.names p (subst (λ f. IsPlace f p) (sym new_form) place)
-          ∙ (ap (λ f. filled f (is_named to image h) (touched (512 * b) (length text)) p) form
-          ∙ (ap (λ blocks. filled Deep (is_named to image h) blocks p) touches
-          ∙ (ap (λ t. t || is_on_ways Deep (range_with_len b k) p) (carried.names p place) ∙ sym (on_run (shapes from old i) b k p some))));
+      device = λ special. let none : has_places (kind_at from old i) ≡ false = ap has_places special in absurd (true≢false (sym is ∙ none));
+      file = λ same. record {
+        done = λ x low below.
+            ap (λ xs. get_or xs x 0) writes.body
+            ∙ elim (cases_lt (x / 512) b) [
+              | inl earlier ↦
+                  spliced_before (body to image h) (512 * b) text x starts (omega (arith, earlier)) ∙ has.done x low earlier
+              | inr later ↦
+                  let in_text = whole x low below in
+                  let r = x - 512 * b in
+                  let at : 512 * b + r ≡ x = omega (arith, later) in
+                  ap (λ y. get_or (spliced (body to image h) (512 * b) text) y 0) (sym at)
+                  ∙ (spliced_inside (body to image h) (512 * b) text r starts (omega (arith, in_text, later))
+                  ∙ (bytes r (omega (arith, in_text, later)) ∙ ap (carried_byte (kind_at from old i) (body from old i)) at))
+            ];
+        rest = λ x low above.
+            ap (λ xs. get_or xs x 0) writes.body
+            ∙ (spliced_after (body to image h) (512 * b) text x starts (omega (arith, above, few)) ∙ has.rest x low (omega (arith, above)));
+        names = λ p place.
+            let new_form : form_at to new h ≡ Deep = ap (form_of to.edition) mode ∙ form in
+            writes.names p (subst (λ f. IsPlace f p) (sym new_form) place)
+            ∙ (ap (λ f. filled f (is_named to image h) (touched (512 * b) (length text)) p) form
+            ∙ (ap (λ blocks. filled Deep (is_named to image h) blocks p) touches
+            ∙ (ap (λ t. t || is_on_ways Deep (range_with_len b k) p) (has.names p place) ∙ sym (on_run (shapes from old i) b k p some))));
+      };
     }

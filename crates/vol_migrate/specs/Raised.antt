@@ -1,11 +1,13 @@
 -- A volume of the sixth edition, raised to the seventh.
-use Rattle.std.specs.Prelude.{ℕ, ◌+◌, ◌-◌, ◌==◌, if◌then◌else◌, Bool, false, List, map, replicate, Option, Some}
+use Rattle.std.specs.Prelude.{ℕ, ◌+◌, ◌-◌, ◌%◌, ◌==◌, if◌then◌else◌, Bool, false, List, ◌∷◌, map, replicate, slice_index, Option, Some}
 use Rattle.std.specs.List.{filter, range_with_len}
 use Rattle.std.specs.Option.{option_map, option_map_or}
 use Rattle.vol_layout.specs.BlockMaps.{last_place}
+use Rattle.vol_layout.specs.Inode.{device_type, is_block_type}
 use Rattle.vol_layout.specs.Slot.{name_of, padded_name}
 use Rattle.vol_layout.specs.declared.edition.Edition.TheVariants.{V6, V7}
 use Rattle.vol_layout.specs.declared.block_map.BlockMap.TheVariants.{Deep}
+use Rattle.vol_layout.specs.declared.mode.DeviceKind.TheVariants as devices
 use Rattle.vol_layout.specs.declared.slot.Slot.{Slot}
 use Rattle.vol_file.specs.Changes.{whole_blocks}
 use Rattle.vol_file.specs.Shape.{is_on_ways}
@@ -17,11 +19,20 @@ use Rattle.vol_mkfs.specs.Mkfs.{volume_of}
 abbrev pub raised_names : Names → Names
 raised_names names = map (λ (entry : List ℕ × ℕ). (entry.0, entry.1 + 1)) names
 
--- the content of a node: bytes are unchanged, and so is a special file, though a volume that is migrated has none (this project)
+-- the type bits of a special file: those of the seventh edition for its kind, block or character (manual section 5 of the sixth edition, file system;
+-- stat.h of the seventh)
+abbrev pub raised_type : ℕ → ℕ
+raised_type type = if is_block_type type then device_type V7 devices.Block else device_type V7 devices.Character
+
+-- the addresses of a special file: the number of its device, the low 16 bits of its first address, and no other (ino.h)
+abbrev pub raised_device : List ℕ → List ℕ
+raised_device addresses = (slice_index addresses 0 % 65536) ∷ replicate 12 0
+
+-- the content of a node: the bytes of a regular file are unchanged, and a special file keeps its kind and the number of its device (this project)
 abbrev pub raised_content : Content → Content
 raised_content (Body bytes) = Body bytes
 raised_content (Directory names) = Directory (raised_names names)
-raised_content (Device type addresses) = Device type addresses
+raised_content (Device type addresses) = Device (raised_type type) (raised_device addresses)
 
 -- a node: its i-node was last changed at the given time, and the rest is unchanged (this project)
 abbrev pub raised_node : ℕ → Node → Node

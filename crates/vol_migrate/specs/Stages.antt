@@ -1,16 +1,17 @@
 -- The stages of migrating a volume: the part of its files that is copied to the new one so far.
-use Rattle.std.specs.Prelude.{◌≡◌, ◌≢◌, ℕ, ◌+◌, ◌-◌, ◌*◌, ◌/◌, ◌%◌, ◌<◌, ◌≤◌, ◌==◌, ◌⊎◌, true, false, nat_lt, nat_le, if◌then◌else◌, List, ◌∷◌, length, slice_index}
+use Rattle.std.specs.Prelude.{◌≡◌, ◌≢◌, ℕ, ◌+◌, ◌-◌, ◌*◌, ◌/◌, ◌%◌, ◌<◌, ◌≤◌, ◌==◌, ◌⊎◌, true, false, nat_lt, nat_le, if◌then◌else◌, List, ◌∷◌, length, replicate, slice_index}
 use Rattle.std.specs.List.{count_by, sum_by, range_with_len}
 use Rattle.pdp_words.specs.Words.{long}
 use Rattle.vol_layout.specs.Body.{body}
 use Rattle.vol_layout.specs.Edition.{constants}
 use Rattle.vol_layout.specs.Geometry.{geometry_of}
 use Rattle.vol_layout.specs.Inode.{inode_of, inode_place, raised_inode}
-use Rattle.vol_layout.specs.BlockMaps.{IsPlace, places}
+use Rattle.vol_layout.specs.BlockMaps.{IsPlace, has_places, places}
 use Rattle.vol_layout.specs.Slot.{slot_at}
 use Rattle.vol_layout.specs.Super.{free_head, time_place}
 use Rattle.vol_layout.specs.declared.edition.Edition.TheVariants.{V6, V7}
 use Rattle.vol_layout.specs.declared.geometry.Geometry.{Geometry}
+use Rattle.vol_layout.specs.declared.i_node.Inode.{Inode}
 use Rattle.vol_layout.specs.declared.mode.Kind.{Kind}
 use Rattle.vol_layout.specs.declared.mode.Kind.TheVariants as kinds
 use Rattle.vol_layout.specs.declared.block_map.BlockMap.TheVariants.{Deep}
@@ -21,7 +22,7 @@ use Rattle.vol_file.specs.Shape.{is_named, is_on_ways}
 use Rattle.vol_dir.specs.Tree.{Shape, shapes, state}
 use Rattle.vol_change.specs.Ready.{Rules1To12}
 use Rattle.vol_mkfs.specs.Mkfs.{sizes_bytes, IsMakeable, IsNoneOf}
-use Rattle.vol_migrate.specs.Raised.{names_block, stored_blocks, raised_slot}
+use Rattle.vol_migrate.specs.Raised.{names_block, stored_blocks, raised_device, raised_slot}
 use Rattle.vol_migrate.specs.Refuse.{places_needed}
 
 -- i-node `i` isn't free (manual section 5, file system)
@@ -30,14 +31,12 @@ pub record IsUsed (geometry : Geometry) (image : List ℕ) (i : ℕ) : Type 0 wh
   pub last : i ≤ geometry.last_inode
   pub some : kind_at geometry image i ≢ kinds.Free
 
--- a sound volume of the sixth edition may be migrated to the seventh: it has no special file, its nodes fit the i-list, and its files fit the data
--- zone (this project)
+-- a sound volume of the sixth edition may be migrated to the seventh: its nodes fit the i-list, and its files fit the data zone (this project)
 pub record MayMigrate (old : List ℕ) (from to : Geometry) : Type 0 where
   pub sixth : from.edition ≡ V6
   pub seventh : to.edition ≡ V7
   pub ready : Rules1To12 from old
   pub makeable : IsMakeable to
-  pub plain : (i : ℕ) → 1 ≤ i → i ≤ from.last_inode → kind_at from old i ≢ kinds.Special
   pub numbers : (i : ℕ) → IsUsed from old i → i + 1 ≤ to.last_inode
   pub space : places_needed (state from old) ≤ to.zone_end - to.zone_start
 
@@ -80,15 +79,21 @@ carried_byte kinds.Free bytes x = slice_index bytes x
 carried_byte kinds.Special bytes x = slice_index bytes x
 carried_byte kinds.Odd bytes x = slice_index bytes x
 
--- i-node `i` + 1 of the new volume is i-node `i` of the old one, and its first `n` logical blocks have the same bytes; the others are holes (this
--- project)
-pub record IsCarried (from to : Geometry) (old : List ℕ) (now : ℕ) (image : List ℕ) (i n : ℕ) : Type 0 where
-  pub inode : inode_of to.edition image (i + 1)
-      ≡ record (raised_inode (inode_of from.edition old i) now) { addresses = (inode_of to.edition image (i + 1)).addresses }
+-- the first `n` logical blocks of file `i` are in file `i` + 1 of the new volume, with the same bytes; the others are holes (this project)
+pub record HasBlocks (from to : Geometry) (old image : List ℕ) (i n : ℕ) : Type 0 where
   pub done : (x : ℕ) → x < size_of from old i → x / 512 < n
       → slice_index (body to image (i + 1)) x ≡ carried_byte (kind_at from old i) (body from old i) x
   pub rest : (x : ℕ) → x < size_of from old i → n ≤ x / 512 → slice_index (body to image (i + 1)) x ≡ 0
   pub names : (p : List ℕ) → IsPlace Deep p → is_named to image (i + 1) p ≡ is_on_ways Deep (stored_blocks (shapes from old i) n) p
+
+-- i-node `i` + 1 of the new volume is i-node `i` of the old one: a file with its first `n` logical blocks, a special file with the number of its
+-- device (this project)
+pub record IsCarried (from to : Geometry) (old : List ℕ) (now : ℕ) (image : List ℕ) (i n : ℕ) : Type 0 where
+  pub inode : inode_of to.edition image (i + 1)
+      ≡ record (raised_inode (inode_of from.edition old i) now) { addresses = (inode_of to.edition image (i + 1)).addresses }
+  pub device : kind_at from old i ≡ kinds.Special
+      → (inode_of to.edition image (i + 1)).addresses ≡ raised_device (inode_of from.edition old i).addresses
+  pub file : has_places (kind_at from old i) ≡ true → HasBlocks from to old image i n
 
 -- the number of logical blocks of i-node `j` that are copied when `n` blocks of i-node `i` are, and all blocks of the i-nodes before it (this
 -- project)
@@ -131,9 +136,19 @@ pub record HasStage (from to : Geometry) (old image : List ℕ) (i n : ℕ) : Ty
 abbrev pub CarriesTo : Geometry → Geometry → List ℕ → List ℕ → ℕ → ℕ → List ℕ → ℕ → ℕ → Type 0
 CarriesTo from to old image i n new j m = (now : ℕ) → IsStage from to old now image i n → IsStage from to old now new j m
 
+-- the addresses of a new i-node of this kind, before any block is copied: those of a special file, or zeros (this project)
+abbrev pub first_addresses : Kind → Inode → List ℕ
+first_addresses kinds.Special node = raised_device node.addresses
+first_addresses _ node = replicate 13 0
+
+-- an i-node of this kind as it is in the new volume, before any block is copied (this project)
+abbrev pub first_inode : Kind → Inode → ℕ → Inode
+first_inode kind node now = record (raised_inode node now) { addresses = first_addresses kind node }
+
 -- the i-list of the new volume has the i-nodes below `i` of the old one, and zeros elsewhere (this project)
 pub record HasInodesBelow (from to : Geometry) (old : List ℕ) (now : ℕ) (image : List ℕ) (i : ℕ) : Type 0 where
-  pub done : (j : ℕ) → j < i → IsUsed from old j → inode_of to.edition image (j + 1) ≡ raised_inode (inode_of from.edition old j) now
+  pub done : (j : ℕ) → j < i → IsUsed from old j → inode_of to.edition image (j + 1)
+      ≡ first_inode (kind_at from old j) (inode_of from.edition old j) now
   pub rest : (k r : ℕ) → 1 ≤ k → k ≤ to.last_inode → (i + 1 ≤ k) ⊎ IsIdle from old k r → r < (constants to.edition).inode_bytes
       → slice_index image (inode_place to.edition k + r) ≡ 0
 

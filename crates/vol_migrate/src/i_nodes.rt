@@ -1,19 +1,21 @@
 //! A volume of the seventh edition with the i-nodes of a volume of the sixth, before any of them has a block.
 ghost use Rattle.std.specs.Prelude.{◌≡◌, ◌≢◌, ℕ, ◌+◌, ◌*◌, ◌<◌, ◌≤◌, true, false, IfOk, length, replicate, slice_index};
 ghost use Rattle.pdp_words.specs.Words.{SameOutside, long};
+ghost use Rattle.vol_layout.specs.BlockPointers.{mode_of};
 ghost use Rattle.vol_layout.specs.Geometry.{Fits, geometry_of};
+ghost use Rattle.vol_layout.specs.Inode.{IsStorable, inode_of};
 ghost use Rattle.vol_layout.specs.Super.{time_place};
 ghost use Rattle.vol_free.specs.Stack.{IsFree};
 ghost use Rattle.vol_free.specs.Rebuild.{KeepsUsed, unused};
 ghost use Rattle.vol_file.specs.Rules.{kind_at};
 ghost use Rattle.vol_mkfs.specs.Mkfs.{sizes_bytes, IsMakeable, IsNoneOf};
-ghost use Rattle.vol_migrate.specs.Stages.{HasInodes, HasInodesBelow, MayMigrate};
+ghost use Rattle.vol_migrate.specs.Stages.{HasInodes, HasInodesBelow, MayMigrate, first_inode};
 
 use pdp_words::Image;
 use std::alloc::{AllocError, Global};
 use vol_free::rebuild;
 use vol_layout::i_list::kind;
-use vol_layout::{Edition, Geometry, Kind, Super, inode, put_inode};
+use vol_layout::{Edition, Geometry, Inode, Kind, Super, inode, put_inode};
 
 /// Writes the sizes of a volume of the seventh edition and its time to the super-block.
 pub(crate) fn put_super(image: &mut Image, to: &Geometry, now: u32)
@@ -57,8 +59,32 @@ fn put_next(image: &mut Image, to: &Geometry, old: &Image, from: &Geometry, i: u
     ensures others { SameOutside image.old image.new 1024 (512 * to.now.zone_start) }
 {
     if is_used(old, from, i) {
-        let node = inode(old, from, i).raised(now);
+        let node = raised(old, from, i, now);
         put_inode(image, to, i + 1, &node);
+    }
+}
+
+/// Returns i-node `i` as it is in the seventh edition before it has a block. A special file has the number of its device.
+fn raised(old: &Image, from: &Geometry, i: u16, now: u32) -> Inode
+    requires fits { Fits from.now old.now }
+    requires first { 1 ≤ i }
+    requires last { i ≤ from.now.last_inode }
+    requires allocated { 32768 ≤ mode_of from.now old.now i }
+    ensures value { result ≡ first_inode (kind_at from.now old.now i) (inode_of from.now.edition old.now i) now }
+    ensures storable { IsStorable Edition.V7 result }
+{
+    let node = inode(old, from, i);
+    let raised = node.raised(now);
+    match kind(old, from, i) {
+        Kind::Special => {
+            let mut addresses = [0; 13];
+            addresses[0] = u32::from(node.device_number());
+            Inode {
+                addresses,
+                ..raised
+            }
+        }
+        _ => raised,
     }
 }
 

@@ -13,9 +13,10 @@ ghost use Rattle.vol_migrate.specs.Stages.{MayMigrate};
 
 use crate::copy::copy_files;
 use crate::count::places_needed;
+use crate::devices::Devices;
 use crate::fault::MigrateFault;
 use crate::i_nodes::{free_all, put_inodes, put_super};
-use crate::refuse::{has_above, has_device, is_size};
+use crate::refuse::{has_above, has_refused, is_size};
 use pdp_words::{BLOCK, Image};
 use std::alloc::{AllocError, Global};
 use vol_free::rebuild;
@@ -30,9 +31,12 @@ use vol_volume::Volume;
 /// bytes of the volume are zero, namely bytes past a size, in an empty slot, and after a name. Blocks are allocated starting with the first data
 /// block, by ascending i-number, and for each logical block in order along its path down from the i-node; all other blocks are free.
 ///
+/// With [`Devices::Keep`] a special file keeps its kind, block or character, and the number of its device.
+///
 /// The refusals are checked in this order. Invalid: the volume isn't one of the sixth edition. Bounds: a volume of the seventh can't have these
-/// sizes. HasDevice: it has a special file. NoInode: its highest i-number doesn't fit the i-list. NoSpace: the files need more blocks than there are
-/// data blocks. NoMemory comes last, and only if memory runs out.
+/// sizes. HasDevice: it has a special file; with [`Devices::Keep`] one that would lose something, because its type isn't one of the two of a new
+/// special file, or an address other than the first isn't 0. NoInode: its highest i-number doesn't fit the i-list. NoSpace: the files need more
+/// blocks than there are data blocks. NoMemory comes last, and only if memory runs out.
 ///
 /// Takes memory once for the bytes, and for a while two bytes for each block. Copies each stored block within a size, with a block-map lookup in the
 /// new volume, reads each i-node, and builds the free list twice.
@@ -42,15 +46,16 @@ pub fn migrate(
     blocks: u32,
     list_blocks: u16,
     now: u32,
+    devices: Devices,
 ) -> Result<Vec<u8>, MigrateFault>
     ensures migrated { IfOk result (λ bytes. IsMigrated volume.now.image blocks list_blocks now bytes.items) }
-    ensures accepted { OnOk result (refusal volume.now.edition (reads_as volume.now.edition volume.now.image) blocks list_blocks ≡ None) }
+    ensures accepted { OnOk result (refusal volume.now.edition (reads_as volume.now.edition volume.now.image) blocks list_blocks devices ≡ None) }
     ensures refused { IfErr result (λ fault. fault
-        ≡ unwrap_or (refusal volume.now.edition (reads_as volume.now.edition volume.now.image) blocks list_blocks) MigrateFault.NoMemory) }
+        ≡ unwrap_or (refusal volume.now.edition (reads_as volume.now.edition volume.now.image) blocks list_blocks devices) MigrateFault.NoMemory) }
 {
     volume.check();
     match volume.edition() {
-        Edition::V6 => migrate_image(alloc, volume.image(), blocks, list_blocks, now),
+        Edition::V6 => migrate_image(alloc, volume.image(), blocks, list_blocks, now, devices),
         Edition::V7 => Err(MigrateFault::Invalid),
     }
 }
@@ -65,15 +70,16 @@ pub fn migrate_image(
     blocks: u32,
     list_blocks: u16,
     now: u32,
+    devices: Devices,
 ) -> Result<Vec<u8>, MigrateFault>
     requires { IsSound Edition.V6 old.now }
     ensures migrated { IfOk result (λ bytes. IsMigrated old.now blocks list_blocks now bytes.items) }
-    ensures accepted { OnOk result (refusal Edition.V6 (reads_as Edition.V6 old.now) blocks list_blocks ≡ None) }
+    ensures accepted { OnOk result (refusal Edition.V6 (reads_as Edition.V6 old.now) blocks list_blocks devices ≡ None) }
     ensures refused { IfErr result (λ fault. fault
-        ≡ unwrap_or (refusal Edition.V6 (reads_as Edition.V6 old.now) blocks list_blocks) MigrateFault.NoMemory) }
+        ≡ unwrap_or (refusal Edition.V6 (reads_as Edition.V6 old.now) blocks list_blocks devices) MigrateFault.NoMemory) }
 {
     let from = sound_geometry(old);
-    if let Some(fault) = check(old, &from, blocks, list_blocks) {
+    if let Some(fault) = check(old, &from, blocks, list_blocks, devices) {
         return Err(fault);
     }
     let to = new_geometry(blocks, list_blocks);
@@ -97,16 +103,22 @@ fn sound_geometry(old: &Image) -> Geometry
 }
 
 /// Returns the first reason not to migrate a sound image of the sixth edition to a volume of these sizes, or `None`.
-fn check(old: &Image, from: &Geometry, blocks: u32, list_blocks: u16) -> Option<MigrateFault>
+fn check(
+    old: &Image,
+    from: &Geometry,
+    blocks: u32,
+    list_blocks: u16,
+    devices: Devices,
+) -> Option<MigrateFault>
     requires sound { IsSound Edition.V6 old.now }
     requires geometry { from.now ≡ geometry_of Edition.V6 old.now }
     requires fits { Fits from.now old.now }
-    ensures { result ≡ refusal Edition.V6 (state from.now old.now) blocks list_blocks }
+    ensures { result ≡ refusal Edition.V6 (state from.now old.now) blocks list_blocks devices }
 {
     if !is_size(blocks, list_blocks) {
         return Some(MigrateFault::Bounds);
     }
-    if has_device(old, from) {
+    if has_refused(old, from, devices) {
         return Some(MigrateFault::HasDevice);
     }
     if has_above(old, from, 8 * list_blocks) {

@@ -3,11 +3,12 @@ ghost use Rattle.std.specs.Prelude.{◌≡◌, ◌≤◌};
 ghost use Rattle.vol_layout.specs.Geometry.{Fits};
 ghost use Rattle.vol_dir.specs.Tree.{tree};
 ghost use Rattle.vol_mkfs.specs.Mkfs.{is_size};
-ghost use Rattle.vol_migrate.specs.Refuse.{has_device, is_device_at, has_above, is_node_at};
+ghost use Rattle.vol_migrate.specs.Refuse.{has_refused, is_refused_at, has_above, is_node_at};
 
+use crate::devices::Devices;
 use pdp_words::Image;
 use vol_layout::i_list::kind;
-use vol_layout::{Edition, Geometry, Kind};
+use vol_layout::{Edition, Geometry, Kind, inode};
 
 /// True if a volume of the seventh edition can have this number of blocks and of i-list blocks.
 pub(crate) fn is_size(blocks: u32, list_blocks: u16) -> bool
@@ -20,28 +21,28 @@ pub(crate) fn is_size(blocks: u32, list_blocks: u16) -> bool
         && blocks <= limits.block_limit
 }
 
-/// True if a volume has a special file.
-pub(crate) fn has_device(image: &Image, geometry: &Geometry) -> bool
+/// True if a volume has a special file that isn't kept.
+pub(crate) fn has_refused(image: &Image, geometry: &Geometry, devices: Devices) -> bool
     requires { Fits geometry.now image.now }
-    ensures { result ≡ has_device (tree geometry.now image.now) }
+    ensures { result ≡ has_refused devices (tree geometry.now image.now) }
 {
     for i in 1..=geometry.last_inode {
-        if is_device(image, geometry, i) {
+        if is_refused(image, geometry, i, devices) {
             return true;
         }
     }
     false
 }
 
-/// True if i-node `i` is a special file.
-fn is_device(image: &Image, geometry: &Geometry, i: u16) -> bool
+/// True if i-node `i` is a special file that isn't kept.
+fn is_refused(image: &Image, geometry: &Geometry, i: u16, devices: Devices) -> bool
     requires fits { Fits geometry.now image.now }
     requires first { 1 ≤ i }
     requires last { i ≤ geometry.now.last_inode }
-    ensures { result ≡ is_device_at (tree geometry.now image.now) i }
+    ensures { result ≡ is_refused_at devices (tree geometry.now image.now) i }
 {
     match kind(image, geometry, i) {
-        Kind::Special => true,
+        Kind::Special => !devices.keep(&inode(image, geometry, i)),
         Kind::Free => false,
         Kind::Regular => false,
         Kind::Directory => false,

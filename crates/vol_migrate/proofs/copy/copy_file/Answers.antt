@@ -8,7 +8,7 @@ use Rattle.vol_file.specs.Runs.{LooksUp}
 use Rattle.vol_dir.proofs.ReadSlots.{number_named}
 use Rattle.vol_migrate.specs.Stages.{IsStage}
 use Rattle.vol_migrate.proofs.FileShapes.{names_hole}
-use Rattle.vol_migrate.proofs.StageLaws.{file_is_used, stage_holes, stage_next}
+use Rattle.vol_migrate.proofs.StageLaws.{stage_holes, stage_next}
 use Rattle.vol_migrate.proofs.copy.copy_file.Goals as goal
 
 pub loop-b-init : goal.loop-b-init
@@ -23,7 +23,7 @@ loop-b-init c =
       some = λ low none. next.some low none;
       carries = λ now stage.
           stage_holes c.args.old.now c.args.from.now c.args.to.now now c.args.image.now c.args.i 0 c.next_block-b.result c.requires.may stage
-          (file_is_used c.args.old.now c.args.from.now c.args.i c.requires.file) next.reached
+          c.requires.file next.reached
           (λ b from to. names_hole c.args.from.now c.args.old.now c.args.i b c.requires.may.sixth c.requires.file (next.hole b from to));
     }
 
@@ -75,7 +75,7 @@ loop-b-preserved c =
       carries = λ now stage.
           stage_holes c.args.old.now c.args.from.now c.args.to.now now c.copy_run.new.image c.args.i (c.loop-b.b + count) c.next_block-b-in-loop-b.result
           c.requires.may (c.copy_run.ensures now (c.loop-b.invariant.carries now stage))
-          (file_is_used c.args.old.now c.args.from.now c.args.i c.requires.file) next.reached
+          c.requires.file next.reached
           (λ b from to. names_hole c.args.from.now c.args.old.now c.args.i b c.requires.may.sixth c.requires.file (next.hole b from to));
     }
 

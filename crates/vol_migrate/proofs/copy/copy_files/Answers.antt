@@ -15,7 +15,7 @@ loop-i-preserved c = λ now stage.
       | then-is_file w ↦ subst P (sym w.image-is) (w.copy_file.ensures now (c.loop-i.invariant now stage))
       | else-is_file w ↦
           subst P (sym w.image-is)
-          (stage_pass c.args.old.now c.args.from.now c.args.to.now now c.loop-i.image c.loop-i.i c.requires.may (omega arith) (omega arith)
+          (stage_pass c.args.old.now c.args.from.now c.args.to.now now c.loop-i.image c.loop-i.i (omega arith) (omega arith)
           (sym c.is_file.ensures ∙ w.if-is_file.false) (c.loop-i.invariant now stage))
     ]
 
@@ -28,6 +28,6 @@ returns-after-is_file c = λ now stage.
       | then-is_file w ↦ subst P (sym w.image-is) (w.copy_file.ensures now (c.loop-i.invariant now stage))
       | else-is_file w ↦
           subst P (sym w.image-is)
-          (stage_pass c.args.old.now c.args.from.now c.args.to.now now c.loop-i.image c.loop-i.i c.requires.may (omega arith) (omega arith)
+          (stage_pass c.args.old.now c.args.from.now c.args.to.now now c.loop-i.image c.loop-i.i (omega arith) (omega arith)
           (sym c.is_file.ensures ∙ w.if-is_file.false) (c.loop-i.invariant now stage))
     ])

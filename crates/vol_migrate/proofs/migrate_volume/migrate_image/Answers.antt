@@ -9,7 +9,7 @@ use Rattle.vol_migrate.proofs.migrate_volume.migrate_image.Goals as goal
 pub make-requires : goal.make-requires
 make-requires c =
     let from = c.sound_geometry-from.result in
-    let free = allowed (state from c.args.old.now) c.args.blocks c.args.list_blocks (sym c.in_default.ensures) in
+    let free = allowed (state from c.args.old.now) c.args.blocks c.args.list_blocks c.args.devices (sym c.in_default.ensures) in
     subst (MayMigrate c.args.old.now from) (sym c.new_geometry-to.ensures.value)
     (may_migrate c.args.old.now from c.args.blocks c.args.list_blocks c.requires c.sound_geometry-from.ensures.value c.sound_geometry-from.ensures.fits
-    (subst IsMakeable c.new_geometry-to.ensures.value c.new_geometry-to.ensures.makeable) free.device free.above free.space)
+    (subst IsMakeable c.new_geometry-to.ensures.value c.new_geometry-to.ensures.makeable) free.above free.space)

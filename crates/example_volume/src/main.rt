@@ -1,4 +1,4 @@
-//! A program that uses `unix_volumes`. It makes a volume, mounts it and makes three calls; shares it between two sessions and a
+//! A program that uses `unix_volumes`. It makes a volume, mounts it and makes four calls; shares it between two sessions and a
 //! view, and confirms their receipts; checks the image, and prints the results. Ends with status 1 if anything is refused.
 #![tactic(auto)]
 
@@ -9,7 +9,8 @@ use std::process::ExitCode;
 use std::sync::Wait;
 use std::thread::Threads;
 use unix_volumes::{
-    Bytes, Call, Closed, Cred, Edition, Open, Query, Receipt, Shared, Volume, icheck, judge, mkfs,
+    Bytes, Call, Closed, Cred, DeviceId, DeviceKind, Edition, Open, Query, Receipt, Shared, Volume,
+    icheck, judge, mkfs,
 };
 
 /// The time of all calls, in seconds since the beginning of 1970: the 10th of January 1979.
@@ -31,6 +32,7 @@ fn run<R: AllocGlobal + Print + Threads + Wait + Sync>(rt: &R) -> Option<()> {
     let image = mkfs(alloc, Edition::V7, 100, 2, 0, 0, NOW).ok()?;
     let mut volume = Volume::mount(alloc, Edition::V7, image).ok()?;
     make_hello(alloc, &mut volume)?;
+    make_console(alloc, &mut volume)?;
     println!(rt; "{} calls in the journal", volume.journal().len()).ok()?;
     let (closed, receipts) = share(rt, alloc, volume)?;
     'receipts: for receipt in &receipts {
@@ -71,6 +73,22 @@ fn make_hello(alloc: Global, volume: &mut Volume) -> Option<()> {
         bytes: Bytes::from_slice(alloc, b"hello, world\n").ok()?,
     };
     make(alloc, volume, write)
+}
+
+/// Makes the special file of the console.
+fn make_console(alloc: Global, volume: &mut Volume) -> Option<()> {
+    let mknod = Call::Mknod {
+        cred: Cred::ROOT,
+        now: NOW,
+        path: Bytes::from_slice(alloc, b"/console").ok()?,
+        perm: 0o622,
+        device: DeviceId {
+            kind: DeviceKind::Character,
+            major: 0,
+            minor: 0,
+        },
+    };
+    make(alloc, volume, mknod)
 }
 
 /// Makes a call. Returns `None` if it is refused.

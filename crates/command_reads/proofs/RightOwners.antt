@@ -25,7 +25,7 @@ use Rattle.vol_reports.proofs.Ranges.{flat_more}
 use Rattle.vol_inspect.specs.Extents.{address_holdings, holdings, holdings_from, single}
 use Rattle.vol_inspect.specs.Owners.{is_block, naming}
 use Rattle.vol_inspect.specs.declared.extent.Extent.{Extent}
-use Rattle.vol_losses.specs.BadImages.{IsRescued, is_block_known}
+use Rattle.vol_losses.specs.BadImages.{HasRead, IsRescued, is_block_known}
 use Rattle.vol_losses.specs.CutImages.{IsCompleted, IsCompletedIf, IsFilled, has_size}
 use Rattle.vol_losses.specs.GivenSizes.{IsSized}
 use Rattle.vol_losses.specs.Losses.{AgreesOutside, is_lost, node_block}
@@ -117,14 +117,17 @@ zero_completed edition bytes image missing n completed is =
           ] filled
     ] completed
 
--- and where sizes are written, outside the super-block
-zero_sized : (sizes : Option VolumeSizes) (edition : Edition) (cleared stated : List ℕ) (k r : ℕ) → IsSized sizes edition cleared stated → k ≢ 1 → r < 512
+-- and where sizes are written, but for the first 6 bytes of the super-block
+zero_sized : (sizes : Option VolumeSizes) (edition : Edition) (cleared stated : List ℕ) (k r : ℕ) → IsSized sizes edition cleared stated → (k ≡ 1 → 6 ≤ r) → r < 512
     → get_or cleared (512 * k + r) 0 ≡ 0 → get_or stated (512 * k + r) 0 ≡ 0
 zero_sized None edition cleared stated k r sized other low is = ap (λ xs. get_or xs (512 * k + r) 0) sized ∙ is
 zero_sized (Some sizes) edition cleared stated k r sized other low is =
     let kept : get_or stated (512 * k + r) 0 ≡ get_or (cleared ++ replicate (1024 - length cleared) 0) (512 * k + r) 0 = elim (cases_lt k 1) [
       | inl first ↦ sized.others.below (512 * k + r) (omega (arith, first, low))
-      | inr later ↦ sized.others.above (512 * k + r) (omega (arith, later, other))
+      | inr later ↦ sized.others.above (512 * k + r) (elim (cases_eq k 1) [
+        | inl one ↦ let high = other one in omega (arith, one, high)
+        | inr two ↦ omega (arith, later, two)
+      ])
     ] in
     kept ∙ zero_padded cleared (1024 - length cleared) (512 * k + r) is
 
@@ -133,9 +136,9 @@ not_known true true there mark = absurd (true≢false (sym mark))
 not_known true false there mark = refl
 not_known false b there mark = absurd (true≢false (sym there))
 
--- a lost block of a rescued image reads as zeros, unless it is the super-block
+-- a lost block of a rescued image reads as zeros, but for the first 6 bytes of the super-block
 lost_zero : (geometry : Geometry) (edition : Edition) (ranges : List ReadRange) (at : ℕ) (sizes : Option VolumeSizes) (bytes image : List ℕ) (lost : List Bool) (k r : ℕ)
-    → Fits geometry image → IsRescued edition ranges at sizes bytes image lost → k < geometry.zone_end → k ≢ 1 → r < 512 → is_lost lost k ≡ true
+    → Fits geometry image → IsRescued edition ranges at sizes bytes image lost → k < geometry.zone_end → (k ≡ 1 → 6 ≤ r) → r < 512 → is_lost lost k ≡ true
     → get_or image (512 * k + r) 0 ≡ 0
 lost_zero geometry edition ranges at sizes bytes image lost k r fits rescued inside other low gone =
     let block : k < length image / 512 = omega (arith, inside, fits.blocks) in
@@ -151,23 +154,22 @@ lost_zero geometry edition ranges at sizes bytes image lost k r fits rescued ins
     zero_completed edition rescued.stated image rescued.missing (512 * k + r) rescued.completed
     (zero_sized sizes edition rescued.cleared rescued.stated k r rescued.sized other low cleared)
 
--- what is left of a volume: its bytes in the blocks that are known, and zeros in the others
-record IsLeft (geometry : Geometry) (lost : List Bool) (image volume : List ℕ) : Type 0 where
-  agrees : AgreesOutside geometry lost image volume
-  zeros : (k r : ℕ) → k < geometry.zone_end → k ≢ 1 → r < 512 → is_lost lost k ≡ true → get_or image (512 * k + r) 0 ≡ 0
+-- what is left of a volume: its bytes in the blocks that are known, and zeros in the others, but for the first 6 bytes of the super-block
+pub record IsLeft (geometry : Geometry) (lost : List Bool) (image volume : List ℕ) : Type 0 where
+  pub agrees : AgreesOutside geometry lost image volume
+  pub zeros : (k r : ℕ) → k < geometry.zone_end → (k ≡ 1 → 6 ≤ r) → r < 512 → is_lost lost k ≡ true → get_or image (512 * k + r) 0 ≡ 0
 
 -- an entry of an indirect block that isn't 0 is that of the volume
-entry_left : (geometry : Geometry) (lost : List Bool) (image volume : List ℕ) (m j : ℕ) → Fits geometry image → IsLeft geometry lost image volume
+pub entry_left : (geometry : Geometry) (lost : List Bool) (image volume : List ℕ) (m j : ℕ) → Fits geometry image → IsLeft geometry lost image volume
     → j < (constants geometry.edition).pointers → pointer_in geometry image m j ≢ 0 → pointer_in geometry volume m j ≡ pointer_in geometry image m j
 entry_left geometry lost image volume m j fits left within some =
     entry_kept geometry image volume m j
     (λ zone.
     let bounds = zone_bounds geometry m zone in
     let two = zone_two geometry image m fits zone in
-    let other : m ≢ 1 = λ e. absurd (omega (arith, two, e)) in
     elim (is_lost lost m) as (λ b. is_lost lost m ≡ b → number geometry.edition volume (512 * m) j ≡ number geometry.edition image (512 * m) j) [
       | true ↦ λ gone.
-          absurd (some (entry_in geometry image m j zone ∙ number_zero geometry.edition image m j (λ r low. left.zeros m r bounds.1 other low gone) within))
+          absurd (some (entry_in geometry image m j zone ∙ number_zero geometry.edition image m j (λ r low. left.zeros m r bounds.1 (λ e. absurd (omega (arith, two, e))) low gone) within))
       | false ↦ λ known.
           number_copied geometry.edition image volume (512 * m) (512 * m) 512 j (record { bytes = λ r low. left.agrees.bytes m r bounds.1 low known })
           (number_room geometry.edition j within)
@@ -218,7 +220,7 @@ node_left geometry lost image volume i e fits left kept has =
     (address_at geometry.edition image (inode_place geometry.edition i) k) e fits left here))) has)
 
 -- an i-node of zeros has no block map
-bare_form : (edition : Edition) → form_of edition 0 ≡ Bare
+pub bare_form : (edition : Edition) → form_of edition 0 ≡ Bare
 unfolding kind_of
 bare_form V6 = refl
 bare_form V7 = refl
@@ -234,28 +236,32 @@ in_one V6 i = omega arith
 in_one V7 i = omega arith
 
 -- an i-node that is lost has no kind in what is left
-lost_mode : (geometry : Geometry) (lost : List Bool) (image volume : List ℕ) (i : ℕ) → Fits geometry image → 1 ≤ i → i ≤ geometry.last_inode
+pub lost_mode : (geometry : Geometry) (lost : List Bool) (image volume : List ℕ) (i : ℕ) → Fits geometry image → 1 ≤ i → i ≤ geometry.last_inode
     → IsLeft geometry lost image volume → is_lost lost (node_block geometry.edition i) ≡ true → mode_of geometry image i ≡ 0
 lost_mode geometry lost image volume i fits first last left gone =
     let at = inode_place geometry.edition i in
     let room = place_room geometry image i fits first last in
     let inside : at / 512 < geometry.zone_end = omega (arith, room, fits.zone) in
-    let other : at / 512 ≢ 1 = λ e. absurd (omega (arith, e)) in
     let low = in_one geometry.edition i in
     let one : 512 * (at / 512) + at % 512 ≡ at = omega arith in
     let two : 512 * (at / 512) + (at % 512 + 1) ≡ at + 1 = omega arith in
-    let zero_one : get_or image at 0 ≡ 0 = ap (λ n. get_or image n 0) (sym one) ∙ left.zeros (at / 512) (at % 512) inside other (omega (arith, low)) gone in
-    let zero_two : get_or image (at + 1) 0 ≡ 0 = ap (λ n. get_or image n 0) (sym two) ∙ left.zeros (at / 512) (at % 512 + 1) inside other low gone in
+    let zero_one : get_or image at 0 ≡ 0 = ap (λ n. get_or image n 0) (sym one) ∙ left.zeros (at / 512) (at % 512) inside (λ e. absurd (omega (arith, e))) (omega (arith, low)) gone in
+    let zero_two : get_or image (at + 1) 0 ≡ 0 = ap (λ n. get_or image n 0) (sym two) ∙ left.zeros (at / 512) (at % 512 + 1) inside (λ e. absurd (omega (arith, e))) low gone in
     omega (arith, zero_one, zero_two)
+
+-- a rescued image is what is left of each volume that has the bytes of the known blocks
+pub is_left : (edition : Edition) (ranges : List ReadRange) (at : ℕ) (sizes : Option VolumeSizes) (bytes volume image : List ℕ) (lost : List Bool) (geometry : Geometry)
+    → IsRescued edition ranges at sizes bytes image lost → HasRead sizes ranges at bytes volume → Fits geometry image → IsLeft geometry lost image volume
+is_left edition ranges at sizes bytes volume image lost geometry rescued has fits = record {
+  agrees = rescue_agrees geometry edition ranges at sizes bytes volume image lost fits rescued has;
+  zeros = λ k r inside high low gone. lost_zero geometry edition ranges at sizes bytes image lost k r fits rescued inside high low gone;
+}
 
 -- an i-node that is an owner of a block in what is left is one in the volume, at the same position
 pub bad_owners_right : BadOwnersAreRight
 unfolding naming
 bad_owners_right edition ranges at sizes bytes volume image lost geometry b i e rescued has fits first last found =
-    let left : IsLeft geometry lost image volume = record {
-      agrees = rescue_agrees geometry edition ranges at sizes bytes volume image lost fits rescued has;
-      zeros = λ k r inside other low gone. lost_zero geometry edition ranges at sizes bytes image lost k r fits rescued inside other low gone;
-    } in
+    let left = is_left edition ranges at sizes bytes volume image lost geometry rescued has fits in
     let held = found_has (is_block b) (holdings geometry image i) e found in
     elim (is_lost lost (node_block geometry.edition i)) as (λ gone. is_lost lost (node_block geometry.edition i) ≡ gone
     → (e.block ≡ b) × (form_at geometry volume i ≡ form_at geometry image i) × Any (λ (held : Extent). held ≡ e) (holdings geometry volume i)) [

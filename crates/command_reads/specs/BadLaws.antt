@@ -1,5 +1,5 @@
--- Statements on what `find`, `sums`, `ls`, `get`, `cat`, `check` and `block` print of an image of which some blocks couldn't be read, and on where its paths lead.
-use Rattle.std.specs.Prelude.{◌≡◌, ◌≤◌, ℕ, Bool, false, true, List, Option, All, None, Some, Ok}
+-- Statements on what `find`, `sums`, `ls`, `get`, `cat`, `check`, `block` and `map` print of an image of which some blocks couldn't be read, and on where its paths lead.
+use Rattle.std.specs.Prelude.{◌≡◌, ◌≢◌, ◌⊎◌, ◌<◌, ◌≤◌, ℕ, Bool, false, true, List, Option, All, None, Some, Ok}
 use Rattle.std.specs.List.{Any}
 use Rattle.bad_maps.specs.declared.maps.ReadRange.{ReadRange}
 use Rattle.vol_archive.specs.Laws.{members_of}
@@ -17,7 +17,9 @@ use Rattle.vol_findings.specs.declared.outcome.RuleOutcome.TheVariants.{Broken}
 use Rattle.vol_findings.specs.declared.outcome.RuleOutcomes.{RuleOutcomes}
 use Rattle.vol_inspect.specs.Extents.{holdings}
 use Rattle.vol_inspect.specs.Owners.{naming}
+use Rattle.vol_inspect.specs.Uses.{use_of}
 use Rattle.vol_inspect.specs.declared.extent.Extent.{Extent}
+use Rattle.vol_inspect.specs.declared.uses.Use.TheVariants as uses
 use Rattle.vol_judge.specs.declared.finding.Finding.{Finding}
 use Rattle.vol_layout.specs.BlockPointers.{form_at}
 use Rattle.vol_layout.specs.Body.{body}
@@ -32,6 +34,7 @@ use Rattle.vol_losses.specs.Losses.{is_lost, is_whole, node_block}
 use Rattle.vol_losses.specs.declared.given_sizes.VolumeSizes.{VolumeSizes}
 use Rattle.vol_rescue.specs.KnownOutcomes.{known_outcomes}
 use Rattle.vol_rescue.specs.Paths.{AreSoundAbove}
+use Rattle.command_reads.specs.BadUses.{known_use}
 use Rattle.command_reads.specs.Cat.{file_of}
 use Rattle.command_reads.specs.Export.{AreFound}
 use Rattle.command_reads.specs.Unsound.{IsFileAt}
@@ -86,6 +89,14 @@ BadOwnersAreRight = (edition : Edition) (ranges : List ReadRange) (at : ℕ) (si
     (geometry : Geometry) (b i : ℕ) (e : Extent) → IsRescued edition ranges at sizes bytes image lost → HasRead sizes ranges at bytes volume → Fits geometry image
     → 1 ≤ i → i ≤ geometry.last_inode → naming geometry image b i ≡ Some e
     → (e.block ≡ b) × (form_at geometry volume i ≡ form_at geometry image i) × Any (λ held. held ≡ e) (holdings geometry volume i)
+
+-- the use that `map` shows of a block, if that is neither unreadable nor unknown, is its use in every volume that has the bytes of the known blocks, or the
+-- block is named twice there; whatever the lost blocks held (this project)
+abbrev pub BadUsesAreRight : Type 0
+BadUsesAreRight = (edition : Edition) (ranges : List ReadRange) (at : ℕ) (sizes : Option VolumeSizes) (bytes volume image : List ℕ) (lost : List Bool)
+    (geometry : Geometry) (b : ℕ) → IsRescued edition ranges at sizes bytes image lost → HasRead sizes ranges at bytes volume → Fits geometry image
+    → b < geometry.zone_end → known_use geometry image lost b ≢ uses.Unreadable → known_use geometry image lost b ≢ uses.Unknown
+    → (use_of geometry volume b ≡ known_use geometry image lost b) ⊎ (use_of geometry volume b ≡ uses.Twice)
 
 -- the bytes that `cat` prints of an i-node of which nothing is lost, by its number or a path, are those of the i-node in every volume that has the bytes of the
 -- known blocks, whatever the lost blocks held (this project)

@@ -21,11 +21,12 @@ use Rattle.command_faults.specs.declared.fault.Fault.{Fault}
 use Rattle.command_reads.specs.BadFiles.{cat_sights, get_sights}
 use Rattle.command_reads.specs.BadLists.{list_sights}
 use Rattle.command_reads.specs.BadOwners.{block_sights}
+use Rattle.command_reads.specs.BadUses.{map_sights, uses_sights}
 use Rattle.command_reads.specs.Check.{check_sights}
 use Rattle.command_reads.specs.Export.{ExportsFrom, begun}
 use Rattle.command_reads.specs.Find.{found_sights}
 use Rattle.command_reads.specs.Losses.{IsUnreadEnding, TellsIncomplete}
-use Rattle.command_reads.specs.Print.{IsTold, IsToldWith, Shows}
+use Rattle.command_reads.specs.Print.{IsTold, IsToldWith, Shows, ShowsInPieces}
 use Rattle.command_reads.specs.Sums.{sums_sights}
 use Rattle.command_reads.specs.declared.bad_looks.BadBlocks.{BadBlocks}
 use Rattle.command_reads.specs.declared.bad_looks.BadBlocks.TheVariants as bads
@@ -116,6 +117,8 @@ ShowsRescued edition image lost screen streams status (bad_looks.Sums path form 
 ShowsRescued edition image lost screen streams status (bad_looks.Check graded form) =
     Shows (check_sights edition image lost graded form) streams status
 ShowsRescued edition image lost screen streams status (bad_looks.Block block form) = Shows (block_sights edition image lost block form) streams status
+ShowsRescued edition image lost screen streams status (bad_looks.Map form) = Shows (map_sights edition image lost screen form) streams status
+ShowsRescued edition image lost screen streams status bad_looks.Uses = ShowsInPieces (uses_sights edition image lost) streams status
 ShowsRescued edition image lost screen streams status (bad_looks.List path listing) =
     Shows (list_sights edition image lost path.now listing screen) streams status
 ShowsRescued edition image lost screen streams status (bad_looks.Read path damaged) =

@@ -1,5 +1,5 @@
 -- The use of each block as JSON.
-use Rattle.std.specs.Prelude.{◌≡◌, ℕ, ◌+◌, if◌then◌else◌, List, [], ◌∷◌, ◌++◌, codes, map, Ok}
+use Rattle.std.specs.Prelude.{◌≡◌, ℕ, ◌+◌, if◌then◌else◌, List, [], ◌∷◌, ◌++◌, codes, map, slice_index_or, Ok}
 use Rattle.std.specs.Str.{bytes_eq}
 use Rattle.serde_json.specs.Data.{Data, array, member, no_members, object, string}
 use Rattle.serde_json.specs.View.{items_of}
@@ -27,9 +27,13 @@ unfoldable pub runs_from : UseRun → List Use → List UseRun
 runs_from run [] = run ∷ []
 runs_from run (u ∷ us) = if bytes_eq (name run.usage) (name u) then runs_from (longer run) us else run ∷ runs_from (next run u) us
 
--- the runs of blocks with one use; the first block is the boot block (this project)
+-- the use of the first block; it is the boot block unless it couldn't be read (this project)
+abbrev pub first_use : List Use → Use
+first_use us = slice_index_or us 0 uses.Boot
+
+-- the runs of blocks with one use (this project)
 abbrev pub runs : List Use → List UseRun
-runs us = runs_from (record { block = 0; count = 0; usage = uses.Boot }) us
+runs us = runs_from (record { block = 0; count = 0; usage = first_use us }) us
 
 -- a run of blocks: the first one, their number, and their use (this project)
 abbrev pub run_data : UseRun → Data

@@ -7,6 +7,7 @@ use crate::bad_files::{print_in, read_in};
 use crate::bad_images::rescue_image;
 use crate::bad_lists::list_in;
 use crate::bad_owners::block_in;
+use crate::bad_uses::{map_in, show_uses_in};
 use crate::check::check_in;
 use crate::export::{export_read, unread};
 use crate::find::find_in;
@@ -119,6 +120,11 @@ fn show_rescued<O: Sink>(
             let shown = block_in(alloc, edition, &read.image, &read.lost, block, form);
             print(shown, output)
         }
+        BadLook::Map { picture } => {
+            let shown = map_in(alloc, edition, &read.image, &read.lost, picture, screen);
+            print(shown, output)
+        }
+        BadLook::Uses => show_uses_in(alloc, edition, &read.image, &read.lost, output),
         BadLook::List { path, listing } => {
             let shown = list_in(
                 alloc,

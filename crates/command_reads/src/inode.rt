@@ -1,16 +1,32 @@
 //! `inode`: shows an i-node.
-ghost use Rattle.std.specs.Prelude.{◌≡◌, ◌≤◌, ◌-◌, ◌++◌, drop, IfErr, IfOk, length, string_bytes, take};
+ghost use Rattle.std.specs.Prelude.{◌≡◌, ◌≤◌, ◌-◌, ◌++◌, drop, IfErr, IfOk, length, OnOk, string_bytes, take};
 ghost use Rattle.serde_json.specs.Data.{object};
-ghost use Rattle.serde_json.specs.View.{view};
+ghost use Rattle.serde_json.specs.View.{members_view, view};
 ghost use Rattle.serde_json.specs.Written.{compact_text};
 ghost use Rattle.vol_archive.specs.Write.{Writes};
-ghost use Rattle.vol_inspect.specs.Texts.{inode_text};
+ghost use Rattle.vol_layout.specs.Inode.{device_of, kind_of};
 ghost use Rattle.command_faults.specs.Streams.{streams};
-ghost use Rattle.command_reads.specs.Inode.{inode_back, inode_front, inode_json, kind_word, members_back, members_front, IsInodeText, IsInodeFault, found};
+ghost use Rattle.command_reads.specs.Inode.{
+  IsInodeFault,
+  IsInodeText,
+  device_lines,
+  found,
+  inode_back,
+  inode_front,
+  inode_json,
+  inode_lines,
+  kind_word,
+  members_back,
+  members_front,
+  with_numbers,
+  with_special,
+  with_words,
+};
 ghost use Rattle.command_reads.specs.Node.{number_of};
 ghost use Rattle.command_reads.specs.Print.{ShowsIn, ShowsInPieces, plainly};
 ghost use Rattle.command_reads.specs.Json.{count_or_null, extent_data, listed_text};
 
+use crate::check_json::words_value;
 use crate::faults::uninspected;
 use crate::json::list;
 use crate::node::number_of;
@@ -20,12 +36,13 @@ use command_faults::status::DONE;
 use command_faults::{Ending, Fault};
 use command_terms::{NodeName, OutputForm};
 use pdp_words::{Image, Sink};
-use serde_json::{Value, json};
+use serde_json::{Map, Value, json, put as put_member};
 use std::alloc::{AllocError, Global};
+use std::fmt;
 use vol_archive::WriteFault;
 use vol_inspect::{InodeReport, inspect_inode, kind_name};
 use vol_layout::{Edition, Kind, Mode};
-use vol_listing::json::{FORMAT, octal};
+use vol_listing::json::{FORMAT, octal, put_count};
 use vol_listing::special_word;
 
 /// Shows an i-node of an image. The image must keep rules 1 and 2, and may be any bytes otherwise. The status is 0; 1 if the image breaks one of
@@ -83,11 +100,27 @@ fn inode_text(alloc: Global, edition: Edition, image: &Image, number: u16) -> Re
 
 /// Returns the text of the report on an i-node.
 fn report_text(alloc: Global, report: &InodeReport) -> Result<String, AllocError>
-    ensures { IfOk result (λ text. string_bytes text ≡ inode_text report.now) }
+    ensures { IfOk result (λ text. string_bytes text ≡ inode_lines report.now) }
 {
     let mut text = String::new(alloc);
     report.push_text(&mut text)?;
+    push_device(report, &mut text)?;
     Ok(text)
+}
+
+/// Appends the lines of a special file's device.
+fn push_device(report: &InodeReport, text: &mut String) -> Result<(), AllocError>
+    ensures { OnOk result (string_bytes text.new ≡ string_bytes text.old
+        ++ device_lines (kind_of report.now.edition report.now.node.mode.bits) (device_of report.now.node)) }
+{
+    match report.node.mode.kind(report.edition) {
+        Kind::Special => {
+            let device = report.node.device_number();
+            let (major, minor) = (device / 256, device % 256);
+            write!(text, "major {major}\nminor {minor}\n")
+        }
+        Kind::Free | Kind::Regular | Kind::Directory | Kind::Odd => Ok(()),
+    }
 }
 
 /// Prints an i-node as JSON.
@@ -209,25 +242,70 @@ fn front_value(alloc: Global, report: &InodeReport) -> Result<Value, AllocError>
 }
 
 /// Returns the members of an i-node after the extents.
-#[tactic(auto, unfolding(crate::specs::Inode::members_back))]
 fn back_value(alloc: Global, report: &InodeReport) -> Result<Value, AllocError>
     ensures { IfOk result (λ value. view value ≡ object (members_back report.now)) }
 {
+    let mut object = Map::new(alloc);
+    put_numbers(alloc, report, &mut object)?;
+    put_words(alloc, report, &mut object)?;
+    put_device(alloc, report, &mut object)?;
+    Ok(Value::Object(object))
+}
+
+/// Puts the number of the format and the numbers of an i-node that come after the extents into an object.
+#[tactic(auto, unfolding(crate::specs::Inode::with_numbers))]
+fn put_numbers(
+    alloc: Global,
+    report: &InodeReport,
+    object: &mut Map<String, Value>,
+) -> Result<(), AllocError>
+    ensures { OnOk result (members_view object.new.entries ≡ with_numbers report.now (members_view object.old.entries)) }
+{
     let node = &report.node;
-    let mode = octal(alloc, node.mode.bits)?;
-    let permissions = octal(alloc, node.mode.permissions())?;
-    json!(in alloc; {
-        "format": FORMAT,
-        "gid": node.gid,
-        "ino": report.number,
-        "kind": kind_word(report.edition, node.mode),
-        "links": node.links,
-        "mode": mode,
-        "mtime": node.modified,
-        "permissions": permissions,
-        "size": node.size,
-        "uid": node.uid
-    })
+    put_count(alloc, object, "format", FORMAT)?;
+    put_count(alloc, object, "gid", u64::from(node.gid))?;
+    put_count(alloc, object, "ino", u64::from(report.number))?;
+    put_count(alloc, object, "links", u64::from(node.links))?;
+    put_count(alloc, object, "mtime", u64::from(node.modified))?;
+    put_count(alloc, object, "size", u64::from(node.size))?;
+    put_count(alloc, object, "uid", u64::from(node.uid))
+}
+
+/// Puts the kind, the mode and the permissions of an i-node into an object.
+#[tactic(auto, unfolding(crate::specs::Inode::with_words))]
+fn put_words(
+    alloc: Global,
+    report: &InodeReport,
+    object: &mut Map<String, Value>,
+) -> Result<(), AllocError>
+    ensures { OnOk result (members_view object.new.entries ≡ with_words report.now (members_view object.old.entries)) }
+{
+    let mode = report.node.mode;
+    let kind = words_value(alloc, kind_word(report.edition, mode))?;
+    let bits = octal(alloc, mode.bits)?;
+    let permissions = octal(alloc, mode.permissions())?;
+    put_member(object, alloc, "kind", kind)?;
+    put_member(object, alloc, "mode", bits)?;
+    put_member(object, alloc, "permissions", permissions)
+}
+
+/// Puts the device of a special file into an object.
+fn put_device(
+    alloc: Global,
+    report: &InodeReport,
+    object: &mut Map<String, Value>,
+) -> Result<(), AllocError>
+    ensures { OnOk result (members_view object.new.entries
+        ≡ with_special (kind_of report.now.edition report.now.node.mode.bits) (device_of report.now.node) (members_view object.old.entries)) }
+{
+    match report.node.mode.kind(report.edition) {
+        Kind::Special => {
+            let device = report.node.device_number();
+            put_count(alloc, object, "major", u64::from(device / 256))?;
+            put_count(alloc, object, "minor", u64::from(device % 256))
+        }
+        Kind::Free | Kind::Regular | Kind::Directory | Kind::Odd => Ok(()),
+    }
 }
 
 /// Returns the word for the kind of an i-node with this mode; that of a special file says of which type it is.

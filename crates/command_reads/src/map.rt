@@ -1,5 +1,6 @@
 //! The command that draws the use of each block.
-ghost use Rattle.std.specs.Prelude.{◌≡◌, ◌*◌, ◌≤◌, ◌<◌, ◌^◌, Ok, IfErr, IfOk, IfSome, length, map, option_map, string_bytes};
+ghost use Rattle.std.specs.Prelude.{◌≡◌, ◌*◌, ◌≤◌, ◌<◌, ◌^◌, Ok, [], IfErr, IfOk, IfSome, length, map, option_map, string_bytes};
+ghost use Rattle.vol_inspect.specs.Svg.{picture};
 ghost use Rattle.vol_layout.specs.Geometry.{Fits, geometry_read};
 ghost use Rattle.command_reads.specs.Map.{blocks_for, blocks_shown, cells_text, file_node, is_coloured, map_text, node_within, scale_end, scale_text, squares_text, titles_for, width_on, IsMap, IsPictureFault};
 
@@ -153,7 +154,11 @@ fn picture_of(
 }
 
 /// Returns the block map as rows of letters.
-fn letters(alloc: Global, blocks: &[Option<Use>], screen: Screen) -> Result<String, AllocError>
+pub(crate) fn letters(
+    alloc: Global,
+    blocks: &[Option<Use>],
+    screen: Screen,
+) -> Result<String, AllocError>
     requires some { 1 ≤ length blocks.now }
     requires few { length blocks.now < 2 ^ 32 }
     ensures { IfOk result (λ text. string_bytes text ≡ cells_text blocks.now (width_on screen) (is_coloured screen) (blocks_for (32 * width_on screen) (length blocks.now))) }
@@ -180,6 +185,17 @@ fn squares(
 {
     let each = blocks_for(SQUARES, blocks.len());
     let titles = titles_for(alloc, image, geometry, each)?;
+    svg(alloc, blocks, &titles, each)
+}
+
+/// Returns the block map as squares without titles: a square's tool-tip has the uses of its blocks.
+pub(crate) fn untitled(alloc: Global, blocks: &[Option<Use>]) -> Result<String, AllocError>
+    requires some { 1 ≤ length blocks.now }
+    requires few { length blocks.now < 2 ^ 32 }
+    ensures { IfOk result (λ text. string_bytes text ≡ picture (blocks_for 16384 (length blocks.now)) [] blocks.now) }
+{
+    let each = blocks_for(SQUARES, blocks.len());
+    let titles = Vec::new(alloc);
     svg(alloc, blocks, &titles, each)
 }
 

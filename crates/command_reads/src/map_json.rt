@@ -5,7 +5,7 @@ ghost use Rattle.vol_layout.specs.Geometry.{Fits};
 ghost use Rattle.command_faults.specs.Streams.{streams};
 ghost use Rattle.command_reads.specs.Json.{listed_text};
 ghost use Rattle.command_reads.specs.Map.{uses_in, IsMapFault};
-ghost use Rattle.command_reads.specs.MapJson.{longer, next, run_data, runs, runs_from, runs_json, uses_json, AreUses};
+ghost use Rattle.command_reads.specs.MapJson.{first_use, longer, next, run_data, runs, runs_from, runs_json, uses_json, AreUses};
 ghost use Rattle.command_reads.specs.Print.{ShowsInPieces, plainly};
 
 use crate::faults::unmeasured;
@@ -72,8 +72,8 @@ fn all_runs(alloc: Global, image: &Image, geometry: &Geometry) -> Result<Vec<Use
     runs(alloc, &uses)
 }
 
-/// Returns the runs of blocks with one use, in order. The first block is the boot block.
-fn runs(alloc: Global, uses: &[Use]) -> Result<Vec<UseRun>, AllocError>
+/// Returns the runs of blocks with one use, in order.
+pub(crate) fn runs(alloc: Global, uses: &[Use]) -> Result<Vec<UseRun>, AllocError>
     requires { length uses.now < 2 ^ 32 }
     ensures { IfOk result (λ found. found.items ≡ runs uses.now) }
 {
@@ -81,13 +81,23 @@ fn runs(alloc: Global, uses: &[Use]) -> Result<Vec<UseRun>, AllocError>
     let mut run = UseRun {
         block: 0,
         count: 0,
-        usage: Use::Boot,
+        usage: first_use(uses),
     };
     for one in uses {
         run = taken(run, *one, &mut found)?;
     }
     found.push(run)?;
     Ok(found)
+}
+
+/// Returns the use of the first block, which is the boot block unless it couldn't be read.
+fn first_use(uses: &[Use]) -> Use
+    ensures { result ≡ first_use uses.now }
+{
+    match uses.first() {
+        Some(usage) => *usage,
+        None => Use::Boot,
+    }
 }
 
 /// Takes one more block with this use: it makes the run longer, or the run is appended and the next one begins. Returns the run that the block is in.
@@ -127,7 +137,11 @@ fn next(run: UseRun, usage: Use) -> UseRun
 }
 
 /// Writes runs of blocks as one object, on one line, a few at a time.
-fn put_runs<O: Sink>(alloc: Global, runs: &[UseRun], output: &mut O) -> Result<(), WriteFault>
+pub(crate) fn put_runs<O: Sink>(
+    alloc: Global,
+    runs: &[UseRun],
+    output: &mut O,
+) -> Result<(), WriteFault>
     ensures { Writes (O.contents output.old) (O.contents output.new) (O.failed output.old) (O.failed output.new) (runs_json runs.now) result }
 {
     put(b"{\"format\":1,\"map\":[", output)?;

@@ -105,11 +105,20 @@ pub(crate) fn ending_after(written: Result<(), WriteFault>, status: u8) -> Endin
     ensures whole { OnOk written ((result.status ≡ status) × (result.fault ≡ None)) }
     ensures fault { IfErr written (λ fault. (result.status ≡ fault_status (unwritten fault)) × (result.fault ≡ Some (unwritten fault))) }
 {
+    let ending = Ending {
+        status,
+        fault: None,
+    };
+    ended_after(written, ending)
+}
+
+/// Returns the result of a command whose text was written piece by piece, with an ending for the whole text.
+pub(crate) fn ended_after(written: Result<(), WriteFault>, ending: Ending) -> Ending
+    ensures whole { OnOk written ((result.status ≡ ending.status) × (result.fault ≡ ending.fault)) }
+    ensures fault { IfErr written (λ fault. (result.status ≡ fault_status (unwritten fault)) × (result.fault ≡ Some (unwritten fault))) }
+{
     match written {
-        Ok(()) => Ending {
-            status,
-            fault: None,
-        },
+        Ok(()) => ending,
         Err(fault) => Ending::from(unwritten(fault)),
     }
 }

@@ -43,12 +43,18 @@ pub fn migrate_image(alloc: Global, image: Vec<u8>, migration: Migration) -> Res
         blocks,
         list_blocks,
         now,
+        devices,
     } = migration;
     let image = Image::from_bytes(image);
     match judge(alloc, Edition::V6, &image, true)? {
-        None => vol_migrate::migrate_image(alloc, &image, blocks, list_blocks, now).map_err(
-            unmigrated,
-        ),
+        None => vol_migrate::migrate_image(
+            alloc,
+            &image,
+            blocks,
+            list_blocks,
+            now,
+            devices,
+        ).map_err(unmigrated),
         Some(rule) => Err(Fault::Unsound(rule)),
     }
 }

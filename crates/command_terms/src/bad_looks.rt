@@ -1,6 +1,6 @@
 //! The parts that commands show of an image of which some blocks couldn't be read.
 
-use crate::looks::{ExportOptions, NodeName, OutputForm};
+use crate::looks::{ExportOptions, NodeName, OutputForm, Picture};
 use vol_listing::ListOptions;
 
 /// What a command shows of an image of which some blocks couldn't be read.
@@ -34,6 +34,12 @@ pub enum BadLook<'a> {
         block: u32,
         form: OutputForm,
     },
+    /// A picture of what is known of the use of each block, as for [`Look::Map`](crate::Look::Map).
+    Map {
+        picture: Picture,
+    },
+    /// What is known of the use of each block, as for [`Look::Uses`](crate::Look::Uses).
+    Uses,
     /// The names in a directory, or a file, as for [`Look::ListUnsound`](crate::Look::ListUnsound).
     List {
         path: &'a str,

@@ -1,4 +1,5 @@
 //! The options of commands that save a volume.
+use vol_migrate::Devices;
 
 /// What to keep of the host's file, besides its bytes.
 #[derive(Clone, Copy)]
@@ -11,7 +12,7 @@ pub enum Keep {
     All,
 }
 
-/// The sizes and the time of the volume that `migrate` makes.
+/// The sizes and the time of the volume that `migrate` makes, and what becomes of special files.
 #[derive(Clone, Copy)]
 pub struct Migration {
     /// The number of its blocks, of 512 bytes.
@@ -20,6 +21,8 @@ pub struct Migration {
     pub list_blocks: u16,
     /// The time of its super-block and of its i-nodes' last change, in seconds since the beginning of 1970.
     pub now: u32,
+    /// What becomes of special files.
+    pub devices: Devices,
 }
 
 /// The least size and the time of a repaired copy.

@@ -1,18 +1,21 @@
 -- Words that ask for part of an image of which some blocks may not have been read, or for its repair.
-use Rattle.std.proofs.Common.{◌≡◌, ℕ, Bool, false, true, List, Option, None, Some, codes, slice_get, refl}
+use Rattle.std.proofs.Common.{◌≡◌, ℕ, Bool, false, true, List, Option, None, Some, codes, slice_get, refl, subst, sym}
 use Rattle.std.specs.Borrow.{Bor}
 use Rattle.std.specs.Prelude.{option_map}
 use Rattle.command_terms.specs.declared.bad_looks.BadLook.TheVariants as bad_looks
 use Rattle.command_terms.specs.declared.looks.ExportOptions.{ExportOptions}
+use Rattle.command_terms.specs.declared.looks.Look.TheVariants as looks
 use Rattle.command_terms.specs.declared.looks.NodeName.{NodeName}
 use Rattle.command_terms.specs.declared.looks.OutputForm.{OutputForm}
+use Rattle.command_terms.specs.declared.looks.Picture.{Picture}
 use Rattle.vol_listing.specs.Depths.{goes_below}
 use Rattle.vol_listing.specs.declared.options.ListOptions.{ListOptions}
 use Rattle.command_words.specs.BadWords.{IsBadImageGiven}
 use Rattle.command_terms.specs.declared.options.Repairing.{Repairing}
 use Rattle.command_words.specs.Decimal.{IsNumberGiven}
-use Rattle.command_words.specs.Invocations.{AreLinesGiven, AsksFor, IsDepthGiven, IsExportGiven, IsFormGiven, IsNodeGiven, IsOnePathGiven, IsRepairGiven, IsVolumeGiven, Words, is_set, look_at, repair_at, the_word}
+use Rattle.command_words.specs.Invocations.{AreLinesGiven, AsksFor, IsDepthGiven, IsExportGiven, IsFormGiven, IsNodeGiven, IsOnePathGiven, IsPictureGiven, IsRepairGiven, IsVolumeGiven, Words, is_set, look_at, repair_at, the_word}
 use Rattle.command_words.specs.declared.invocation.BadImage.{BadImage}
+use Rattle.command_words.specs.declared.invocation.Invocation.TheVariants as invocations
 use Rattle.command_words.specs.declared.invocation.MadeFile.{MadeFile}
 use Rattle.command_words.specs.declared.invocation.VolumeFile.{VolumeFile}
 use Rattle.command_words.specs.declared.verbs.Verb.TheVariants as verbs
@@ -88,3 +91,27 @@ pub block_asked : (clock : Option ℕ) (given : Words) (volume : VolumeFile) (bl
     → AsksFor clock verbs.Block given (look_at volume (bad_looks.Block block form) bad)
 block_asked clock given volume block form None named is shown none = (refl, (named, (is, shown, none)))
 block_asked clock given volume block form (Some image) named is shown bad = (refl, (named, (is, shown, bad)))
+
+-- the words of `map` ask for its invocation, if they name no file
+pub map_asked : (clock : Option ℕ) (given : Words) (volume : VolumeFile) (picture : Picture) (bad : Option BadImage) → IsVolumeGiven given volume
+    → IsPictureGiven given picture → is_set (given (codes "json")) ≡ false → None ≡ slice_get (given (codes "file")) 0
+    → IsBadImageGiven given volume.edition (is_set (given (codes "cut"))) bad
+    → AsksFor clock verbs.Map given (look_at volume (bad_looks.Map picture) bad)
+map_asked clock given volume picture None named is text file none = (refl, (named, (is, text, file, none)))
+map_asked clock given volume picture (Some image) named is text file bad = (refl, (named, (is, text, sym file, bad)))
+
+-- so do those of `map --json`
+pub uses_asked : (clock : Option ℕ) (given : Words) (volume : VolumeFile) (bad : Option BadImage) → IsVolumeGiven given volume
+    → is_set (given (codes "json")) ≡ true → is_set (given (codes "svg")) ≡ false → slice_get (given (codes "file")) 0 ≡ None
+    → IsBadImageGiven given volume.edition (is_set (given (codes "cut"))) bad
+    → AsksFor clock verbs.Map given (look_at volume bad_looks.Uses bad)
+uses_asked clock given volume None named json plain file none = (refl, (named, (json, plain, file, none)))
+uses_asked clock given volume (Some image) named json plain file bad = (refl, (named, (json, plain, file, bad)))
+
+-- so do those that name a file, of an image that was read whole
+pub file_asked : (clock : Option ℕ) (given : Words) (volume : VolumeFile) (picture : Picture) (path : Bor (List ℕ)) (bad : Option BadImage) → IsVolumeGiven given volume
+    → IsPictureGiven given picture → is_set (given (codes "json")) ≡ false → Some path.now ≡ slice_get (given (codes "file")) 0 → bad ≡ None
+    → IsBadImageGiven given volume.edition (is_set (given (codes "cut"))) bad
+    → AsksFor clock verbs.Map given (invocations.Look volume (looks.Map picture (Some path)))
+file_asked clock given volume picture path bad named is text file none read =
+    (refl, (named, (is, text, file, subst (λ (b : Option BadImage). IsBadImageGiven given volume.edition (is_set (given (codes "cut"))) b) none read)))

@@ -5,7 +5,7 @@ use Rattle.bad_maps.specs.Lists.{bytes_around}
 use Rattle.vol_layout.specs.declared.edition.Edition.{Edition}
 use Rattle.vol_losses.specs.declared.given_sizes.VolumeSizes.{VolumeSizes}
 use Rattle.command_words.specs.BadWords.{IsBadGiven, IsImageGiven, IsReadIfAny, IsSizesGiven, sizes_of}
-use Rattle.command_words.specs.Disks.{disk_blocks}
+use Rattle.disk_sizes.specs.Disks.{disk_blocks}
 use Rattle.command_words.specs.declared.invocation.BadImage.{BadImage}
 use Rattle.command_words.specs.declared.invocation.GivenBad.{GivenBad}
 use Rattle.command_words.specs.declared.invocation.GivenBad.TheVariants as bads

@@ -34,6 +34,7 @@ is_rescuer verbs.Export = true
 is_rescuer verbs.Find = true
 is_rescuer verbs.Get = true
 is_rescuer verbs.Ls = true
+is_rescuer verbs.Map = true
 is_rescuer verbs.Repair = true
 is_rescuer verbs.Sums = true
 is_rescuer _ = false
@@ -78,6 +79,10 @@ one_way clock given (invocations.Look volume (looks.Check graded form)) read is 
 one_way clock given (invocations.LookBad volume image (bad_looks.Check graded form)) read is both = image_two given volume.edition _ image is.1.2 both
 one_way clock given (invocations.Look volume (looks.Block block form)) read is both = none_two given V7 is.1.2 both
 one_way clock given (invocations.LookBad volume image (bad_looks.Block block form)) read is both = image_two given volume.edition _ image is.1.2 both
+one_way clock given (invocations.Look volume (looks.Map picture file)) read is both = none_two given V7 is.1.3 both
+one_way clock given (invocations.Look volume looks.Uses) read is both = none_two given V7 is.1.3 both
+one_way clock given (invocations.LookBad volume image (bad_looks.Map picture)) read is both = image_two given volume.edition _ image is.1.3 both
+one_way clock given (invocations.LookBad volume image bad_looks.Uses) read is both = image_two given volume.edition _ image is.1.3 both
 one_way clock given (invocations.LookBad volume image (bad_looks.Export p options)) read is both = image_two given volume.edition false image is.1.1 both
 one_way clock given (invocations.LookBad volume image (bad_looks.Find p name lost form)) read is both = image_two given volume.edition _ image is.1.4 both
 one_way clock given (invocations.Repair volume copy repairing) read is both = none_two given V7 is.1 both
@@ -155,3 +160,10 @@ ls_wrong clock given (inl list) = no_value clock verbs.Ls given (inr (inr (inr (
 ls_wrong clock given (inr (inl sizes)) = no_value clock verbs.Ls given (inr (inr (inr (inr (inr (inr (inr (inr (inr (inr (inr (inr (inr (inl sizes))))))))))))))
 ls_wrong clock given (inr (inr (inl disk))) = no_value clock verbs.Ls given (inr (inr (inr (inr (inr (inr (inr (inr (inr (inr (inr (inr (inr (inr (inl disk)))))))))))))))
 ls_wrong clock given (inr (inr (inr both))) = λ invocation asks. one_way clock given invocation (sym (ap is_rescuer asks.0)) asks.1 both
+
+pub map_wrong : (clock : Option ℕ) (given : Words) → IsBadWrong given → AsksForNothing clock verbs.Map given
+unfolding AsksForNothing is_rescuer
+map_wrong clock given (inl list) = no_value clock verbs.Map given (inr (inr (inr (inr (inr (inr (inl list)))))))
+map_wrong clock given (inr (inl sizes)) = no_value clock verbs.Map given (inr (inr (inr (inr (inr (inr (inr (inl sizes))))))))
+map_wrong clock given (inr (inr (inl disk))) = no_value clock verbs.Map given (inr (inr (inr (inr (inr (inr (inr (inr (inl disk)))))))))
+map_wrong clock given (inr (inr (inr both))) = λ invocation asks. one_way clock given invocation (sym (ap is_rescuer asks.0)) asks.1 both

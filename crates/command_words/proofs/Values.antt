@@ -13,7 +13,7 @@ use Rattle.command_terms.specs.declared.permissions.PermissionChange.{Permission
 use Rattle.command_terms.specs.declared.bad_looks.BadLook.TheVariants as bad_looks
 use Rattle.command_terms.specs.declared.looks.Look.TheVariants as looks
 use Rattle.command_words.specs.BadWords.{IsBadImageGiven, IsImageGiven, IsReadIfAny, sizes_of}
-use Rattle.command_words.specs.Disks.{disk_blocks}
+use Rattle.disk_sizes.specs.Disks.{disk_blocks}
 use Rattle.command_words.specs.Invocations.{AreValues, AsksForNothing, IsDeviceKind, IsGiven, IsOneWrong, IsVolumeWrong, NameAsksFor, Words, is_set, verb_of}
 use Rattle.command_words.specs.Permissions.{ArePermissionsIfAny, IsPermissionsOr}
 use Rattle.command_words.specs.Verbs.{Argument, IsNoCommand, arguments_of, on_volume, verb_name}
@@ -94,6 +94,12 @@ values_given clock given (invocations.LookBad volume image (bad_looks.Check grad
 values_given clock given (invocations.Look volume (looks.Block block form)) is = let whole = none_values given is.1.2 in search (rules, whole)
 values_given clock given (invocations.LookBad volume image (bad_looks.Block block form)) is =
     let whole = image_values given volume.edition image is.1.2 in search (rules, whole)
+values_given clock given (invocations.Look volume (looks.Map picture file)) is = let whole = none_values given is.1.3 in search (rules, whole)
+values_given clock given (invocations.Look volume looks.Uses) is = let whole = none_values given is.1.3 in search (rules, whole)
+values_given clock given (invocations.LookBad volume image (bad_looks.Map picture)) is =
+    let whole = image_values given volume.edition image is.1.3 in search (rules, whole)
+values_given clock given (invocations.LookBad volume image bad_looks.Uses) is =
+    let whole = image_values given volume.edition image is.1.3 in search (rules, whole)
 values_given clock given (invocations.Change volume (changes.Mknod path device change owner now) trace) is =
     let kind = kind_value device.kind _ is.1.1.0 in
     let permissions = permissions_value (change_to 0o644) _ change is.1.2 in

@@ -6,7 +6,7 @@ use Rattle.bad_maps.specs.declared.maps.ReadRange.{ReadRange}
 use Rattle.line_words.specs.Numbers.{number_in}
 use Rattle.vol_layout.specs.declared.edition.Edition.{Edition}
 use Rattle.vol_losses.specs.declared.given_sizes.VolumeSizes.{VolumeSizes}
-use Rattle.command_words.specs.Disks.{disk_blocks, list_default}
+use Rattle.disk_sizes.specs.Disks.{disk_blocks, list_default}
 use Rattle.command_words.specs.declared.invocation.BadImage.{BadImage}
 use Rattle.command_words.specs.declared.invocation.GivenBad.{GivenBad}
 use Rattle.command_words.specs.declared.invocation.GivenBad.TheVariants as bads

@@ -1,5 +1,5 @@
 -- The invocations that the words after a command are read as.
-use Rattle.std.specs.Prelude.{◌≡◌, ◌≢◌, ◌⊎◌, ◌∷◌, ◌≤◌, ◌-◌, ◌&&◌, ◌==◌, ℕ, List, [], length, map, take, get_or, slice_get, slice_index, flat_map, Option, Some, None, option_map, Bool, false, true, not, codes}
+use Rattle.std.specs.Prelude.{◌≡◌, ◌≢◌, ◌⊎◌, ◌∷◌, ◌≤◌, ◌-◌, ◌&&◌, ◌==◌, ℕ, List, [], length, map, take, get_or, slice_get, slice_index, flat_map, Option, Some, None, option_map, Bool, false, true, not, codes, if◌then◌else◌}
 use Rattle.std.specs.List.{list_any}
 use Rattle.std.specs.Path.{path_file_name}
 use Rattle.std.specs.Str.{bytes_eq}
@@ -10,7 +10,8 @@ use Rattle.vol_layout.specs.declared.mode.DeviceKind.{DeviceKind}
 use Rattle.vol_layout.specs.declared.mode.DeviceKind.TheVariants as devices
 use Rattle.bad_maps.specs.Lists.{bytes_around}
 use Rattle.command_words.specs.BadWords.{IsBadImageGiven, IsReadIfAny, sizes_of}
-use Rattle.command_words.specs.Disks.{AreBlocksOf, disk_blocks, list_default}
+use Rattle.command_words.specs.Disks.{AreBlocksOf}
+use Rattle.disk_sizes.specs.Disks.{disk_blocks, list_default}
 use Rattle.command_words.specs.Decimal.{IsNumberUpTo, IsNumberGiven, IsThreads, IsThreadsGiven}
 use Rattle.command_words.specs.Moment.{IsMomentOf}
 use Rattle.command_words.specs.Owners.{IsOwnerGiven, IsOwnerIfAny}
@@ -67,6 +68,8 @@ use Rattle.command_terms.specs.declared.changes.Change.{Change}
 use Rattle.command_terms.specs.declared.changes.Change.TheVariants as changes
 use Rattle.command_terms.specs.Permissions.{change_to}
 use Rattle.command_terms.specs.declared.options.Migration.{Migration}
+use Rattle.vol_migrate.specs.declared.devices.Devices.{Devices}
+use Rattle.vol_migrate.specs.declared.devices.Devices.TheVariants as treatments
 use Rattle.command_terms.specs.declared.options.Repairing.{Repairing}
 use Rattle.command_terms.specs.declared.plays.PlayForm.{PlayForm}
 use Rattle.command_terms.specs.declared.plays.PlayForm.TheVariants as plays
@@ -268,6 +271,8 @@ bad_look_verb (bad_looks.Find path name lost form) = verbs.Find
 bad_look_verb (bad_looks.Sums path form lost) = verbs.Sums
 bad_look_verb (bad_looks.Check graded form) = verbs.Check
 bad_look_verb (bad_looks.Block block form) = verbs.Block
+bad_look_verb (bad_looks.Map picture) = verbs.Map
+bad_look_verb bad_looks.Uses = verbs.Map
 bad_look_verb (bad_looks.List path listing) = verbs.Ls
 bad_look_verb (bad_looks.Read path damaged) = verbs.Get
 bad_look_verb (bad_looks.Body node damaged) = verbs.Cat
@@ -395,11 +400,15 @@ IsNewVolumeGiven clock given volume = IsEditionNamed volume.edition (the_word gi
     × IsNumberOr 65535 0 (given (codes "GID")) volume.gid
     × IsMomentGiven clock (given (codes "NOW")) volume.now
 
+-- what becomes of special files: they are kept if that option is given (this project)
+abbrev pub devices_in : Words → Devices
+devices_in given = if is_set (given (codes "devices")) then treatments.Keep else treatments.Refuse
+
 -- the words describe this migration (this project)
 abbrev pub IsMigrationGiven : Option ℕ → Words → Migration → Type 0
 IsMigrationGiven clock given migration = IsNumberGiven 4294967295 (the_word given (codes "FSIZE")) migration.blocks
     × IsNumberGiven 65535 (the_word given (codes "IBLOCKS")) migration.list_blocks
-    × IsMomentGiven clock (given (codes "NOW")) migration.now
+    × IsMomentGiven clock (given (codes "NOW")) migration.now × (migration.devices ≡ devices_in given)
 
 -- the words name this one file of a volume, and no other (this project)
 abbrev pub IsOnePathGiven : Words → List ℕ → Type 0
@@ -528,9 +537,9 @@ IsLookGiven given (looks.Find path name lost form) = (path.now ≡ the_word give
     × (option_map (λ word. word.now) name ≡ slice_get (given (codes "name")) 0) × (lost ≡ is_set (given (codes "lost"))) × IsFormGiven given form
     × IsBadImageGiven given V7 (is_set (given (codes "cut"))) None
 IsLookGiven given (looks.Map picture file) = IsPictureGiven given picture × (is_set (given (codes "json")) ≡ false)
-    × (option_map (λ word. word.now) file ≡ slice_get (given (codes "file")) 0)
-IsLookGiven given looks.Uses =
-    (is_set (given (codes "json")) ≡ true) × (is_set (given (codes "svg")) ≡ false) × (slice_get (given (codes "file")) 0 ≡ None)
+    × (option_map (λ word. word.now) file ≡ slice_get (given (codes "file")) 0) × IsBadImageGiven given V7 (is_set (given (codes "cut"))) None
+IsLookGiven given looks.Uses = (is_set (given (codes "json")) ≡ true) × (is_set (given (codes "svg")) ≡ false)
+    × (slice_get (given (codes "file")) 0 ≡ None) × IsBadImageGiven given V7 (is_set (given (codes "cut"))) None
 IsLookGiven given (looks.Check graded form) = (graded ≡ is_set (given (codes "status"))) × IsFormGiven given form
     × IsBadImageGiven given V7 (is_set (given (codes "cut"))) None
 IsLookGiven given (looks.List path listing) = (path.now ≡ the_word given (codes "PATH")) × AreLinesGiven given listing.lines
@@ -558,6 +567,10 @@ IsBadLookGiven given edition image (bad_looks.Check graded form) = (graded ≡ i
     × IsBadImageGiven given edition (is_set (given (codes "cut"))) (Some image)
 IsBadLookGiven given edition image (bad_looks.Block block form) = IsNumberGiven 4294967295 (the_word given (codes "BLOCK")) block × IsFormGiven given form
     × IsBadImageGiven given edition (is_set (given (codes "cut"))) (Some image)
+IsBadLookGiven given edition image (bad_looks.Map picture) = IsPictureGiven given picture × (is_set (given (codes "json")) ≡ false)
+    × (slice_get (given (codes "file")) 0 ≡ None) × IsBadImageGiven given edition (is_set (given (codes "cut"))) (Some image)
+IsBadLookGiven given edition image bad_looks.Uses = (is_set (given (codes "json")) ≡ true) × (is_set (given (codes "svg")) ≡ false)
+    × (slice_get (given (codes "file")) 0 ≡ None) × IsBadImageGiven given edition (is_set (given (codes "cut"))) (Some image)
 IsBadLookGiven given edition image (bad_looks.List path listing) = (path.now ≡ the_word given (codes "PATH")) × AreLinesGiven given listing.lines
     × IsDepthGiven given listing.depth × (is_set (given (codes "slots")) ≡ false) × (goes_below listing.depth ≡ false)
     × IsBadImageGiven given edition (is_set (given (codes "cut"))) (Some image)
@@ -573,6 +586,8 @@ whole_at volume (bad_looks.Find path name lost form) = invocations.Look volume (
 whole_at volume (bad_looks.Sums path form lost) = invocations.Look volume (looks.Sums path form lost)
 whole_at volume (bad_looks.Check graded form) = invocations.Look volume (looks.Check graded form)
 whole_at volume (bad_looks.Block block form) = invocations.Look volume (looks.Block block form)
+whole_at volume (bad_looks.Map picture) = invocations.Look volume (looks.Map picture None)
+whole_at volume bad_looks.Uses = invocations.Look volume looks.Uses
 whole_at volume (bad_looks.List path listing) = invocations.Look volume (looks.ListUnsound path listing)
 whole_at volume (bad_looks.Read path damaged) = invocations.Look volume (looks.ReadUnsound path)
 whole_at volume (bad_looks.Body node damaged) = invocations.Cat volume node

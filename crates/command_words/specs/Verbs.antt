@@ -130,7 +130,7 @@ row_of verbs.Block = (codes "block", on_volume (long_number (codes "BLOCK") ∷ 
 row_of verbs.Dump = (codes "dump", on_volume ((codes "BLOCK", kinds.Place, needs.Once) ∷ lettered (codes "inode") 105 ∷ option (codes "octal") ∷ option (codes "json") ∷ []))
 row_of verbs.Diff = (codes "diff", on_volume (word (codes "OTHER") ∷ option (codes "times") ∷ option (codes "fields") ∷ option (codes "all") ∷ option (codes "json") ∷ []))
 row_of verbs.Df = (codes "df", on_volume (option (codes "json") ∷ []))
-row_of verbs.Map = (codes "map", on_volume (option (codes "svg") ∷ option (codes "json") ∷ (codes "file", kinds.Text, needs.Value None values.Path) ∷ []))
+row_of verbs.Map = (codes "map", on_volume (option (codes "svg") ∷ option (codes "cut") ∷ with_bad (option (codes "json") ∷ (codes "file", kinds.Text, needs.Value None values.Path) ∷ [])))
 row_of verbs.Check = (codes "check", on_volume (option (codes "status") ∷ option (codes "cut") ∷ with_bad (option (codes "json") ∷ [])))
 row_of verbs.Icheck = (codes "icheck", of_checker)
 row_of verbs.Dcheck = (codes "dcheck", of_checker)
@@ -171,7 +171,11 @@ row_of verbs.Repair = (
 )
 row_of verbs.Resize = (codes "resize", on_volume (long_number (codes "BLOCKS") ∷ lettered (codes "dry-run") 110 ∷ []))
 row_of verbs.Play = (codes "play", on_volume ((codes "SCRIPT", kinds.Scripts, needs.Several) ∷ option (codes "journal") ∷ option (codes "trace") ∷ option (codes "json") ∷ []))
-row_of verbs.Migrate = (codes "migrate", word (codes "OLD") ∷ word (codes "NEW") ∷ long_number (codes "FSIZE") ∷ number (codes "IBLOCKS") ∷ moment ∷ option (codes "new") ∷ at ∷ [])
+row_of verbs.Migrate = (
+  codes "migrate",
+  word (codes "OLD") ∷ word (codes "NEW") ∷ long_number (codes "FSIZE") ∷ number (codes "IBLOCKS") ∷ moment ∷ option (codes "new") ∷ at
+      ∷ option (codes "devices") ∷ [],
+)
 row_of verbs.Serve = (
   codes "serve",
   on_volume (option (codes "read-only") ∷ option (codes "mine")

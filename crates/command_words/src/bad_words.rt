@@ -3,13 +3,13 @@ ghost use Rattle.std.specs.Prelude.{◌≡◌, ◌∷◌, [], None, false, true,
 ghost use Rattle.command_words.specs.BadWords.{IsBadImageGiven, IsBadIfAny, IsBadWrong, IsSizesGiven, sizes_from, sizes_of, whole_file};
 ghost use Rattle.command_words.specs.Invocations.{TellsOf, is_set, look_at, whole_at};
 
-use crate::disks::{disk_blocks, list_default};
 use crate::fault::WordFault;
 use crate::given::{Given, excluded, flag_in, wrong};
 use crate::invocation::{BadImage, GivenBad, Invocation, VolumeFile};
 use crate::parameters::{Need, Parameter, ValueName, WordKind};
 use bad_maps::{ListFault, ReadRange, read_list};
 use command_terms::{BadLook, Look};
+use disk_sizes::{disk_blocks, list_default};
 use line_words::{Pieces, number_in};
 use std::alloc::{AllocError, Global};
 use vol_layout::Edition;
@@ -117,6 +117,11 @@ fn whole_at<'a>(volume: VolumeFile<'a>, look: BadLook<'a>) -> Invocation<'a>
         BadLook::Sums { path, form, lost } => Look::Sums { path, form, lost },
         BadLook::Check { graded, form } => Look::Check { graded, form },
         BadLook::Block { block, form } => Look::Block { block, form },
+        BadLook::Map { picture } => Look::Map {
+            picture,
+            file: None,
+        },
+        BadLook::Uses => Look::Uses,
         BadLook::List { path, listing } => Look::ListUnsound { path, listing },
         BadLook::Read { path, .. } => Look::ReadUnsound { path },
         BadLook::Body { node, .. } => return Invocation::Cat { volume, node },
@@ -201,7 +206,7 @@ fn sizes_in<'a, G: Given<'a>>(
                 "not two decimal numbers with a comma between them, as 4872,108",
             )),
         },
-        (None, Some(word)) => match disk_blocks(word) {
+        (None, Some(word)) => match disk_blocks(word.as_bytes()) {
             Some(blocks) => Ok(Some(VolumeSizes {
                 blocks,
                 list_blocks: list_default(edition, blocks),

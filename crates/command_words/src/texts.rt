@@ -36,7 +36,7 @@ pub const NO_PLACE: &str =
 
 pub const BYTE: &str = "not a decimal number from 0 to 255";
 
-pub const DEVICE_KINDS: &str = "c for a device of characters, b for one of blocks";
+pub const DEVICE_KINDS: &str = "c for a character device, b for a block device";
 
 pub const WORD: &str = "not a decimal number from 0 to 65535";
 

@@ -9,6 +9,7 @@ use Rattle.command_reads.specs.BadFiles.{cat_sights, get_sights}
 use Rattle.command_reads.specs.BadLists.{list_sights}
 use Rattle.command_reads.specs.BadLooks.{LooksBad, LooksRescued, ShowsRescued, TellsUnrescued}
 use Rattle.command_reads.specs.BadOwners.{block_sights}
+use Rattle.command_reads.specs.BadUses.{map_sights, uses_sights}
 use Rattle.command_reads.specs.Check.{check_sights, verdict_status}
 use Rattle.command_reads.specs.Export.{begun, told_status}
 use Rattle.command_reads.specs.Find.{found_sights}
@@ -28,7 +29,7 @@ use Rattle.vol_listing.specs.declared.options.Screen.{Screen}
 use Rattle.vol_losses.specs.declared.given_sizes.VolumeSizes.{VolumeSizes}
 use Rattle.unixvol.specs.LookBad.{RunsLookBad}
 use Rattle.unixvol.specs.Runs.{IsEndWithin, host_files}
-use Rattle.unixvol.proofs.Looked.{ends_badly, ends_from, ends_shows, ends_told, ends_unread, lines_few, most_six, told_few}
+use Rattle.unixvol.proofs.Looked.{ends_badly, ends_from, ends_pieces, ends_shows, ends_told, ends_unread, lines_few, most_six, told_few}
 
 ends_incomplete : (edition : Edition) (bytes : List ℕ) (streams : Streams) (status : ℕ) → TellsIncomplete edition bytes streams status → IsEndWithin 6 streams status
 ends_incomplete edition bytes streams status (inl (there, blocks, fault, is, line, told)) =
@@ -96,6 +97,16 @@ ends_rescued edition image [] screen streams status (bad_looks.Block block form)
 ends_rescued edition image (mark ∷ lost) screen streams status (bad_looks.Block block form) shows =
     ends_shows 6 (block_sights edition image (mark ∷ lost) block form) streams status (omega arith)
     (λ text wanted lines is. known_few is.2.short wanted lines is.2.graded) shows
+ends_rescued edition image [] screen streams status (bad_looks.Map form) shows =
+    ends_shows 6 (map_sights edition image [] screen form) streams status (omega arith) (λ text wanted lines is. (omega (arith, is.0.1), λ e. is.1)) shows
+ends_rescued edition image (mark ∷ lost) screen streams status (bad_looks.Map form) shows =
+    ends_shows 6 (map_sights edition image (mark ∷ lost) screen form) streams status (omega arith)
+    (λ text wanted lines is. lines_few 6 5 wanted lines (omega arith) (omega arith) is.1) shows
+ends_rescued edition image [] screen streams status bad_looks.Uses shows =
+    ends_pieces 6 (uses_sights edition image []) streams status (omega arith) (λ text wanted lines is. (omega (arith, is.0.1), λ e. is.1)) shows
+ends_rescued edition image (mark ∷ lost) screen streams status bad_looks.Uses shows =
+    ends_pieces 6 (uses_sights edition image (mark ∷ lost)) streams status (omega arith)
+    (λ text wanted lines is. lines_few 6 5 wanted lines (omega arith) (omega arith) is.1) shows
 ends_rescued edition image [] screen streams status (bad_looks.List path listing) shows =
     ends_shows 6 (list_sights edition image [] path.now listing screen) streams status (omega arith)
     (λ text wanted lines is. lines_few 6 1 wanted lines (omega arith) (omega arith) is.1) shows

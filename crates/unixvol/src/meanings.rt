@@ -71,7 +71,7 @@ pub fn meaning_of(
             meaning(
                 alloc,
                 image,
-                "the volume has a special file, and migrate makes none",
+                "the volume has a special file, which migrate doesn't keep",
             )
         }
         // If standard output failed, the system's error is printed instead.
@@ -345,7 +345,7 @@ fn no_entry(verb: Verb) -> &'static str {
         Verb::Cat => "there is no i-node of this number, it is free, or the path leads to none",
         Verb::Inode => "there is no i-node of this number, or the path leads to none",
         Verb::Dump => "there is no block or i-node of this number, or the path leads to none",
-        Verb::Put | Verb::Mkdir => "a directory on the way to it isn't there",
+        Verb::Put | Verb::Mkdir | Verb::Mknod => "a directory on the way to it isn't there",
         Verb::Import => {
             "a directory on the way to it, or the file that it is a link to, isn't there"
         }

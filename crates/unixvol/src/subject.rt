@@ -147,6 +147,7 @@ impl<'a> Subject<'a> {
             BadLook::Sums { path, .. } => (Verb::Sums, About::Path(path)),
             BadLook::Check { .. } => (Verb::Check, About::Image),
             BadLook::Block { .. } => (Verb::Block, About::Image),
+            BadLook::Map { .. } | BadLook::Uses => (Verb::Map, About::Image),
             BadLook::List { path, .. } => (Verb::Ls, About::Path(path)),
             BadLook::Read { path, .. } => (Verb::Get, About::Path(path)),
             BadLook::Body { node, .. } => (Verb::Cat, about_node(node)),

@@ -17,6 +17,7 @@ use std::thread::Threads;
 use vol_check::Checker;
 use vol_layout::Edition;
 use vol_listing::Screen;
+use vol_migrate::Devices;
 use vol_mkfs::NewVolume;
 
 /// The time of the volume and of all calls.
@@ -184,6 +185,7 @@ fn commands_print_and_return_what_the_program_does(rt: HostRuntime) {
         blocks: 60,
         list_blocks: 8,
         now: NOW,
+        devices: Devices::Refuse,
     };
     let (mut output, mut errors) = (stream(alloc), stream(alloc));
     let answer = migrate_command(alloc, image, migration, &mut output, &mut errors);

@@ -15,7 +15,7 @@ use vol_import::ImportOptions;
 
 pub(crate) const NAME: &str = "import";
 
-pub(crate) const ABOUT: &str = "Adds the files and directories of a tar archive to a volume.";
+pub(crate) const ABOUT: &str = "Adds the members of a tar archive to a volume.";
 
 pub(crate) const MORE: &str = "\
 Examples:
@@ -36,7 +36,7 @@ a path longer than 4096 bytes. Symbolic links and FIFOs are refused, as these sy
 sparse are refused: make the archive with tar without -S, or with bsdtar --no-read-sparse.
 
 Character and block files keep the major and the minor number of their device, which are 0 to 255 here. `export`
-writes a multiplexor of the seventh edition as the character or block file that it multiplexes, and so it comes back.
+writes a multiplexor of the seventh edition as the character or block file that it multiplexes; it comes back as that.
 
 With --skip-special, special files are left out, and each has a line on standard error. These are character and
 block files, FIFOs, and links to what is left out.

@@ -23,7 +23,8 @@ Examples:
 
 Each field is printed under its name in the manual, the mode and its permissions in octal. Then each range of
 blocks has a line, with the logical blocks that it holds, or, for an indirect block, the first logical block that
-it leads to, and through how many levels. A number that isn't a data block's is marked.
+it leads to, and through how many levels. A number that isn't a data block's is marked. Of a special file the major
+and the minor number of its device are printed last.
 
 The volume need not be sound. Only rules 1 and 2 are checked: the image's size, and the sizes in its super-block.
 

@@ -3,12 +3,13 @@ ghost use Rattle.std.specs.Prelude.{◌≡◌, ◌≢◌, false, true, None, IfE
 ghost use Rattle.command_words.specs.Invocations.{AsksFor, AsksForNothing, IsPictureGiven, TellsOf, is_set};
 ghost use Rattle.command_words.specs.declared.verbs.Verb.TheVariants as verbs;
 
+use crate::bad_words::{BAD, BAD_BLOCKS, CUT, LIKE, SIZES, bad_image_in, look_at, losing_in};
 use crate::fault::WordFault;
 use crate::given::{Given, excluded, flag_in};
-use crate::invocation::Invocation;
+use crate::invocation::{BadImage, Invocation};
 use crate::parameters::{AT, EDITION, IMAGE, JSON, Need, Parameter, ValueName, WordKind};
 use crate::read_words::volume_in;
-use command_terms::{Look, Picture};
+use command_terms::{BadLook, Look, Picture};
 use std::alloc::Global;
 
 pub(crate) const NAME: &str = "map";
@@ -19,6 +20,7 @@ pub(crate) const MORE: &str = "\
 Examples:
   unixvol map 7 disk.img
   unixvol map --svg 7 disk.img > disk.svg
+  unixvol map --bad disk.map 7 disk.img
   unixvol map --file /etc/passwd 7 disk.img
   unixvol map --json 7 disk.img | jq '.map[] | select(.use == \"lost\")'
 
@@ -42,14 +44,26 @@ the first of them, \"count\" and \"use\".
 
 The volume need not be sound. Only rules 1 and 2 are checked: the image's size, and the sizes in its super-block.
 
+With --cut, --bad, --bad-blocks, --sizes and --like, blocks of the image are lost, as `unixvol export --help` says of
+them. A block that is lost is drawn as `U`, unreadable; one that nothing that is left uses as `?`, unknown: it is not
+called lost, since a lost block may be what names it. Any other use that is shown is that of the block in the volume,
+whatever the lost blocks held, unless one of them names the block once more. A letter for several blocks is `%` if some
+of them are unreadable or of unknown use, another use has most, and none is lost or named twice. With --svg, a square
+says only what its blocks are used for. With --json, \"use\" is \"unreadable\" or \"unknown\" then. A line on standard
+error says how many blocks are lost. --file can't be used then. If no block is lost after all, the options change
+nothing.
+
 Status:
   0  the blocks were drawn
   1  `unixvol: unsound, rule 1`: the image is shorter than its super-block says
      `unixvol: unsound, rule 2`: the sizes in the super-block contradict one another
      `unixvol: 2 NoEntry`, `unixvol: 20 NotDirectory`: PATH of --file leads to nothing
-  2  the command line is wrong
-  3  `unixvol: cannot read IMAGE`, or `unixvol: cannot write -`: standard output failed
-  4  `unixvol: 12 NoMemory`";
+  2  the command line is wrong; or no volume of the edition has the sizes of --sizes or --like
+  3  `unixvol: cannot read IMAGE`, or `unixvol: cannot write -`: standard output failed; or MAPFILE can't be read
+  4  `unixvol: 12 NoMemory`
+  5  blocks are lost (--cut, --bad, --bad-blocks, --sizes, --like), and what is known of the blocks was drawn
+  6  if blocks are lost: more than 1048576 blocks of the image are missing; or its super-block is lost, and neither
+     --sizes nor --like is given";
 
 const SVG: Parameter = Parameter {
     name: "svg",
@@ -62,15 +76,17 @@ const FILE: Parameter = Parameter {
     name: "file",
     kind: WordKind::Text,
     need: Need::Value(None, ValueName::Path),
-    help: "Show only the blocks of this file or directory; not with --json",
+    help: "Show only the blocks of this file or directory; not with --json, and not if blocks are lost",
 };
 
 /// The words that `map` takes.
-pub(crate) const WORDS: &[Parameter] = &[EDITION, IMAGE, AT, SVG, JSON, FILE];
+pub(crate) const WORDS: &[Parameter] = &[
+    EDITION, IMAGE, AT, SVG, CUT, BAD, BAD_BLOCKS, SIZES, LIKE, JSON, FILE,
+];
 
 /// Reads the words of `map`.
 pub(crate) fn read<'a, G: Given<'a>>(
-    _alloc: Global,
+    alloc: Global,
     given: &G,
     _clock: Option<u32>,
 ) -> Result<Invocation<'a>, WordFault<'a>>
@@ -78,17 +94,23 @@ pub(crate) fn read<'a, G: Given<'a>>(
     ensures refused { IfErr result (TellsOf (AsksForNothing _clock verbs.Map (G.words given.now))) }
 {
     let volume = volume_in(given)?;
-    let look = if flag_in(given, "json") {
+    let cut = flag_in(given, "cut");
+    let bad = bad_image_in(alloc, given, volume.edition, cut)?;
+    if flag_in(given, "json") {
         no_svg(given)?;
         no_file(given)?;
-        Look::Uses
-    } else {
-        Look::Map {
-            picture: picture_in(given),
-            file: given.first("file"),
+        return Ok(look_at(volume, bad, BadLook::Uses));
+    }
+    let picture = picture_in(given);
+    match given.first("file") {
+        None => Ok(look_at(volume, bad, BadLook::Map { picture })),
+        Some(path) => {
+            no_losses(given, &bad)?;
+            let file = Some(path);
+            let look = Look::Map { picture, file };
+            Ok(Invocation::Look { volume, look })
         }
-    };
-    Ok(Invocation::Look { volume, look })
+    }
 }
 
 /// Succeeds if the words don't request a picture for a browser, which isn't JSON.
@@ -111,6 +133,17 @@ fn no_file<'a, G: Given<'a>>(given: &G) -> Result<(), WordFault<'a>>
     match given.first("file") {
         None => Ok(()),
         Some(_) => Err(excluded("file", "json", FILE.help)),
+    }
+}
+
+/// Succeeds if no block of the image is lost: the blocks of one file are shown only of an image that was read whole.
+fn no_losses<'a, G: Given<'a>>(given: &G, bad: &Option<BadImage<'a>>) -> Result<(), WordFault<'a>>
+    ensures none { IfOk result (λ _. bad.now ≡ None) }
+    ensures refused { IfErr result (TellsOf (bad.now ≢ None)) }
+{
+    match bad {
+        None => Ok(()),
+        Some(_) => Err(excluded("file", losing_in(given, false), FILE.help)),
     }
 }
 

@@ -6,7 +6,6 @@ ghost use Rattle.command_words.specs.Verbs.{arguments_of};
 ghost use Rattle.command_words.specs.declared.verbs.Verb.TheVariants as verbs;
 
 use crate::decimal::long_of;
-use crate::disks::list_default;
 use crate::fault::WordFault;
 use crate::given::{
     Given, blocks_in, excluded, flag_in, moment_in, new_edition_in, text_in, word_or, wrong,
@@ -15,6 +14,7 @@ use crate::invocation::{Invocation, NewPlace};
 use crate::parameters::{Need, Parameter, UNREPLACED, ValueName, WordKind};
 use crate::read_words::made_in;
 use crate::texts;
+use disk_sizes::list_default;
 use std::alloc::Global;
 use vol_mkfs::NewVolume;
 

@@ -24,12 +24,13 @@ Examples:
   unixvol mknod 7 disk.img /dev/tty c 3 5 0622
   unixvol mknod 7 disk.img /dev/rk0 b 0 0 0640 --owner 3:1
 
-A special file stands for a device of the machine: a program that opens it reads and writes the device. MAJOR names
+A special file represents a device of the machine: a program that opens it reads and writes the device. MAJOR names
 the driver in the kernel's table, MINOR one of its devices; which numbers these are depends on the kernel. The file
 has no bytes and no blocks, and one link.
 
-Without PERM it gets permissions 0644. It belongs to user 0 and group 0, or with --owner to this user and group, whose
-numbers go up to 255 in the sixth edition, and up to 32767 in the seventh.
+Without PERM it gets permissions 0644. The word after MINOR is PERM, so NOW can only follow PERM. It belongs to user 0
+and group 0, or with --owner to this user and group, whose numbers go up to 255 in the sixth edition, and up to 32767
+in the seventh.
 
 IMAGE is written only if everything succeeded: a new file is written beside it and then takes its place.
 
@@ -60,21 +61,21 @@ const KIND: Parameter = Parameter {
     name: "KIND",
     kind: WordKind::DeviceKind,
     need: Need::Once,
-    help: "The kind of the device: c for one of characters, as a terminal, b for one of blocks, as a disk",
+    help: "The kind of the device: c for a character device, as a terminal, b for a block device, as a disk",
 };
 
 const MAJOR: Parameter = Parameter {
     name: "MAJOR",
     kind: WordKind::Byte,
     need: Need::Once,
-    help: "The major number, which names the driver, from 0 to 255",
+    help: "The major number, which names the driver, a decimal number from 0 to 255",
 };
 
 const MINOR: Parameter = Parameter {
     name: "MINOR",
     kind: WordKind::Byte,
     need: Need::Once,
-    help: "The minor number, which the driver is given, from 0 to 255",
+    help: "The minor number, the unit as the driver numbers it, a decimal number from 0 to 255",
 };
 
 const PERM: Parameter = Parameter {

@@ -278,8 +278,8 @@ int32_t unixvol_create(unixvol *volume, uint16_t uid, uint16_t gid, uint32_t now
 int32_t unixvol_mkdir(unixvol *volume, uint16_t uid, uint16_t gid, uint32_t now, const void *path,
                       size_t path_count, uint16_t permissions, uint16_t *inode);
 
-/* Makes a special file, and hands out its i-number: of a device of characters for the letter c, of blocks for b, with
- * these numbers. Only user 0 may. */
+/* Makes the special file of a character device, for the letter c, or of a block device, for b, with these numbers, and
+ * hands out its i-number. Only user 0 may. */
 int32_t unixvol_mknod(unixvol *volume, uint16_t uid, uint16_t gid, uint32_t now, const void *path,
                       size_t path_count, uint16_t permissions, uint8_t kind, uint8_t major, uint8_t minor,
                       uint16_t *inode);

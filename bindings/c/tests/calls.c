@@ -122,7 +122,7 @@ static void test_special_files(void)
     has("image", UNIXVOL_DONE, unixvol_image(&volume, image, SIZE));
     /* I-node 94 is the sixth of block 13, and 93 the fifth: 64 bytes each, the addresses from byte 12 on. */
     const uint8_t *tty = image + 13 * 512 + 5 * 64, *disk = tty - 64;
-    has("the mode of a device of characters", 0020620, tty[0] + 256 * tty[1]);
+    has("the mode of a character device", 0020620, tty[0] + 256 * tty[1]);
     has("its numbers", 0x000305, 65536L * tty[12] + 256L * tty[14] + tty[13]);
     has("the mode of a device of blocks", 0060600, disk[0] + 256 * disk[1]);
     has("its numbers", 0x0000ff, 65536L * disk[12] + 256L * disk[14] + disk[13]);

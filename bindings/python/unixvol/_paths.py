@@ -161,8 +161,8 @@ class VolumePath:
         return self._make("create", permissions)
 
     def mknod(self, kind: str, major: int, minor: int, permissions: int = 0o644) -> int:
-        """Makes a special file, and returns its i-number: of a device of characters for "c", of blocks for "b". Only user 0
-        may."""
+        """Makes the special file of a character device, "c", or of a block device, "b", with these numbers, and returns its
+        i-number. Only user 0 may."""
         if kind not in ("c", "b"):
             raise NoDevice(kind)
         return self._make("mknod", permissions, ord(kind), word(major, 8, "major"), word(minor, 8, "minor"))

@@ -26,7 +26,8 @@ class Extent:
 
 @dataclass(frozen=True)
 class Inode:
-    """An i-node. Times are seconds since 1970; `ctime` is None in the sixth edition. `mode` and `permissions` are octal."""
+    """An i-node. Times are seconds since 1970; `ctime` is None in the sixth edition. `mode` and `permissions` are octal. `major`
+    and `minor` are those of a special file."""
 
     ino: int
     kind: str
@@ -41,6 +42,8 @@ class Inode:
     ctime: int | None
     addr: tuple[int, ...]
     extents: tuple[Extent, ...]
+    major: int | None = None
+    minor: int | None = None
 
 
 @dataclass(frozen=True)

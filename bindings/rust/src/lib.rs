@@ -48,7 +48,7 @@ pub enum DeviceKind {
     Block = b'b',
 }
 
-/// The device that a special file stands for.
+/// The device that a special file represents.
 #[derive(Clone, Copy, Debug, PartialEq, Eq)]
 pub struct Device {
     pub kind: DeviceKind,

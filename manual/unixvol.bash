@@ -49,7 +49,7 @@ _unixvol() {
         dump) kinds='6,7,any file any' options='--at -i --inode --octal --json --explain -h --help' valued='--at=any' ;;
         diff) kinds='6,7,any file file' options='--at --times --fields --all --json --explain -h --help' valued='--at=any' ;;
         df) kinds='6,7,any file' options='--at --json --explain -h --help' valued='--at=any' ;;
-        map) kinds='6,7,any file' options='--at --svg --json --file --explain -h --help' valued='--at=any --file=path' ;;
+        map) kinds='6,7,any file' options='--at --svg --cut --bad --bad-blocks --sizes --like --json --file --explain -h --help' valued='--at=any --bad=file --bad-blocks=any --sizes=any --like=rk05,rk06,rk07,rl01,rl02,rm03,rp03,rp04,rp06,rx01,rx02 --file=path' ;;
         check) kinds='6,7,any file' options='--at --status --cut --bad --bad-blocks --sizes --like --json --explain -h --help' valued='--at=any --bad=file --bad-blocks=any --sizes=any --like=rk05,rk06,rk07,rl01,rl02,rm03,rp03,rp04,rp06,rx01,rx02' ;;
         icheck) kinds='6,7,any file any' options='--at --json --explain -h --help' valued='--at=any' ;;
         dcheck) kinds='6,7,any file any' options='--at --json --explain -h --help' valued='--at=any' ;;
@@ -71,7 +71,7 @@ _unixvol() {
         repair) kinds='6,7,any file file any' options='--at --new -n --dry-run --blocks --cut --bad --bad-blocks --sizes --like --explain -h --help' valued='--at=any --blocks=any --bad=file --bad-blocks=any --sizes=any --like=rk05,rk06,rk07,rl01,rl02,rm03,rp03,rp04,rp06,rx01,rx02' ;;
         resize) kinds='6,7,any file any' options='--at -n --dry-run --explain -h --help' valued='--at=any' ;;
         play) kinds='6,7,any file file...' options='--at --journal --trace --json --explain -h --help' valued='--at=any' ;;
-        migrate) kinds='file file any any any' options='--new --at --explain -h --help' valued='--at=any' ;;
+        migrate) kinds='file file any any any' options='--new --at --devices --explain -h --help' valued='--at=any' ;;
         serve) kinds='6,7,any file' options='--at --read-only --mine -r --rescue --explain -h --help' valued='--at=any -r=file --rescue=file' ;;
         identify) kinds='file...' options='--json --csv -r --recursive --explain -h --help' ;;
     esac

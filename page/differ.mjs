@@ -48,6 +48,7 @@ const changes = (edition, image) => [
     ['mkdir', '-p', edition, image, '/made/in/it', NOW], ['rm', edition, image, '/etc/motd', NOW], ['rm', '-r', edition, image, '/etc', NOW],
     ['rmdir', edition, image, '/etc', NOW], ['mv', edition, image, '/etc', '/moved', NOW], ['ln', edition, image, '/etc/motd', '/more', NOW],
     ['chmod', edition, image, '/etc', '700', NOW], ['chown', edition, image, '/etc', '3', '4', NOW], ['touch', edition, image, '/etc/new', NOW],
+    ['mknod', edition, image, '/etc/tty', 'c', '3', '5', '0622', NOW],
     ['salvage', edition, image], ['play', edition, image, 'script'], ['import', edition, image, '/', NOW],
     ['migrate', image, 'new.v7', '400', '20', NOW],
 ];

@@ -556,7 +556,22 @@ with tarfile.open(sys.argv[1], "w", format=tarfile.PAX_FORMAT) as archive:
     elif what == "device":
         add("dev/tty", tarfile.CHRTYPE, mode=0o622, numbers=tuple(int(number) for number in last.split(",")))
         add("dev/rk", tarfile.BLKTYPE, mode=0o640, numbers=(0, 255))
+    elif what == "name":
+        add(last, tarfile.CHRTYPE, mode=0o622, numbers=(3, 5))
 PYTHON
+
+# damaged FILE AT BYTES: puts these eight bytes, as printf writes them, into the header of FILE's first member, whose checksum is made anew
+damaged() {
+    printf "$3" | dd of="$1" bs=1 seek="$2" conv=notrunc status=none
+    python3 - "$1" << 'PYTHON'
+import sys
+data = bytearray(open(sys.argv[1], "rb").read())
+data[148:156] = b" " * 8
+data[148:156] = b"%06o\0 " % sum(data[:512])
+open(sys.argv[1], "wb").write(data)
+PYTHON
+}
+
 dots=$(printf './%.0s' $(seq 2045))
 for edition in 6 7; do
     inodes=$((edition == 6 ? 128 : 64))
@@ -690,7 +705,30 @@ for edition in 6 7; do
         python3 make.py device.tar device "$numbers"
         unimported 'unixvol: dev/tty: a major or minor number above 255' "$edition" device.tar
     done
+    # Numbers that are none are refused, also if special files are left out; numbers of base 256 are read. A name isn't cut, and what is there stays.
+    for field in 'xxxxxxxx' '\377\377\377\377\377\377\377\377'; do
+        python3 make.py device.tar device 3,5
+        damaged device.tar 329 "$field"
+        unimported 'unixvol: dev/tty: a header with a field that is no number' "$edition" device.tar
+    done
+    "$program" import --skip-special "$edition" disk.img / 2000 < device.tar > output 2> error
+    has "unreadable numbers of a device that is left out, edition $edition" '1 unixvol: dev/tty: a header with a field that is no number' "$? $(cat error)"
+    python3 make.py device.tar name fifteen_bytes_1
+    unimported 'unixvol: fifteen_bytes_1: a name above 14 bytes' "$edition" device.tar
     saves 'an image into which no device was imported' disk.img "blank.v$edition"
+    python3 make.py device.tar device 3,5
+    damaged device.tar 329 '\200\0\0\0\0\0\0\7'
+    damaged device.tar 337 '\0\0\0\0\0\0\0\0'
+    "$program" import "$edition" disk.img / 2000 < device.tar
+    has "a number of base 256, and an empty field, edition $edition" '7,0' "$("$program" ls -l "$edition" disk.img /dev/tty | sed 's/, */,/' | awk '{ print $6 }')"
+    cp disk.img taken.img
+    "$program" import "$edition" taken.img / 2000 < device.tar > output 2> error
+    has "a device where one is, edition $edition" '1 unixvol: 17 Exists: /dev/tty' "$? $(cat error)"
+    python3 make.py device.tar name dev
+    "$program" import "$edition" taken.img / 2000 < device.tar > output 2> error
+    has "a device where a directory is, edition $edition" '1 unixvol: 17 Exists: /dev' "$? $(cat error)"
+    saves "a volume whose names are taken" taken.img disk.img
+    cp "blank.v$edition" disk.img
     cp disk.img copy.img
     "$program" import --skip-special "$edition" copy.img / 2000 < pack.tar > output 2> error
     echo $? > status

@@ -11,7 +11,7 @@ mkdir volumes
 cp volumes/a made
 
 # Words of the commands on trees that aren't valid.
-for command in 'ls /' 'get /a' 'put /a hello 1' 'rm /a 1' 'rmdir /a 1' 'mkdir /a 1' 'ln /a /b 1' 'chmod /a 644 1' 'chown /a 1 2 1'; do
+for command in 'ls /' 'get /a' 'put /a hello 1' 'rm /a 1' 'rmdir /a 1' 'mkdir /a 1' 'ln /a /b 1' 'chmod /a 644 1' 'chown /a 1 2 1' 'mknod /a c 3 5 644 1'; do
     read -r -a given <<< "$command"
     misread "error: invalid value '8'" "${given[0]}" 8 volumes/a "${given[@]:1}"
     [ "${given[0]}" = ls ] || misread 'error: the following required arguments were not provided' "${given[0]}" 6 volumes/a

@@ -378,16 +378,33 @@ END
     has 'the device of a special file' '"major":3 "minor":5' "$("$program" ls "$edition" devices.img /tty --json | grep -o '"major":3\|"minor":5' | paste -s -d ' ' -)"
     has 'what check says of a volume with devices' 0 "$("$program" check "$edition" devices.img > output; echo $?)"
     cp devices.img wanted
-    refuses 1 'unixvol: 17 Exists' mknod "$edition" devices.img / c 3 5 620 1000
-    refuses 1 'unixvol: 17 Exists' mknod "$edition" devices.img /tty c 3 5 620 1000
+    for path in / /. /.. /tty /tty/; do
+        refuses 1 'unixvol: 17 Exists' mknod "$edition" devices.img "$path" c 3 5 620 1000
+    done
     refuses 1 'unixvol: 2 NoEntry' mknod "$edition" devices.img /no/x c 3 5 620 1000
     refuses 1 'unixvol: 20 NotDirectory' mknod "$edition" devices.img /tty/x c 3 5 620 1000
     refuses 1 'unixvol: 104 BadId' mknod "$edition" devices.img /x c 3 5 620 1000 --owner 65535:0
-    misread "error: invalid value 'p' for '<KIND>': c for a device of characters, b for one of blocks" mknod "$edition" devices.img /x p 3 5
+    misread "error: invalid value 'p' for '<KIND>': c for a character device, b for a block device" mknod "$edition" devices.img /x p 3 5
     misread "error: invalid value '256' for '<MAJOR>': not a decimal number from 0 to 255" mknod "$edition" devices.img /x c 256 5
     misread "error: invalid value '256' for '<MINOR>': not a decimal number from 0 to 255" mknod "$edition" devices.img /x c 3 256
     misread "error: invalid value '8' for '<PERM>': not an octal number from 0 to 7777" mknod "$edition" devices.img /x c 3 5 8
+    misread "error: invalid value '' for '<PERM>'" mknod "$edition" devices.img /x c 3 5 ''
+    misread "error: invalid value '+2' for '<MINOR>': not a decimal number from 0 to 255" mknod "$edition" devices.img /x c 3 +2
+    misread "error: invalid value '-1' for '<MINOR>': not a decimal number from 0 to 255" mknod "$edition" devices.img -- /x c 3 -1
     saves 'a volume whose special files stay' devices.img wanted
+    # A name is cut to 14 bytes, and a slash after it makes no difference. The word after MINOR is PERM.
+    prints none mknod "$edition" devices.img /fourteen_bytes_and_more/ b 0 1 0010 1000
+    refuses 1 'unixvol: 17 Exists' mknod "$edition" devices.img /fourteen_bytes_or_less b 0 1
+    has 'a name that was cut' 'b-----x--- 0,1 fourteen_bytes' \
+        "$("$program" ls -l "$edition" devices.img | sed 's/, */,/' | awk '$NF ~ /^fourteen/ { print $2, $6, $NF }')"
+    "$program" mknod "$edition" devices.img /owned c 1 2 600 1000 --owner 3:4 --trace > output
+    has 'the calls of mknod with an owner' 2 "$(grep -c '^1000 0 0 ' output)"
+    # The last i-node, and none.
+    "$program" mkfs "$edition" few.img 40 1 0 0 1
+    made=0
+    while [ "$made" -lt 40 ] && "$program" mknod "$edition" few.img "/n$made" c 0 0 600 1 2> error; do made=$((made + 1)); done
+    has 'as many special files as there are i-nodes' "$((edition == 6 ? 15 : 6)) unixvol: 103 NoInode" "$made $(cat error)"
+    cp wanted devices.img
     prints none rm "$edition" devices.img /rk0 2000
     has 'what is left' 'tty' "$("$program" ls "$edition" devices.img | awk '{ print $NF }' | grep -v '^\.')"
 done

@@ -33,6 +33,7 @@ explains 1 'unixvol: 2 NoEntry' 'unixvol: /usr/x: no file or directory has this 
 explains 1 'unixvol: 2 NoEntry' 'unixvol: none: no file or directory has this name' ls 6 "$image" none
 explains 1 'unixvol: 2 NoEntry' "unixvol: /none/a: a directory on the way to it isn't there" put 6 "$image" /none/a hello
 explains 1 'unixvol: 2 NoEntry' "unixvol: /none/a: a directory on the way to it isn't there" mkdir 6 "$image" /none/a
+explains 1 'unixvol: 2 NoEntry' "unixvol: /none/a: a directory on the way to it isn't there" mknod 6 "$image" /none/a c 3 5
 explains 1 'unixvol: 2 NoEntry' 'unixvol: i-node 99: there is no i-node of this number, it is free, or the path leads to none' cat 6 "$image" 99
 explains 1 'unixvol: 2 NoEntry' 'unixvol: /usr/x: there is no i-node of this number, it is free, or the path leads to none' cat 6 "$image" /usr/x
 explains 1 'unixvol: 2 NoEntry' 'unixvol: i-node 9999: there is no i-node of this number, or the path leads to none' inode 6 "$image" 9999
@@ -69,7 +70,7 @@ cp "$image" special.v6
 number=$("$program" ls 6 special.v6 | awk '$2 == "tty" { print $1 }')
 put special.v6 $((1024 + 32 * (number - 1) + 1)) a1
 explains 1 'unixvol: 102 NotRegular' 'unixvol: /tty: it is a special file, which has no bytes' get 6 special.v6 /tty
-explains 1 'unixvol: 105 HasDevice' 'unixvol: special.v6: the volume has a special file, and migrate makes none' migrate special.v6 new.img 400 10
+explains 1 'unixvol: 105 HasDevice' "unixvol: special.v6: the volume has a special file, which migrate doesn't keep" migrate special.v6 new.img 400 10
 
 # A path with control characters is escaped, and any other isn't.
 explains 1 'unixvol: 2 NoEntry' 'unixvol: /\033[31m\012: no file or directory has this name' get 6 "$image" $'/\e[31m\n'

@@ -554,7 +554,8 @@ keys_of() {
 }
 for command in ls 'ls --slots' find map super df free; do keys_of "$command" ''; done
 for command in sums check; do keys_of $command '' '--bad-blocks 10-30'; done
-for command in icheck dcheck ncheck inode; do keys_of $command 1; done
+for command in icheck dcheck ncheck; do keys_of $command 1; done
+keys_of inode 1 12
 keys_of block 0 2 5 19 '5 --bad-blocks 5'
 
 # Multiplexor files, which the seventh edition has: `c` is one of type 030000, and `k` one of type 070000.
@@ -568,6 +569,16 @@ for node in 12 13; do
     runs inode --json 7 multiplexed.v7 $node
     has "the kind of multiplexor file $node" '"kind":"multiplexor"' "$(grep -o '"kind":"[a-z]*"' output)"
 done
+# devices EDITION IMAGE NODE MAJOR MINOR: the numbers of a special file's device, as the last lines of its i-node and in its JSON
+devices() {
+    has "the lines of the device of i-node $3" "major $4 minor $5" "$("$program" inode "$1" "$2" "$3" | tail -n 2 | paste -s -d ' ' -)"
+    has "the keys of the device of i-node $3" "\"links\":1,\"major\":$4,\"minor\":$5,\"mode\":" \
+        "$("$program" inode --json "$1" "$2" "$3" | grep -o '"links":.*"mode":')"
+}
+devices 7 multiplexed.v7 12 200 1
+devices 7 multiplexed.v7 13 3 9
+devices 6 special.v6 28 200 1
+devices 6 special.v6 29 3 9
 for node in '28 block' '29 character' '32 file' '30 directory' '2 free'; do
     runs inode --json 6 special.v6 "${node% *}"
     has "the kind of i-node $node" "\"kind\":\"${node#* }\"" "$(grep -o '"kind":"[a-z]*"' output)"

@@ -64,7 +64,7 @@ completes '/etc/motd' get 7 disk.img /etc/m
 completes 'etc/empty etc/motd etc/passwd' get 7 disk.img etc/
 completes '--help' rm --he
 completes '--recursive' rm --re
-completes '--svg' map --s
+completes '--svg' map --sv
 completes '--read-only' serve --rea
 completes '--read-only --rescue' serve --re
 completes '' rm 7 disk.img /etc/motd 1

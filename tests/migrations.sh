@@ -127,6 +127,14 @@ names() {
     has "the names in $3 of $1" "$4" "$(wc -l < wanted)"
 }
 
+# lists OLD NEW LINES: the long listings of both volumes have LINES lines, and are equal except for i-numbers, which are one higher
+lists() {
+    "$program" ls -lR 6 "$1" | awk '/^ *[0-9]/ { $1 = sprintf("%5d", $1 + 1) } 1' > wanted
+    "$program" ls -lR 7 "$2" | awk '/^ *[0-9]/ { $1 = sprintf("%5d", $1) } 1' > output
+    cmp -s output wanted
+    has "all that is listed of $1 and of the volume made of it" "0 $3" "$? $(wc -l < wanted)"
+}
+
 # A volume with files of each form: small, large, huge, with holes, and with more names than a small directory has. Of 300 files in /d every third is
 # replaced by a name of /small, and in the first half the one after it is removed.
 "$program" mkfs 6 forms 600 30 0 0 168496141
@@ -155,11 +163,7 @@ migrated forms new 700 61
 names forms new / 7
 names forms new /d 252
 nodes forms new $("$program" ls 6 forms / | awk '{ print $1 }' | sort -u) 94
-# The long listings of both volumes are equal except for i-numbers, which are one higher.
-"$program" ls -lR 6 forms | awk '/^ *[0-9]/ { $1 = sprintf("%5d", $1 + 1) } 1' > wanted
-"$program" ls -lR 7 new | awk '/^ *[0-9]/ { $1 = sprintf("%5d", $1) } 1' > output
-cmp -s output wanted
-has 'all that is listed of the old volume and of the new one' '0 262' "$? $(wc -l < wanted)"
+lists forms new 262
 
 # The fields of some of them. The old volume's i-numbers are 101 and below, since the cache of the lowest hundred is used from the highest down.
 printf '%s\n' view '0 0 0 stat /small' '0 0 0 stat /large' '0 0 0 stat /huge' '0 0 0 stat /empty' '0 0 0 stat /' '0 0 0 stat /d' '0 0 0 stat /d/002' \
@@ -205,6 +209,40 @@ nodes grown new 1 32
 { printf abcseen && head -c 4089 /dev/zero; } > seen
 prints seen get 6 grown /t
 prints seen get 7 new /t
+
+# Special files: with --devices kinds, permissions, owners, links and times stay, and the numbers of devices. `/tty` has i-number 32 and a size, `/rk0` 31.
+cp new.6 devices
+prints none mknod 6 devices /tty c 3 5 620 168496141
+prints none mknod 6 devices /rk0 b 255 0 640 168496141 --owner 3:4
+prints none ln 6 devices /tty /console 168496141
+put devices $((1024 + 32 * 31 + 5)) '01 E8 03'
+refuses 1 'unixvol: 105 HasDevice' migrate devices none.img 100 5 "$later"
+prints none migrate devices new 100 5 "$later" --devices
+"$program" check 7 new > report
+has 'the volume with special files is sound' 0 $?
+stamps='0B 0A 0D 0C 0B 0A 0D 0C 02 01 04 03'
+holds 'a character special file' new $((1024 + 64 * 32)) "90 21 02 00 00 00 00 00 01 00 E8 03 00 05 03 $(zeros 37) $stamps"
+holds 'a block special file' new $((1024 + 64 * 31)) "A0 61 01 00 03 00 04 00 00 00 00 00 00 00 FF $(zeros 37) $stamps"
+lists devices new 6
+has 'the numbers of the devices' 'c 3,5 console b 255,0 rk0 c 3,5 tty' \
+    "$("$program" ls -l 7 new | awk '$2 ~ /^[bc]/ { print substr($2, 1, 1), $6 $7, $NF }' | paste -s -d ' ' -)"
+prints none migrate old plain 100 5 "$later"
+prints none migrate old kept 100 5 "$later" --devices
+saves 'a volume without special files' kept plain
+# What a special file would lose: its second address, its last, and the flag of a large file, which makes its type 11 or 15.
+for lost in '10 01' '23 80' '1 B1'; do
+    cp devices losing
+    put losing $((1024 + 32 * 31 + ${lost% *})) "${lost#* }"
+    "$program" check 6 losing > report
+    has 'the volume whose special file would lose something is sound' 0 $?
+    refuses 1 'unixvol: bounds' migrate losing none.img 7 5 "$later" --devices
+    refuses 1 'unixvol: 105 HasDevice' migrate losing none.img 9 4 "$later" --devices
+done
+cp devices losing
+put losing $((1024 + 32 * 30 + 1)) 'F1'
+refuses 1 'unixvol: 105 HasDevice' migrate losing none.img 100 5 "$later" --devices
+refuses 1 'unixvol: 103 NoInode' migrate devices none.img 9 4 "$later" --devices
+has 'volumes with special files that were not made' '' "$(find . -name none.img)"
 
 # The command: the files that it reads and makes, the order of its refusals, and wrong words.
 cp new.6 made

@@ -70,7 +70,7 @@ unread 'a long line' 1 1 long_line
 unread 'a long line that ends too soon' 1 1 no_permissions
 { yes '5 0 0 cut' | head -7000; echo x; } > bad_end
 unread 'a bad line after many good ones' 1 7001 bad_end
-has 'the rows in lines' 66 "$(grep -c . "$data/lines")"
+has 'the rows in lines' 71 "$(grep -c . "$data/lines")"
 
 # The fault of the first faulty script is reported, even if the image is faulty too.
 printf '%s\n' '5 0 0 cut' > good

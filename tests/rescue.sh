@@ -1,5 +1,5 @@
 #!/usr/bin/env bash
-# Runs `export`, `find`, `sums`, `ls`, `get`, `cat`, `check`, `block` and `repair` of the built program with `--cut`, `--bad`, `--bad-blocks`, `--sizes` and `--like` on volumes that were cut off, or
+# Runs `export`, `find`, `sums`, `ls`, `get`, `cat`, `check`, `block`, `map` and `repair` of the built program with `--cut`, `--bad`, `--bad-blocks`, `--sizes` and `--like` on volumes that were cut off, or
 # of which blocks couldn't be read, and compares what it writes with what the whole volume holds.
 # Usage: tests/rescue.sh PROGRAM. It prints a line for each row that fails, and ends with 'N passed, N failed'.
 . "$(dirname "$0")/rows.sh"
@@ -668,11 +668,11 @@ misread "error: the argument '--like' cannot be used with '--sizes'" sums --like
 # Random volumes of both editions, of which random blocks are lost and have random bytes: each member is in the whole volume with the same header and
 # bytes, each file that is no member has a line, and of damaged files the bytes outside the ranges are right. Each line of a manifest that has a digest is
 # one of the whole volume's, the others but for the digest; and each path below whole directories has the i-number that it has there. Each use of a block that is
-# shown is its use there.
+# shown is its use there; in a map it may also be named twice there.
 python3 - "$program" > error << 'PYTHON'
 import json, os, random, re, subprocess, sys, tarfile
 
-program, count, digests, bodies, listings, uses = sys.argv[1], 0, 0, 0, 0, 0
+program, count, digests, bodies, listings, uses, drawn = sys.argv[1], 0, 0, 0, 0, 0, 0
 random.seed(1979)
 chosen = random.Random(1979)
 
@@ -727,6 +727,12 @@ def listed(edition, image, *words):
 def paths(edition, image, *words):
     """The paths with their i-numbers."""
     return {entry["path"]: entry["ino"] for entry in json.loads(run("find", "--json", edition, image, *words).stdout)["entries"]}
+
+def mapped(edition, image, *words):
+    """The use of each block, as `map --json` shows it."""
+    done = run("map", "--json", edition, image, *words)
+    assert done.returncode == (5 if words else 0), done.stderr
+    return [part["use"] for part in json.loads(done.stdout)["map"] for block in range(part["count"])]
 
 def outside(body, line):
     """The bytes of a file outside the ranges that a line names."""
@@ -789,6 +795,11 @@ for round in range(50 * int(os.environ.get('TIMES', 1))):
         uses += known
         if known and shown["uses"] != wanted["uses"] or shown["unreadable"] != (block in lost) or printed.returncode != (1 if known and block not in lost else 5):
             print(round, "a use is wrong:", block, shown)
+    wanted, printed = mapped(edition, "r.img"), mapped(edition, "r.bad", *words)
+    drawn += len([use for use in printed if use not in ("unreadable", "unknown")])
+    for block, (real, known) in enumerate(zip(wanted, printed, strict=True)):
+        if (known == "unreadable") != (block in lost) or known == "lost" or known not in ("unreadable", "unknown", real) and real != "named twice":
+            print(round, "a use in the map is wrong:", block, known, real)
     again, damaged = exported(edition, "r.bad", "d.tar", *words, "--damaged")
     if again.stderr != done.stderr:
         print(round, "other lines with --damaged")
@@ -798,7 +809,7 @@ for round in range(50 * int(os.environ.get('TIMES', 1))):
             continue
         if member[:5] != whole[name][:5] or member[5] != outside(whole[name][5], line):
             print(round, "a damaged file is wrong outside its ranges:", name)
-print(count > 500 and digests > 500 and bodies > 50 and listings > 500 and uses > 200)
+print(count > 500 and digests > 500 and bodies > 50 and listings > 500 and uses > 200 and drawn > 1000)
 PYTHON
 has 'members of volumes of which random blocks are lost' True "$(cat error)"
 
@@ -1176,6 +1187,93 @@ refuses 6 'unixvol: the image has 40 of 16000000 blocks' block --cut 7 long.img 
 misread "error: the argument '--bad-blocks' cannot be used with '--bad'" block --bad-blocks 12 --bad half.map 7 m.img 1
 misread "error: the argument '--like' cannot be used with '--sizes'" block --like rk05 --sizes 4872,100 7 m.img 1
 misread "error: invalid value '5-3' for '--bad-blocks <LIST>'" block --bad-blocks 5-3 7 m.img 1
+
+# `map` of the same volume: block 6 is the root's.
+"$program" map 7 m.img > whole.map
+# drawn LOST PICTURE: with these blocks lost, the letters of the rows are these, and the status is 5
+drawn() {
+    runs map --bad-blocks "$1" 7 m.img
+    has "the letters of map --bad-blocks $1" "$2" "$(sed -n '3,4s/^ *[0-9]* //p' output | tr -d '\n')"
+    has "the end of map --bad-blocks $1" "5 unixvol: $(tr , '\n' <<< "$1" | wc -l) of 100 blocks are lost" "$(cat status) $(cat error)"
+}
+letters=$(sed -n '3,4s/^ *[0-9]* //p' whole.map | tr -d '\n')
+# with AT LETTERS WORD: the letters of the whole volume, or of $3, with others from block AT on
+with() {
+    local row=${3-$letters}
+    echo "${row:0:$1}$2${row:$(($1 + ${#2}))}"
+}
+has 'the letters of the volume' "BSiiiid$(printf 'o%.0s' {1..43})c$(printf 'o%.0s' {1..9})TTT$(printf 'o%.0s' {1..37})" "$letters"
+drawn 99 "$(with 99 U)"
+drawn 0 "$(with 0 U)"
+drawn 4 "$(with 4 U)"
+drawn 60 "$(with 60 U)"
+# The block that continues the free list: what it lists isn't known to be free, and blocks 60 to 62 have their i-node alone.
+drawn 50 "$(with 50 "U$(printf '?%.0s' {1..9})fpf$(printf '?%.0s' {1..37})")"
+# The i-list: the blocks of i-nodes 2 and 3 aren't known to be theirs.
+drawn 2 "$(with 2 U "$(with 6 '?' "$(with 60 ooo)")")"
+drawn 2,50 "$(with 2 U "$(with 6 '?' "$(with 50 "U$(printf '?%.0s' {1..49})")")")"
+# The indirect block: what is below it isn't known to be the file's.
+drawn 61 "$(with 61 Uo)"
+drawn 50,61 "$(with 50 "U$(printf '?%.0s' {1..9})fU$(printf '?%.0s' {1..38})")"
+# The legend has the numbers of both, and colours go with the letters as for the others.
+runs map --bad-blocks 50 7 m.img
+has 'the legend of map with lost blocks' '1 U unreadable,46 ? unknown' "$(sed -n 's/^ *//; / [U?] /p' output | paste -s -d , -)"
+# With given sizes the super-block is lost, and with it the free list.
+runs map --sizes 100,4 7 m.img
+has 'map with given sizes' "5 $(with 1 U "$(with 7 "$(printf '?%.0s' {1..53})fpf$(printf '?%.0s' {1..37})")") $(cat count)" \
+    "$(cat status) $(sed -n '3,4s/^ *[0-9]* //p' output | tr -d '\n') $(cat error)"
+# As JSON, by a map, and of an image that was cut off in block 58.
+printf '%s\n' '# Mapfile' '0x0 ? 1' '0x0 0x200 -' '0x200 0xC600 +' > boot.map
+echo '{"format":1,"map":[{"block":0,"count":1,"use":"unreadable"},{"block":1,"count":1,"use":"super-block"},{"block":2,"count":4,"use":"i-list"},{"block":6,"count":1,"use":"directory"},{"block":7,"count":43,"use":"free"},{"block":50,"count":1,"use":"chain"},{"block":51,"count":9,"use":"free"},{"block":60,"count":3,"use":"named twice"},{"block":63,"count":37,"use":"free"}]}' > wanted
+runs map --json --bad boot.map 7 m.img
+wants 'map --json of an image whose boot block is lost' 5 wanted count
+echo '{"format":1,"map":[{"block":0,"count":1,"use":"boot"},{"block":1,"count":1,"use":"super-block"},{"block":2,"count":4,"use":"i-list"},{"block":6,"count":1,"use":"directory"},{"block":7,"count":43,"use":"free"},{"block":50,"count":1,"use":"unreadable"},{"block":51,"count":9,"use":"unknown"},{"block":60,"count":1,"use":"file"},{"block":61,"count":1,"use":"pointer"},{"block":62,"count":1,"use":"file"},{"block":63,"count":37,"use":"unknown"}]}' > wanted
+runs map --json --bad-blocks 50 7 m.img
+wants 'map --json of an image with a lost block' 5 wanted count
+sed 's/ 1 / 42 /' count > line
+runs map --cut 7 cut-m.img
+has 'map of an image that was cut off' "5 $(with 58 "$(printf 'U%.0s' {1..42})") $(cat line)" "$(cat status) $(sed -n '3,4s/^ *[0-9]* //p' output | tr -d '\n') $(cat error)"
+refuses 1 'unixvol: unsound, rule 1' map 7 cut-m.img
+# As a picture for a browser: a square says only what its block is used for.
+runs map --svg --bad-blocks 50,61 7 m.img
+has 'map --svg with lost blocks' 5 "$(cat status)"
+has 'the squares of map --svg with lost blocks' "block 50: unreadable
+block 60: file
+block 61: unreadable
+block 62: unknown
+block 0: boot" "$(for block in 50 60 61 62 0; do grep -o "block $block: [^<]*" output; done)"
+# A letter for several blocks hides no block that is lost.
+"$program" mkfs 7 cells.img 4872 100 0 0 0
+runs map --bad-blocks 4000 7 cells.img
+has 'a letter that hides an unreadable block' '1 U unreadable,1 % cells with some blocks that are unreadable or of unknown use' \
+    "$(sed -n 's/^ *//; / [U%] /p' output | paste -s -d , -)"
+# Without a lost block all is as without the options.
+for words in '' --svg --json; do
+    "$program" map $words 7 m.img > wanted
+    runs map $words --cut 7 m.img
+    wants "map $words --cut of a whole image" 0 wanted none
+    "$program" map $words 7 lost.img > wanted
+    runs map $words --cut 7 lost.img
+    wants "map $words --cut of a whole image that has lost a block" 0 wanted none
+done
+has 'a lost block of a whole image' 1 "$("$program" map --cut 7 lost.img | grep -c '^ *1 L lost$')"
+# In the sixth edition.
+"$program" map 6 s.img > wanted
+runs map --cut 6 s.img
+wants 'map --cut of a volume of the sixth edition' 0 wanted none
+runs map --bad-blocks 99 6 s.img
+has 'map of a volume of the sixth edition' 5 "$(cat status)"
+refuses 6 'unixvol: the super-block is lost: give --sizes or --like' map --bad-blocks 1 7 m.img
+refuses 2 'unixvol: no volume has 5 blocks with an i-list of 9' map --sizes 5,9 7 m.img
+refuses 3 'unixvol: cannot read missing.map' map --bad missing.map 7 m.img
+refuses 6 'unixvol: the image has 40 of 16000000 blocks' map --cut 7 long.img
+misread "error: the argument '--bad-blocks' cannot be used with '--bad'" map --bad-blocks 12 --bad half.map 7 m.img
+misread "error: the argument '--like' cannot be used with '--sizes'" map --like rk05 --sizes 4872,100 7 m.img
+misread "error: the argument '--file' cannot be used with '--cut'" map --cut --file / 7 m.img
+misread "error: the argument '--file' cannot be used with '--bad-blocks'" map --file / --bad-blocks 12 7 m.img
+misread "error: the argument '--file' cannot be used with '--sizes'" map --svg --file / --sizes 100,4 7 m.img
+misread "error: the argument '--file' cannot be used with '--json'" map --json --cut --file / 7 m.img
+misread "error: the argument '--svg' cannot be used with '--json'" map --json --cut --svg 7 m.img
 
 echo "$passed passed, $failed failed"
 [ "$failed" = 0 ]

@@ -100,7 +100,7 @@ has 'the room of a volume with holes after it' yes "$([ "$(stored holed)" -le $(
 rm full holed before zeros
 
 # An image that is a pipe, a socket or a terminal isn't changed, and isn't read for it either; it can be shown.
-for command in 'put /a hello 1' 'rm /a 1' 'rmdir /a 1' 'mkdir /a 1' 'ln /a /b 1' 'chmod /a 644 1' 'chown /a 1 2 1'; do
+for command in 'put /a hello 1' 'rm /a 1' 'rmdir /a 1' 'mkdir /a 1' 'ln /a /b 1' 'chmod /a 644 1' 'chown /a 1 2 1' 'mknod /a c 3 5 644 1'; do
     read -r -a given <<< "$command"
     refuses 3 'unixvol: cannot write pipe' "${given[0]}" 6 pipe "${given[@]:1}"
     { cat volumes/linked; echo more; } | { "$program" "${given[0]}" 6 /dev/stdin "${given[@]:1}" > output 2> error; echo $? > status; cat > rest; }

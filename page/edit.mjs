@@ -54,10 +54,10 @@ export async function makeDirectory(directory) {
 export async function makeSpecial(directory) {
   const given = await asks('New special file', [
     { name: 'name', label: `Name in ${directory.path}`, hint: 'At most 14 bytes.' },
-    { name: 'kind', label: 'Kind of the device', value: 'c', options: [{ value: 'c', label: 'of characters, as a terminal' },
-      { value: 'b', label: 'of blocks, as a disk' }] },
+    { name: 'kind', label: 'Kind of the device', value: 'c', options: [{ value: 'c', label: 'a character device, as a terminal' },
+      { value: 'b', label: 'a block device, as a disk' }] },
     { name: 'major', label: 'Major number', value: '0', hint: 'It names the driver, from 0 to 255.' },
-    { name: 'minor', label: 'Minor number', value: '0', hint: 'The driver is given it, from 0 to 255.' },
+    { name: 'minor', label: 'Minor number', value: '0', hint: 'The unit, as the driver numbers it, from 0 to 255.' },
     { name: 'perm', label: 'Permissions, octal', value: '0644' },
   ], { ok: 'Make' });
   if (!given?.name) return;

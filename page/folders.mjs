@@ -66,7 +66,7 @@ async function addEntry(parts, entry, path, now) {
   for (const kid of await kidsOf(entry)) await addEntry(parts, kid, `${path}/${kid.name}`, now);
 }
 
-/** A tar archive of files and folders, each under its name, as a blob. Browsers don't tell permissions: files get 0644, directories 0755. */
+/** A tar archive of files and folders, each under its name, as a blob. Browsers don't report permissions: files get 0644, directories 0755. */
 export async function archiveOf(entries) {
   const parts = [];
   const now = Math.floor(Date.now() / 1000);

@@ -43,7 +43,7 @@ pub use vol_dir::{Cred, DirectoryFault, FoundDirectory, Refusal, find_directory}
 pub use vol_findings as rules;
 pub use vol_import::{ArchiveFault, ImportFault, ImportOptions, Imported, import, import_with};
 pub use vol_layout::{DeviceId, DeviceKind, Edition, Geometry, GeometryFault, Kind};
-pub use vol_migrate::{Devices, MigrateFault, migrate};
+pub use vol_migrate::{Devices, MigrateFault, migrate, migrate_with};
 pub use vol_mkfs::mkfs::mkfs;
 pub use vol_mkfs::{BlankVolume, MkfsFault, NewVolume};
 pub use vol_receipts::{

@@ -12,4 +12,4 @@ mod slots;
 
 pub use devices::Devices;
 pub use fault::MigrateFault;
-pub use migrate_volume::{migrate, migrate_image};
+pub use migrate_volume::{migrate, migrate_image, migrate_with};

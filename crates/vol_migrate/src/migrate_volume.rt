@@ -31,16 +31,33 @@ use vol_volume::Volume;
 /// bytes of the volume are zero, namely bytes past a size, in an empty slot, and after a name. Blocks are allocated starting with the first data
 /// block, by ascending i-number, and for each logical block in order along its path down from the i-node; all other blocks are free.
 ///
-/// With [`Devices::Keep`] a special file keeps its kind, block or character, and the number of its device.
-///
 /// The refusals are checked in this order. Invalid: the volume isn't one of the sixth edition. Bounds: a volume of the seventh can't have these
-/// sizes. HasDevice: it has a special file; with [`Devices::Keep`] one that would lose something, because its type isn't one of the two of a new
-/// special file, or an address other than the first isn't 0. NoInode: its highest i-number doesn't fit the i-list. NoSpace: the files need more
-/// blocks than there are data blocks. NoMemory comes last, and only if memory runs out.
+/// sizes. HasDevice: it has a special file, which [`migrate_with`] can keep. NoInode: its highest i-number doesn't fit the i-list. NoSpace: the files
+/// need more blocks than there are data blocks. NoMemory comes last, and only if memory runs out.
 ///
 /// Takes memory once for the bytes, and for a while two bytes for each block. Copies each stored block within a size, with a block-map lookup in the
 /// new volume, reads each i-node, and builds the free list twice.
 pub fn migrate(
+    alloc: Global,
+    volume: &Volume,
+    blocks: u32,
+    list_blocks: u16,
+    now: u32,
+) -> Result<Vec<u8>, MigrateFault>
+    ensures migrated { IfOk result (λ bytes. IsMigrated volume.now.image blocks list_blocks now bytes.items) }
+    ensures accepted { OnOk result (refusal volume.now.edition (reads_as volume.now.edition volume.now.image) blocks list_blocks Devices.Refuse ≡ None) }
+    ensures refused { IfErr result (λ fault. fault
+        ≡ unwrap_or (refusal volume.now.edition (reads_as volume.now.edition volume.now.image) blocks list_blocks Devices.Refuse) MigrateFault.NoMemory) }
+{
+    migrate_with(alloc, volume, blocks, list_blocks, now, Devices::Refuse)
+}
+
+/// Migrates a volume as [`migrate`] does. With [`Devices::Keep`] a special file keeps its kind, block or character, and the number of its device;
+/// HasDevice then comes only of one that would lose something, because its type isn't one of the two of a new special file, or an address other than
+/// the first isn't 0.
+///
+/// Takes and costs as much as [`migrate`].
+pub fn migrate_with(
     alloc: Global,
     volume: &Volume,
     blocks: u32,
@@ -60,7 +77,7 @@ pub fn migrate(
     }
 }
 
-/// Migrates a sound image of the sixth edition, as [`migrate`] does. A caller that has judged an image needs no volume, which would keep a copy of its
+/// Migrates a sound image of the sixth edition, as [`migrate_with`] does. A caller that has judged an image needs no volume, which would keep a copy of its
 /// bytes.
 ///
 /// Takes and costs as much as [`migrate`].

@@ -70,6 +70,14 @@ says() {
 # tree FOLDER: the files below a folder, each with its mode, and its checksum or where it leads
 tree() { (cd "$1" && find . ! -type d -printf '%P %m %l\n' | LC_ALL=C sort && find . -type f -print0 | LC_ALL=C sort -z | xargs -0 sha256sum); }
 
+# dead_links FOLDER: the links in documents below a folder that lead to no file, but for those to other hosts
+dead_links() {
+    local document path
+    find "$1" -name '*.md' | while read -r document; do
+        grep -oP '\]\(\K[^)#:]*(?=[)#])' "$document" | while read -r path; do [ -e "${document%/*}/$path" ] || echo "$document: $path"; done
+    done
+}
+
 # The version is the same wherever it is written.
 copies one
 has 'the version of CHANGELOG.md' "$version" "$(one/tools/version.sh)"
@@ -96,8 +104,9 @@ says 'a program of the number before' 1 'no release: the program was built from 
 # The header and the Rust wrapper declare what the library's source has. (tests/library.sh compares Python's part too, which needs the built library.)
 says 'declarations' 0 ' passed, 0 failed' "$top/bindings/declarations.py"
 
-# The same files are packed to the same bytes.
+# The same files are packed to the same bytes, and a link to what isn't packed is plain text there.
 copies two
+for copy in one two; do echo 'Sources and tests have links in the repository alone, as [this crate](../crates/pdp_words/README.md#use).' >> $copy/docs/SPEED.md; done
 says 'make release' 0 "dist/$name.tar.xz: " make -C one release
 (umask 077 && cd two && TZ=Asia/Tokyo XZ_OPT=-0 tools/release.sh > ../said 2>&1)
 has 'the same archive' '' "$(diff -r one/dist two/dist)"
@@ -108,8 +117,8 @@ for path in LICENSE README.md CHANGELOG.md SOURCES Makefile bin/unixvol bin/unix
     lib/pkgconfig/unixvol.pc "$wheel" samples/linux_made.v7 docs/LESSON.md bindings/README.md; do
     has "$path in the archive" yes "$([ -f "$name/$path" ] && echo yes)"
 done
-has 'links in README.md that lead to nothing' '' \
-    "$(cd "$name" && grep -oP '\]\(\K[^)#]*(?=\))' README.md | while read -r path; do [ -e "$path" ] || echo "$path"; done)"
+has 'links that lead to nothing' '' "$(dead_links "$name")"
+has 'what a link that led to nothing says' 'Sources and tests have links in the repository alone, as this crate.' "$(tail -n 1 "$name/docs/SPEED.md")"
 
 # Each machine has an archive with what was built for it, and with what all have.
 for machine in $machines; do
@@ -128,6 +137,7 @@ has 'the wheel for aarch64' 'Tag: py3-none-manylinux2014_aarch64' "$(unzip -p "$
 has 'the checksum of the page' "unixvol-$version.html: OK" "$(cd one/dist && sha256sum -c SHA256SUMS | grep -x "unixvol-$version.html: OK")"
 has 'the page' unixvol.html "$(cat "one/dist/unixvol-$version.html")"
 tar -xJf "one/dist/unixvol-$version-node.tar.xz"
+has 'links that lead to nothing, for Node' '' "$(dead_links "unixvol-$version-node")"
 has 'what Node runs' 'CHANGELOG.md LICENSE README.md SOURCES node.mjs unixvol.d.mts unixvol.mjs unixvol.wasm' \
     "$(cd "unixvol-$version-node" && printf '%s\n' * | LC_ALL=C sort | paste -s -d ' ' -)"
 

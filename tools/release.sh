@@ -59,8 +59,9 @@ packs() {
     archives "$name"
 }
 
-# archives NAME: makes an archive of the folder $room/NAME
+# archives NAME: makes an archive of the folder $room/NAME, whose documents get no link that leads nowhere
 archives() {
+    tools/plain_links.py "$room/$1"
     chmod -R u=rwX,go=rX "$room/$1"
     tar -C "$room" --format=ustar --sort=name --owner=0 --group=0 --numeric-owner --mtime=@0 -cf - "$1" | xz -9e --threads=1 >"$room/dist/$1.tar.xz"
 }

@@ -1,4 +1,5 @@
 pub mod Archives
 pub mod Fronts
 pub mod Packs
+pub mod Trees
 pub mod Zeros

@@ -9,16 +9,18 @@ use std::io;
 /// The message for a name that isn't text.
 const NOT_TEXT: &str = "a name in it is not UTF-8 text";
 
-/// The kind of what was found in a folder: files come before folders.
+/// The kind of what was found in a folder: files come before folders, and these before all else.
 #[derive(Clone, Copy, PartialEq, Eq, PartialOrd, Ord)]
 pub enum FoundKind {
     /// A regular file.
     File,
     /// A folder.
     Folder,
+    /// Neither: a symbolic link, a pipe, a socket or a device.
+    Other,
 }
 
-/// A file or a folder.
+/// A file, a folder, or what is neither.
 #[derive(PartialEq, Eq, PartialOrd, Ord, Drop)]
 pub struct Found {
     /// Its kind.
@@ -30,13 +32,13 @@ pub struct Found {
 /// What is in a folder.
 #[derive(Drop)]
 pub struct FolderListing {
-    /// The regular files and the folders in it, in any order.
+    /// All that could be examined, in any order.
     pub found: Vec<Found>,
     /// The last reason why something in it couldn't be examined.
     pub fault: Option<io::Error>,
 }
 
-/// Returns the regular files and the folders in a folder; symbolic links aren't followed. Takes memory for all of them.
+/// Returns what is in a folder; symbolic links aren't followed. Takes memory for all of it.
 pub(crate) fn folder_listing(rt: &HostRuntime, path: &str) -> io::Result<FolderListing> {
     let mut listing = FolderListing {
         found: Vec::new(rt.alloc()),
@@ -44,8 +46,7 @@ pub(crate) fn folder_listing(rt: &HostRuntime, path: &str) -> io::Result<FolderL
     };
     for entry in fs::read_dir(rt, path)? {
         match found_in(rt.alloc(), entry) {
-            Ok(Some(found)) => listing.found.push(found)?,
-            Ok(None) => {}
+            Ok(found) => listing.found.push(found)?,
             Err(why) if why.kind() == io::ErrorKind::OutOfMemory => return Err(why),
             Err(why) => listing.fault = Some(reworded(why)),
         }
@@ -53,8 +54,8 @@ pub(crate) fn folder_listing(rt: &HostRuntime, path: &str) -> io::Result<FolderL
     Ok(listing)
 }
 
-/// Returns what an entry of a folder is, if it is a regular file or a folder.
-fn found_in(alloc: Global, entry: io::Result<DirEntry>) -> io::Result<Option<Found>> {
+/// Returns what an entry of a folder is.
+fn found_in(alloc: Global, entry: io::Result<DirEntry>) -> io::Result<Found> {
     let entry = entry?;
     let file_type = entry.file_type()?;
     let kind = if file_type.is_file() {
@@ -62,10 +63,10 @@ fn found_in(alloc: Global, entry: io::Result<DirEntry>) -> io::Result<Option<Fou
     } else if file_type.is_dir() {
         FoundKind::Folder
     } else {
-        return Ok(None);
+        FoundKind::Other
     };
     let path = String::from_str(alloc, entry.path().as_str())?;
-    Ok(Some(Found { kind, path }))
+    Ok(Found { kind, path })
 }
 
 /// Returns an error with a message of its own if a name isn't text.

@@ -8,12 +8,14 @@ mod folders;
 mod holed_file;
 mod holes;
 mod image_file;
+mod made_folders;
 mod marks;
 mod noted;
 mod pack;
 mod progress;
 mod saved_files;
 mod system;
+mod tree;
 mod volume_front;
 mod watched;
 mod watched_stream;
@@ -23,6 +25,7 @@ pub use holes::{HoleSink, SinkFailed, write_with_holes};
 pub use image_file::{
     FileKind, OpenFault, Stamp, expect_image, open_image, open_sized, open_stamped,
 };
+pub use made_folders::{make_folder, mark_folder};
 pub use marks::{Marks, modified_in, permissions_of};
 pub use noted::{Noted, noted_reader, noted_writer};
 pub use pack::{MoveFault, SpliceFault, moved_to, splice};
@@ -32,6 +35,7 @@ pub use saved_files::{
     save_volume, save_whole,
 };
 pub use system::ImageFiles;
+pub use tree::{TreeFault, tree_below};
 pub use volume_front::{FrontFault, UpTo, read_on, read_up_to};
 pub use watched::{WatchedFile, WatchedHost};
 pub use watched_stream::WatchedStream;

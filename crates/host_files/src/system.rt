@@ -43,9 +43,10 @@ pub trait ImageFiles: Files {
         ensures { IfOk result stood };
 
     /// Returns the stamp of the name `path` itself: symbolic links aren't followed, and count as streams.
-    fn stamp_of_name(&self, path: &str) -> io::Result<Stamp>;
+    fn stamp_of_name(&self, path: &str) -> io::Result<Stamp>
+        ensures { IfOk result stood };
 
-    /// Returns the regular files and the folders in the folder at `path`, each with its path, in any order; symbolic links in it aren't followed. Fails if
+    /// Returns what is in the folder at `path`, each file or folder with its path, in any order; symbolic links in it aren't followed. Fails if
     /// the folder can't be read, or memory runs out. If something in it can't be examined, the rest is returned with the reason.
     fn folder_at(&self, path: &str) -> io::Result<FolderListing>
         ensures { IfOk result (listed path.now) };

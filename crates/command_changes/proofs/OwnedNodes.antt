@@ -1,5 +1,5 @@
 -- A Chown gives the node at its path to its new owner.
-use Rattle.std.proofs.Common.{◌≡◌, ◌∙◌, refl, sym, ap, subst, ℕ, List, None, Option, Some}
+use Rattle.std.proofs.Common.{◌∙◌, refl, sym, ap, subst, ℕ, List, None, Option, Some}
 use Rattle.std.specs.Prelude.{Result}
 use Rattle.std.specs.Option.{option_map}
 use Rattle.vol_dir.specs.Access.{user}

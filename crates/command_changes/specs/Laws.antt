@@ -1,5 +1,12 @@
--- Statements of the laws about what `repair` saves.
-use Rattle.std.specs.Prelude.{◌≡◌, ℕ, Bool, List, Option}
+-- Statements of the laws about what `repair` and `build` save, and about `sync`.
+use Rattle.std.specs.Prelude.{◌≡◌, ℕ, All, Bool, List, [], Option, Ok, codes, map, string_bytes}
+use Rattle.std.specs.List.{AllByRecursion}
+use Rattle.vol_dir.specs.Access.{user}
+use Rattle.vol_dir.specs.Tree.{Tree}
+use Rattle.vol_batch.specs.Paths.{HasDirectory}
+use Rattle.vol_volume.specs.Answer.{answer}
+use Rattle.vol_volume.specs.declared.queries.Query.TheVariants as queries
+use Rattle.vol_volume.specs.declared.queries.Reply.TheVariants as replies
 use Rattle.bad_maps.specs.declared.maps.ReadRange.{ReadRange}
 use Rattle.vol_layout.specs.Geometry.{Fits, geometry_of}
 use Rattle.vol_layout.specs.declared.edition.Edition.{Edition}
@@ -10,8 +17,19 @@ use Rattle.vol_repair.specs.Copies.{IsRepairedCopy, KeepsFileIn}
 use Rattle.vol_repair.specs.Kept.{FitsFile}
 use Rattle.vol_repair.specs.Text.{lines_text}
 use Rattle.vol_repair.specs.declared.repair_line.RepairLine.{RepairLine}
+use Rattle.pack_lists.specs.Laws.{IsListed, member_back}
+use Rattle.pack_lists.specs.declared.members.ListedMember.{ListedMember}
+use Rattle.pack_lists.specs.declared.members.ListedVolume.{ListedVolume}
+use Rattle.vol_import.specs.MadeMembers.{HasArchive}
+use Rattle.vol_volume.specs.Volume.{reads_as}
+use Rattle.command_changes.specs.Build.{Builds, IsBegun, Members}
 use Rattle.command_changes.specs.Repair.{IsRepairReported}
 use Rattle.command_changes.specs.RepairLosses.{IsRescueReported}
+use Rattle.command_changes.specs.Sync.{calls_to_sync, place_of}
+use Rattle.command_changes.specs.declared.sync.Syncing.{Syncing}
+use Rattle.command_changes.specs.declared.sync.TreeMember.{TreeMember}
+use Rattle.command_changes.specs.declared.sync.TreeNode.{TreeNode}
+use Rattle.command_changes.specs.declared.sync.TreeNode.TheVariants as nodes
 
 -- what is saved is a repaired copy of the image, with at least `blocks` blocks, and the text is that of the lines which tell all that differs but the number
 -- of blocks (this project)
@@ -37,3 +55,29 @@ RescuedFilesAreRight = (edition : Edition) (ranges : List ReadRange) (at : ℕ) 
     → Fits (geometry_of edition image) image → IsRescueReported edition blocks image lost new text losses
     → FitsFile (geometry_of edition image) image i → IsWhole (geometry_of edition image) image lost i
     → KeepsFileIn (geometry_of edition image) (geometry_of edition new) volume new i
+
+-- a volume was built of a list: it has each of the members, with the kind, permissions, owner, time, bytes, link and device that the list says, and all that
+-- the volume without them had (this project)
+abbrev pub HasListed : ListedVolume → Option (List ℕ) → Members → List ℕ → Type 0
+HasListed volume program members bytes = (begun : List ℕ) × IsBegun volume program begun
+    × HasArchive (reads_as volume.sizes.edition begun).tree (reads_as volume.sizes.edition bytes).tree (codes "/") volume.time (Ok (map member_back members))
+
+-- what `build` saves has the members of its list, if none of their paths has more than 100 bytes (this project's law)
+abbrev pub VolumesHaveTheirLists : Type 0
+VolumesHaveTheirLists = (volume : ListedVolume) (program : Option (List ℕ)) (members : Members) (bytes : List ℕ)
+    → All (λ (member : ListedMember × List ℕ). IsListed member.0) members → Builds volume program members bytes
+    → HasListed volume program members bytes
+
+-- what is to be at a path is there: a directory; or a file, of which a Read of all bytes returns these (stat, read)
+abbrev pub IsThereAt : Tree → List ℕ → TreeNode → Type 0
+IsThereAt tree path (nodes.Folder kept) = HasDirectory tree path
+IsThereAt tree path (nodes.File file) = answer tree (queries.Read user path 0 4294967295) ≡ Ok (replies.Bytes file.bytes.items)
+
+-- a member of a tree is in the volume (this project)
+abbrev pub IsThere : Tree → Syncing → TreeMember → Type 0
+IsThere tree syncing member = IsThereAt tree (place_of syncing.directory.now (string_bytes member.path)) member.node
+
+-- if `sync` has no call to make, each folder is a directory of the volume, and each file has its bytes there (this project's law)
+abbrev pub SameTreesAreThere : Type 0
+SameTreesAreThere = (tree : Tree) (syncing : Syncing) (members : List TreeMember) → calls_to_sync tree syncing members ≡ Ok []
+    → AllByRecursion (IsThere tree syncing) members

@@ -127,7 +127,7 @@ fn in_words(alloc: Global, path: &[u8], text: &[u8]) -> Result<Fault, AllocError
 }
 
 /// Returns the message for a member, with a text.
-fn worded_line(alloc: Global, path: &[u8], text: &[u8]) -> Result<Vec<u8>, AllocError>
+pub(crate) fn worded_line(alloc: Global, path: &[u8], text: &[u8]) -> Result<Vec<u8>, AllocError>
     ensures { IfOk result (λ line. line.items ≡ worded_line path.now text.now) }
 {
     let mut line = Vec::from_slice(alloc, b"unixvol: ")?;
@@ -159,7 +159,7 @@ fn push_left(alloc: Global, path: &[u8], lines: &mut Vec<u8>) -> Result<(), Allo
 }
 
 /// Returns a path in a volume. If it begins with two slashes (the root, and a name below it), the first one is dropped.
-fn from_root(path: &[u8]) -> &[u8]
+pub(crate) fn from_root(path: &[u8]) -> &[u8]
     ensures { result.now ≡ from_root path.now }
 {
     if path.len() > 1 && path[0] == b'/' && path[1] == b'/' {

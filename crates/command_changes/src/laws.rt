@@ -1,6 +1,7 @@
-//! The laws about what `repair` saves. The functions have no effect: their proved contracts are the laws.
-ghost use Rattle.command_changes.specs.Laws.{RepairsAreCopies, RescuedFilesAreRight, RescuesAreCopies};
+//! The laws about what `repair` and `build` save, and about `sync`. The functions have no effect: their proved contracts are the laws.
+ghost use Rattle.command_changes.specs.Laws.{RepairsAreCopies, RescuedFilesAreRight, RescuesAreCopies, SameTreesAreThere, VolumesHaveTheirLists};
 
+use pack_lists::laws::lists_are_read_back;
 use vol_repair::laws::repaired_files_are_right;
 
 /// What `repair` saves, with or without lost blocks, is a sound volume with as many blocks as were asked for, or as the image has, if that is more. Its i-list
@@ -17,3 +18,16 @@ pub fn rescued_files_are_right()
 {
     repaired_files_are_right();
 }
+
+/// What `build` saves has all members of its list, each with the kind, permissions, owner, time, bytes, link and device that the list says, if none of their
+/// paths has more than 100 bytes.
+pub fn volumes_have_their_lists()
+    ensures { VolumesHaveTheirLists }
+{
+    lists_are_read_back();
+}
+
+/// If `sync` has no call to make, each folder is a directory of the volume, and each file has its bytes there.
+pub fn same_trees_are_there()
+    ensures { SameTreesAreThere }
+{}

@@ -10,7 +10,7 @@ ghost use Rattle.command_faults.specs.ChangeFaults.{IsReason};
 ghost use Rattle.command_faults.specs.Outcomes.{Concludes, IsAmong};
 ghost use Rattle.command_faults.specs.Streams.{Hears, heard, streams};
 ghost use Rattle.command_changes.specs.Import.{IsUnimported, of_import};
-ghost use Rattle.command_changes.specs.Put.{calls_to_put, emptying_by, kept_calls, onto, permissions_of, put_calls, put_onto, target_by, with_execution};
+ghost use Rattle.command_changes.specs.Put.{calls_to_put, emptying_by, kept_calls, onto, permissions_of, put_calls, target_by, with_execution};
 ghost use Rattle.command_changes.specs.Traced.{ImportsVolume, MakesVolume};
 
 use crate::calls::{make_calls, push};
@@ -249,7 +249,7 @@ fn push_file(
 }
 
 /// Appends the calls that put a file at a path. Costs a walk.
-fn push_calls(
+pub(crate) fn push_calls(
     alloc: Global,
     volume: &Volume,
     path: &[u8],
@@ -317,7 +317,7 @@ fn emptying_call(alloc: Global, target: Target, path: &[u8], now: u32) -> Result
 }
 
 /// Appends the calls that give a file what is kept of the host's file, besides its bytes.
-fn push_kept(
+pub(crate) fn push_kept(
     alloc: Global,
     target: Target,
     path: &[u8],
@@ -378,7 +378,7 @@ pub(crate) fn permissions_of(target: Target) -> u16
 
 /// Returns permissions with their execute bits replaced by those of others.
 #[tactic(auto, unfolding(crate::specs::Put::with_execution))]
-fn with_execution(own: u16, other: u16) -> u16
+pub(crate) fn with_execution(own: u16, other: u16) -> u16
     ensures { result ≡ with_execution own other }
 {
     own & NO_EXECUTION | other & EXECUTION

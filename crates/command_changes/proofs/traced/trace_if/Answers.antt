@@ -1,4 +1,4 @@
-use Rattle.std.proofs.Common.{◌≡◌, refl}
+use Rattle.std.proofs.Common.{refl}
 use Rattle.command_changes.proofs.traced.trace_if.Goals as goal
 
 -- src/traced.rt:44:1

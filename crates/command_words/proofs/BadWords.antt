@@ -89,7 +89,7 @@ one_way clock given (invocations.Repair volume copy repairing) read is both = no
 one_way clock given (invocations.RepairBad volume image copy repairing) read is both = image_two given volume.edition _ image is.1 both
 one_way clock given (invocations.LookBad volume image (bad_looks.Sums p form lost)) read is both = image_two given volume.edition _ image is.1.3 both
 one_way clock given (invocations.Get volume path) read is both = none_two given V7 is.3 both
-one_way clock given (invocations.Copy volume (copies.Get folder paths keeps)) read is both = none_two given V7 is.1.4 both
+one_way clock given (invocations.Copy volume (copies.Get folder paths is_deep keeps)) read is both = none_two given V7 is.1.4 both
 one_way clock given (invocations.Look volume (looks.ReadUnsound path)) read is both = none_two given V7 is.1.2 both
 one_way clock given (invocations.LookBad volume image (bad_looks.List p listing)) read is both = image_two given volume.edition _ image is.1.5 both
 one_way clock given (invocations.LookBad volume image (bad_looks.Read p damaged)) read is both = image_two given volume.edition _ image is.1.2 both
@@ -142,9 +142,9 @@ sums_wrong clock given (inr (inr (inr both))) = λ invocation asks. one_way cloc
 
 pub get_wrong : (clock : Option ℕ) (given : Words) → IsBadWrong given → AsksForNothing clock verbs.Get given
 unfolding AsksForNothing is_rescuer
-get_wrong clock given (inl list) = no_value clock verbs.Get given (inr (inr (inr (inr (inr (inr (inr (inr (inr (inr (inl list)))))))))))
-get_wrong clock given (inr (inl sizes)) = no_value clock verbs.Get given (inr (inr (inr (inr (inr (inr (inr (inr (inr (inr (inr (inl sizes))))))))))))
-get_wrong clock given (inr (inr (inl disk))) = no_value clock verbs.Get given (inr (inr (inr (inr (inr (inr (inr (inr (inr (inr (inr (inr (inl disk)))))))))))))
+get_wrong clock given (inl list) = no_value clock verbs.Get given (inr (inr (inr (inr (inr (inr (inr (inr (inr (inr (inr (inl list))))))))))))
+get_wrong clock given (inr (inl sizes)) = no_value clock verbs.Get given (inr (inr (inr (inr (inr (inr (inr (inr (inr (inr (inr (inr (inl sizes)))))))))))))
+get_wrong clock given (inr (inr (inl disk))) = no_value clock verbs.Get given (inr (inr (inr (inr (inr (inr (inr (inr (inr (inr (inr (inr (inr (inl disk))))))))))))))
 get_wrong clock given (inr (inr (inr both))) = λ invocation asks. one_way clock given invocation (sym (ap is_rescuer asks.0)) asks.1 both
 
 pub cat_wrong : (clock : Option ℕ) (given : Words) → IsBadWrong given → AsksForNothing clock verbs.Cat given

@@ -24,13 +24,14 @@ use Rattle.command_terms.specs.declared.changes.Change.TheVariants as changes
 -- one file is put, or several files are
 abbrev IsPut : Option ℕ → Words → Type 0
 IsPut clock given = ((file : List ℕ) × (now : ℕ) × IsFirstWord given (codes "FILE") file × IsMomentGiven clock (given (codes "NOW")) now
-    × IsLeftOut given (codes "MORE") × IsLeftOut given (codes "target-directory"))
+    × IsLeftOut given (codes "MORE") × IsLeftOut given (codes "target-directory") × (is_set (given (codes "recursive")) ≡ false))
     ⊎ ((directory : List ℕ) × (files : List (List ℕ)) × (now : ℕ) × (word : Option (List ℕ)) × IsNonEmptyWord given (codes "target-directory") directory
     × AreFilesGiven clock (put_words given) files now word)
 
 -- one file is read by `get`, or several files are
 abbrev IsGot : Words → Type 0
-IsGot given = (IsLeftOut given (codes "MORE") × IsLeftOut given (codes "output") × (is_set (given (codes "preserve")) ≡ false))
+IsGot given = (IsLeftOut given (codes "MORE") × IsLeftOut given (codes "output") × (is_set (given (codes "preserve")) ≡ false)
+    × (is_set (given (codes "recursive")) ≡ false))
     ⊎ ((folder : List ℕ) × (paths : List (List ℕ)) × IsNonEmptyWord given (codes "output") folder × ArePathsGiven (get_words given) paths
     × (is_set (given (codes "unsound")) ≡ false) × IsBadImageGiven given V7 (is_set (given (codes "cut"))) None)
 
@@ -47,9 +48,11 @@ is_get _ = false
 -- every invocation of `put` puts one file or several
 puts : (clock : Option ℕ) (given : Words) (invocation : Invocation) → is_put (verb_of invocation) ≡ true → IsGiven clock given invocation → IsPut clock given
 unfolding is_put
-puts clock given (invocations.Change volume (changes.Put path file keep owner now) trace) put is = inl (file.now, now, is.1.1, is.1.2, is.1.3, is.1.4)
+puts clock given (invocations.Change volume (changes.Put path file keep owner now) trace) put is = inl (file.now, now, is.1.1, is.1.2, is.1.3, is.1.4, is.1.7)
 puts clock given (invocations.Copy volume (copies.Put directory files keep owner now trace)) put is =
     inr (directory.now, map (λ file. file.now) files.items, now.seconds, option_map (λ word. word.now) now.word, is.1.0, is.1.1)
+puts clock given (invocations.Copy volume (copies.PutTree directory folders keep owner now trace)) put is =
+    inr (directory.now, map (λ folder. folder.now) folders.items, now.seconds, option_map (λ word. word.now) now.word, is.1.0, is.1.1)
 puts clock given (invocations.Work volume (works.Check checkers.Blocks workers form)) put is = absurd (true≢false (sym put))
 puts clock given (invocations.Look volume (looks.Export path options)) put is = absurd (true≢false (sym put))
 puts clock given (invocations.LookBad volume image (bad_looks.Export path options)) put is = absurd (true≢false (sym put))
@@ -58,10 +61,10 @@ puts clock given invocation put is = absurd (true≢false (sym put))
 -- every invocation of `get` reads one file or several
 gets : (clock : Option ℕ) (given : Words) (invocation : Invocation) → is_get (verb_of invocation) ≡ true → IsGiven clock given invocation → IsGot given
 unfolding is_get
-gets clock given (invocations.Get volume path) got is = inl (is.1.1, is.1.2, is.1.3)
-gets clock given (invocations.Look volume (looks.ReadUnsound path)) got is = inl (is.1.0.1, is.1.0.2, is.1.0.3)
-gets clock given (invocations.LookBad volume image (bad_looks.Read path damaged)) got is = inl (is.1.0.1, is.1.0.2, is.1.0.3)
-gets clock given (invocations.Copy volume (copies.Get folder paths keeps)) got is = inr (folder.now, map (λ path. path.now) paths.items, is.1.0, is.1.1, is.1.3, is.1.4)
+gets clock given (invocations.Get volume path) got is = inl (is.1.1, is.1.2, is.1.3, is.1.4)
+gets clock given (invocations.Look volume (looks.ReadUnsound path)) got is = inl (is.1.0.1, is.1.0.2, is.1.0.3, is.1.0.4)
+gets clock given (invocations.LookBad volume image (bad_looks.Read path damaged)) got is = inl (is.1.0.1, is.1.0.2, is.1.0.3, is.1.0.4)
+gets clock given (invocations.Copy volume (copies.Get folder paths is_deep keeps)) got is = inr (folder.now, map (λ path. path.now) paths.items, is.1.0, is.1.1, is.1.3, is.1.4)
 gets clock given (invocations.Change volume (changes.Put p file keep owner now) trace) got is = absurd (true≢false (sym got))
 gets clock given (invocations.Work volume (works.Check checkers.Blocks workers form)) got is = absurd (true≢false (sym got))
 gets clock given (invocations.Look volume (looks.Export path options)) got is = absurd (true≢false (sym got))
@@ -124,6 +127,15 @@ pub too_many_put : (clock : Option ℕ) (given : Words) → IsLeftOut given (cod
     → AsksForNothing clock verbs.Put given
 too_many_put clock given left many = no_one clock given left (λ file now first moment more. many more)
 
+-- if `--target-directory` isn't given but `--recursive` is, `put` has no invocation
+pub deep_put : (clock : Option ℕ) (given : Words) → IsLeftOut given (codes "target-directory") → is_set (given (codes "recursive")) ≡ true
+    → AsksForNothing clock verbs.Put given
+deep_put clock given left set = no_put clock given go
+  where
+    go : IsPut clock given → ⊥
+    go (inl one) = true≢false (sym set ∙ one.6)
+    go (inr several) = both _ several.0 several.4.0 left
+
 -- if `--target-directory` isn't given and there is no valid time, `put` has no invocation
 pub no_moment : (clock : Option ℕ) (given : Words) → IsLeftOut given (codes "target-directory") → (IsValue clock kinds.Moment (given (codes "NOW")) → ⊥)
     → AsksForNothing clock verbs.Put given
@@ -156,13 +168,18 @@ too_many_got clock given left many = no_get clock given go
     go (inl one) = many one.0
     go (inr several) = both _ several.0 several.2.0 left
 
--- if `--output` isn't given but `--preserve` is, `get` has no invocation
-pub kept_got : (clock : Option ℕ) (given : Words) → IsLeftOut given (codes "output") → is_set (given (codes "preserve")) ≡ true
-    → AsksForNothing clock verbs.Get given
-kept_got clock given left set = no_get clock given go
+-- if `--output` isn't given but `--preserve` or `--recursive` is, `get` has no invocation
+pub into_nothing : (clock : Option ℕ) (given : Words) → IsLeftOut given (codes "output")
+    → (is_set (given (codes "preserve")) ≡ true) ⊎ (is_set (given (codes "recursive")) ≡ true) → AsksForNothing clock verbs.Get given
+into_nothing clock given left set = no_get clock given go
   where
+    neither : is_set (given (codes "preserve")) ≡ false → is_set (given (codes "recursive")) ≡ false
+        → (is_set (given (codes "preserve")) ≡ true) ⊎ (is_set (given (codes "recursive")) ≡ true) → ⊥
+    neither kept deep (inl is) = true≢false (sym is ∙ kept)
+    neither kept deep (inr is) = true≢false (sym is ∙ deep)
+
     go : IsGot given → ⊥
-    go (inl one) = true≢false (sym set ∙ one.2)
+    go (inl one) = neither one.2 one.3 set
     go (inr several) = both _ several.0 several.2.0 left
 
 -- if `--output` and `--unsound` are given, `get` has no invocation

@@ -84,7 +84,7 @@ values_given clock given (invocations.Repair volume copy repairing) is = let who
 values_given clock given (invocations.RepairBad volume image copy repairing) is =
     let whole = image_values given volume.edition image is.1 in search (rules, whole)
 values_given clock given (invocations.Get volume path) is = let whole = none_values given is.3 in search (rules, whole)
-values_given clock given (invocations.Copy volume (copies.Get folder paths keeps)) is = let whole = none_values given is.1.4 in search (rules, whole)
+values_given clock given (invocations.Copy volume (copies.Get folder paths is_deep keeps)) is = let whole = none_values given is.1.4 in search (rules, whole)
 values_given clock given (invocations.Look volume (looks.ReadUnsound path)) is = let whole = none_values given is.1.2 in search (rules, whole)
 values_given clock given (invocations.LookBad volume image (bad_looks.Read path damaged)) is =
     let whole = image_values given volume.edition image is.1.2 in search (rules, whole)

@@ -280,13 +280,16 @@ bad_look_verb (bad_looks.Body node damaged) = verbs.Cat
 -- the command that copies files (this project)
 abbrev pub copying_verb : Copying → Verb
 copying_verb (copies.Put directory files keep owner now trace) = verbs.Put
-copying_verb (copies.Get folder paths keeps) = verbs.Get
+copying_verb (copies.PutTree directory folders keep owner now trace) = verbs.Put
+copying_verb (copies.Sync directory folder owner now is_trial) = verbs.Sync
+copying_verb (copies.Get folder paths is_deep keeps) = verbs.Get
 
 -- the command of an invocation (this project)
 abbrev pub verb_of : Invocation → Verb
 verb_of (invocations.Cat volume node) = verbs.Cat
 verb_of (invocations.Mkfs place volume) = verbs.Mkfs
 verb_of (invocations.Migrate old at new migration) = verbs.Migrate
+verb_of (invocations.Build list new) = verbs.Build
 verb_of (invocations.Get volume path) = verbs.Get
 verb_of (invocations.Salvage volume copy) = verbs.Salvage
 verb_of (invocations.Repair volume copy repairing) = verbs.Repair
@@ -306,6 +309,7 @@ abbrev pub volume_of : Invocation → Option VolumeFile
 volume_of (invocations.Cat volume node) = Some volume
 volume_of (invocations.Mkfs place volume) = None
 volume_of (invocations.Migrate old at new migration) = None
+volume_of (invocations.Build list new) = None
 volume_of (invocations.Get volume path) = Some volume
 volume_of (invocations.Salvage volume copy) = Some volume
 volume_of (invocations.Repair volume copy repairing) = Some volume
@@ -325,6 +329,7 @@ abbrev pub with_volume : Invocation → VolumeFile → Invocation
 with_volume (invocations.Cat old node) volume = invocations.Cat volume node
 with_volume (invocations.Mkfs place made) volume = invocations.Mkfs place made
 with_volume (invocations.Migrate old at new migration) volume = invocations.Migrate old at new migration
+with_volume (invocations.Build list new) volume = invocations.Build list new
 with_volume (invocations.Get old path) volume = invocations.Get volume path
 with_volume (invocations.Salvage old copy) volume = invocations.Salvage volume copy
 with_volume (invocations.Repair old copy repairing) volume = invocations.Repair volume copy repairing
@@ -413,7 +418,7 @@ IsMigrationGiven clock given migration = IsNumberGiven 4294967295 (the_word give
 -- the words name this one file of a volume, and no other (this project)
 abbrev pub IsOnePathGiven : Words → List ℕ → Type 0
 IsOnePathGiven given path = (path ≡ the_word given (codes "PATH")) × IsLeftOut given (codes "MORE") × IsLeftOut given (codes "output")
-    × (is_set (given (codes "preserve")) ≡ false)
+    × (is_set (given (codes "preserve")) ≡ false) × (is_set (given (codes "recursive")) ≡ false)
 
 -- the words describe these options of an import (this project)
 abbrev pub IsImportGiven : Words → ImportOptions → Type 0
@@ -430,7 +435,7 @@ IsKeepGiven given keeps.Nothing = (is_set (given (codes "preserve")) ≡ false) 
 abbrev pub IsChangeGiven : Option ℕ → Words → Change → Type 0
 IsChangeGiven clock given (changes.Put path file keep owner now) = (path.now ≡ the_word given (codes "PATH")) × IsFirstWord given (codes "FILE") file.now
     × IsMomentGiven clock (given (codes "NOW")) now × IsLeftOut given (codes "MORE") × IsLeftOut given (codes "target-directory")
-    × IsKeepGiven given keep × IsOwnerGiven (given (codes "owner")) owner
+    × IsKeepGiven given keep × IsOwnerGiven (given (codes "owner")) owner × (is_set (given (codes "recursive")) ≡ false)
 IsChangeGiven clock given (changes.Import path options now) = IsPathGiven (given (codes "PATH")) path.now
     × IsMomentGiven clock (given (codes "NOW")) now × IsImportGiven given options
 IsChangeGiven clock given (changes.Rm path now) =
@@ -648,9 +653,18 @@ abbrev pub IsCopyGiven : Option ℕ → Words → Copying → Type 0
 IsCopyGiven clock given (copies.Put directory files keep owner now trace) = IsNonEmptyWord given (codes "target-directory") directory.now
     × AreFilesGiven clock (put_words given) (map (λ file. file.now) files.items) now.seconds (option_map (λ word. word.now) now.word)
     × IsKeepGiven given keep × IsOwnerGiven (given (codes "owner")) owner × (trace ≡ is_set (given (codes "trace")))
-IsCopyGiven clock given (copies.Get folder paths keeps) = IsNonEmptyWord given (codes "output") folder.now
+    × (is_set (given (codes "recursive")) ≡ false)
+IsCopyGiven clock given (copies.PutTree directory folders keep owner now trace) = IsNonEmptyWord given (codes "target-directory") directory.now
+    × AreFilesGiven clock (put_words given) (map (λ folder. folder.now) folders.items) now.seconds (option_map (λ word. word.now) now.word)
+    × IsKeepGiven given keep × IsOwnerGiven (given (codes "owner")) owner × (trace ≡ is_set (given (codes "trace")))
+    × (is_set (given (codes "recursive")) ≡ true)
+IsCopyGiven clock given (copies.Sync directory folder owner now is_trial) = IsPathGiven (given (codes "PATH")) directory.now
+    × (folder.now ≡ the_word given (codes "FOLDER")) × IsMomentGiven clock (given (codes "NOW")) now × IsOwnerGiven (given (codes "owner")) owner
+    × (is_trial ≡ is_set (given (codes "dry-run")))
+IsCopyGiven clock given (copies.Get folder paths is_deep keeps) = IsNonEmptyWord given (codes "output") folder.now
     × ArePathsGiven (get_words given) (map (λ path. path.now) paths.items) × (keeps ≡ is_set (given (codes "preserve")))
     × (is_set (given (codes "unsound")) ≡ false) × IsBadImageGiven given V7 (is_set (given (codes "cut"))) None
+    × (is_deep ≡ is_set (given (codes "recursive")))
 
 -- the words choose this form of a play's results: JSON if that option is given, but not with a trace; else lines, with the trace if that option is given
 -- (this project)
@@ -693,6 +707,7 @@ IsGiven clock given (invocations.Cat volume node) = IsVolumeGiven given volume �
 IsGiven clock given (invocations.Mkfs place volume) = IsNewPlaceGiven given place × IsNewVolumeGiven clock given volume
 IsGiven clock given (invocations.Migrate old at new migration) = (old.now ≡ the_word given (codes "OLD"))
     × IsMadeGiven given (codes "NEW") new × IsMigrationGiven clock given migration × IsAtGiven given at
+IsGiven clock given (invocations.Build list new) = (list.now ≡ the_word given (codes "LIST")) × IsMadeGiven given (codes "IMAGE") new
 IsGiven clock given (invocations.Get volume path) =
     IsVolumeGiven given volume × IsOnePathGiven given path.now × (is_set (given (codes "unsound")) ≡ false)
     × IsBadImageGiven given V7 (is_set (given (codes "cut"))) None

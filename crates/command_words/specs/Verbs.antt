@@ -112,7 +112,7 @@ row_of verbs.Ls = (
 row_of verbs.Get = (
   codes "get",
   on_volume (word (codes "PATH") ∷ more_words ∷ valued (codes "output") 111 values.Folder ∷ lettered (codes "preserve") 112
-      ∷ option (codes "unsound") ∷ option (codes "cut") ∷ with_bad (option (codes "damaged") ∷ [])),
+      ∷ lettered (codes "recursive") 114 ∷ option (codes "unsound") ∷ option (codes "cut") ∷ with_bad (option (codes "damaged") ∷ [])),
 )
 row_of verbs.Find = (
   codes "find",
@@ -140,10 +140,16 @@ row_of verbs.Mkfs = (
   new_edition ∷ word (codes "IMAGE") ∷ ((codes "FSIZE", kinds.Blocks, needs.Once) ∷ maybe_number (codes "IBLOCKS") ∷ maybe_number (codes "UID") ∷ maybe_number (codes "GID") ∷ moment
       ∷ option (codes "new") ∷ at ∷ []),
 )
+row_of verbs.Build = (codes "build", word (codes "LIST") ∷ word (codes "IMAGE") ∷ option (codes "new") ∷ [])
 row_of verbs.Put = (
   codes "put",
   on_volume (word (codes "PATH") ∷ maybe_word (codes "FILE") ∷ maybe_word (codes "NOW") ∷ more_words
-      ∷ valued (codes "target-directory") 116 values.Directory ∷ lettered (codes "preserve") 112 ∷ lettered (codes "executable") 120 ∷ owner ∷ option (codes "trace") ∷ []),
+      ∷ valued (codes "target-directory") 116 values.Directory ∷ lettered (codes "recursive") 114 ∷ lettered (codes "preserve") 112 ∷ lettered (codes "executable") 120
+      ∷ owner ∷ option (codes "trace") ∷ []),
+)
+row_of verbs.Sync = (
+  codes "sync",
+  on_volume (path needs.Once ∷ word (codes "FOLDER") ∷ moment ∷ lettered (codes "dry-run") 110 ∷ owner ∷ []),
 )
 row_of verbs.Import = (
   codes "import",
@@ -195,7 +201,7 @@ arguments_of verb = (row_of verb).1
 abbrev pub all_verbs : List Verb
 all_verbs =
     verbs.Cat ∷ verbs.Ls ∷ verbs.Get ∷ verbs.Find ∷ verbs.Export ∷ verbs.Sums ∷ verbs.Inode ∷ verbs.Super ∷ verbs.Free ∷ verbs.Block
-    ∷ verbs.Dump ∷ verbs.Diff ∷ verbs.Df ∷ verbs.Map ∷ verbs.Check ∷ verbs.Icheck ∷ verbs.Dcheck ∷ verbs.Ncheck ∷ verbs.Mkfs ∷ verbs.Put ∷ verbs.Import ∷ verbs.Rm
+    ∷ verbs.Dump ∷ verbs.Diff ∷ verbs.Df ∷ verbs.Map ∷ verbs.Check ∷ verbs.Icheck ∷ verbs.Dcheck ∷ verbs.Ncheck ∷ verbs.Mkfs ∷ verbs.Build ∷ verbs.Put ∷ verbs.Sync ∷ verbs.Import ∷ verbs.Rm
     ∷ verbs.Rmdir ∷ verbs.Mkdir ∷ verbs.Ln ∷ verbs.Mv ∷ verbs.Chmod ∷ verbs.Chown ∷ verbs.Touch ∷ verbs.Mknod ∷ verbs.Boot ∷ verbs.Salvage ∷ verbs.Repair ∷ verbs.Resize ∷ verbs.Play ∷ verbs.Migrate
     ∷ verbs.Serve ∷ verbs.Identify ∷ []
 

@@ -2,6 +2,7 @@
 
 pub(crate) mod block;
 pub(crate) mod boot;
+pub(crate) mod build;
 pub(crate) mod cat;
 pub(crate) mod check;
 pub(crate) mod chmod;
@@ -37,4 +38,5 @@ pub(crate) mod salvage;
 pub(crate) mod serve;
 pub(crate) mod sums;
 pub(crate) mod super_block;
+pub(crate) mod sync;
 pub(crate) mod touch;

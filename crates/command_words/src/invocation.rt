@@ -111,10 +111,30 @@ pub enum Copying<'a> {
         now: Moment<'a>,
         trace: bool,
     },
-    /// Write files of the volume into a folder, each under its last name; if `keeps`, with their permissions and times of modification.
+    /// Put folders with all below them into a directory of the volume, each under its last name, and else as files are put.
+    PutTree {
+        directory: &'a str,
+        folders: Vec<&'a str>,
+        keep: Keep,
+        owner: Option<Cred>,
+        now: Moment<'a>,
+        trace: bool,
+    },
+    /// Make a directory of the volume what a folder is, and give what is made or put this owner, if any; `now` is the time of the calls; if `is_trial`,
+    /// only print what would be done.
+    Sync {
+        directory: &'a str,
+        folder: &'a str,
+        owner: Option<Cred>,
+        now: u32,
+        is_trial: bool,
+    },
+    /// Write files of the volume into a folder, each under its last name; if `is_deep`, also directories with everything below them; if `keeps`, with
+    /// their permissions and times of modification.
     Get {
         folder: &'a str,
         paths: Vec<&'a str>,
+        is_deep: bool,
         keeps: bool,
     },
 }
@@ -149,6 +169,11 @@ pub enum Invocation<'a> {
     Mkfs {
         place: NewPlace<'a>,
         volume: NewVolume,
+    },
+    /// Make a volume of all that the list in the file `list` has.
+    Build {
+        list: &'a str,
+        new: MadeFile<'a>,
     },
     /// Make a volume of the seventh edition in the file `new` from the one of the sixth in the file `old`, which begins at block `at`.
     Migrate {
@@ -233,8 +258,10 @@ impl<'a> Invocation<'a> {
         ensures { result ≡ volume_of self.now }
     {
         match self {
-            Invocation::Mkfs { .. } | Invocation::Migrate { .. } | Invocation::Identify { .. } =>
-                None,
+            Invocation::Mkfs { .. }
+            | Invocation::Build { .. }
+            | Invocation::Migrate { .. }
+            | Invocation::Identify { .. } => None,
             Invocation::Cat { volume, .. }
             | Invocation::Get { volume, .. }
             | Invocation::Salvage { volume, .. }
@@ -303,8 +330,10 @@ impl<'a> Invocation<'a> {
             Invocation::Work { work, .. } => Invocation::Work { volume, work },
             Invocation::Serve { serving, .. } => Invocation::Serve { volume, serving },
             Invocation::Diff { other, by, .. } => Invocation::Diff { volume, other, by },
-            Invocation::Mkfs { .. } | Invocation::Migrate { .. } | Invocation::Identify { .. } =>
-                self,
+            Invocation::Mkfs { .. }
+            | Invocation::Build { .. }
+            | Invocation::Migrate { .. }
+            | Invocation::Identify { .. } => self,
         }
     }
 }

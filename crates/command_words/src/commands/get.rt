@@ -1,5 +1,5 @@
 //! The command `get`.
-ghost use Rattle.std.specs.Prelude.{◌≡◌, ◌≢◌, None, false, true, IfErr, IfOk, codes};
+ghost use Rattle.std.specs.Prelude.{◌≡◌, ◌≢◌, ◌⊎◌, None, false, true, IfErr, IfOk, codes};
 ghost use Rattle.command_words.specs.Invocations.{AsksFor, AsksForNothing, TellsOf, is_set};
 ghost use Rattle.command_words.specs.declared.verbs.Verb.TheVariants as verbs;
 
@@ -17,7 +17,8 @@ use std::alloc::Global;
 
 pub(crate) const NAME: &str = "get";
 
-pub(crate) const ABOUT: &str = "Prints a file of a volume, or writes several files into a folder.";
+pub(crate) const ABOUT: &str =
+    "Prints a file of a volume, or writes files and directories into a folder.";
 
 pub(crate) const USAGE: &str = "\
 unixvol get [OPTIONS] <EDITION> <IMAGE> <PATH>
@@ -28,6 +29,7 @@ Examples:
   unixvol get 7 disk.img /etc/passwd > passwd
   unixvol get 7 disk.img -o out /etc/passwd /etc/group
   unixvol get 7 disk.img -p -o out /bin/pwd
+  unixvol get 7 disk.img -r -p -o out /usr/src
 
 The file's bytes are printed to standard output; missing blocks read as zeros.
 
@@ -36,8 +38,15 @@ have the same last name. Nothing is written until all files have been read from 
 replaced without asking: a new file is written beside it and then takes its place, so each file is written whole
 or not at all.
 
+With -r too, a PATH may be a directory, and is copied with everything below it, as by `cp -r`: /usr/src above becomes
+out/src. What is in the root is written into FOLDER itself. FOLDER and the directories in it are made if they aren't
+there; a directory that is there is used, and nothing is removed from it. Nothing is written until everything has been
+read. A further name of a file becomes a file of its own. Special files aren't copied, nor is what has a path above 4096
+bytes or one that isn't UTF-8 text: standard error has a line for each of them, and the rest is written.
+
 With -p too, each file gets its permissions and its time of last modification from the volume, before it takes its
 place. It belongs to the caller, so the set-user-ID and set-group-ID bits are left out, and so is the sticky bit.
+With -r, directories get theirs last, when everything is in them.
 
 A path starts at the root, with or without a leading slash. Repeated slashes count as one, trailing slashes are
 ignored, and each name is cut to 14 bytes. Without --unsound the volume must be sound: its twelve rules are checked
@@ -60,12 +69,13 @@ Status:
      `unixvol: 20 NotDirectory`: PATH leads through something that isn't a directory
      `unixvol: 21 IsDirectory`, `unixvol: 102 NotRegular`: PATH is a directory, or a special file
      With -o, all of these lines but the first end with the path, as in `unixvol: 2 NoEntry: /etc/group`
+     With -r, `unixvol: /dev/tty: a special file`, and other lines about what isn't copied; the rest was written
      if blocks are lost (--cut, --bad, --bad-blocks, --sizes, --like): nothing is lost of the file or on the way to it,
      and it was printed
   2  the command line is wrong; or no volume of the edition has the sizes of --sizes or --like
   3  `unixvol: cannot read IMAGE`, or `unixvol: cannot write -`: standard output failed; with -o,
      `unixvol: cannot write FILE`: this file in FOLDER can't be written; the files before it were written; or MAPFILE
-     can't be read
+     can't be read; with -r, also if a file is where a directory must be, or a symbolic link
   4  `unixvol: 12 NoMemory`
   5  if blocks are lost: something is lost of the file, which was not printed without --damaged, or on the way to it; or
      PATH isn't found and something is lost on the way, as standard error says
@@ -77,6 +87,8 @@ const EMPTY_FOLDER: &str = "it is empty; the current folder is .";
 const WANTS_OUTPUT: &str = "one file is printed, as by > FILE; several need -o FOLDER";
 
 const KEEPS_IN_FOLDER: &str = "-p is for files in a folder: it needs -o FOLDER";
+
+const COPIES_INTO_FOLDER: &str = "-r copies into a folder: it needs -o FOLDER";
 
 const MORE_FILES: Parameter = Parameter {
     name: "MORE",
@@ -99,10 +111,17 @@ const PRESERVE: Parameter = Parameter {
     help: "With -o, give the files their permissions and modification times from the volume",
 };
 
+const RECURSIVE: Parameter = Parameter {
+    name: "recursive",
+    kind: WordKind::Flag,
+    need: Need::Flag(Some('r')),
+    help: "With -o, copy directories too, with everything below them",
+};
+
 /// The words that `get` takes.
 pub(crate) const WORDS: &[Parameter] = &[
-    EDITION, IMAGE, AT, NAMED, MORE_FILES, OUTPUT, PRESERVE, UNSOUND, CUT, BAD, BAD_BLOCKS, SIZES,
-    LIKE, DAMAGED,
+    EDITION, IMAGE, AT, NAMED, MORE_FILES, OUTPUT, PRESERVE, RECURSIVE, UNSOUND, CUT, BAD,
+    BAD_BLOCKS, SIZES, LIKE, DAMAGED,
 ];
 
 /// Reads the words of `get`.
@@ -126,6 +145,7 @@ pub(crate) fn read<'a, G: Given<'a>>(
             let copying = Copying::Get {
                 folder,
                 paths,
+                is_deep: flag_in(given, "recursive"),
                 keeps: flag_in(given, "preserve"),
             };
             Ok(Invocation::Copy { volume, copying })
@@ -133,7 +153,7 @@ pub(crate) fn read<'a, G: Given<'a>>(
         None => {
             let path = text_in(given, "PATH");
             no_more(given, WANTS_OUTPUT)?;
-            nothing_kept(given)?;
+            folder_unused(given)?;
             if is_plain(given, &bad) {
                 return Ok(Invocation::Get { volume, path });
             }
@@ -166,14 +186,18 @@ fn not_bad<'a, G: Given<'a>>(given: &G, bad: &Option<BadImage<'a>>) -> Result<()
     }
 }
 
-/// Succeeds if the words don't request that permissions and times are kept, which only files in a folder can be given.
-fn nothing_kept<'a, G: Given<'a>>(given: &G) -> Result<(), WordFault<'a>>
-    ensures none { IfOk result (λ _. is_set (G.words given.now (codes "preserve")) ≡ false) }
-    ensures refused { IfErr result (TellsOf (is_set (G.words given.now (codes "preserve")) ≡ true)) }
+/// Succeeds if the words don't request what needs a folder: that permissions and times are kept, or that directories are copied.
+fn folder_unused<'a, G: Given<'a>>(given: &G) -> Result<(), WordFault<'a>>
+    ensures preserve { IfOk result (λ _. is_set (G.words given.now (codes "preserve")) ≡ false) }
+    ensures recursive { IfOk result (λ _. is_set (G.words given.now (codes "recursive")) ≡ false) }
+    ensures refused { IfErr result (TellsOf ((is_set (G.words given.now (codes "preserve")) ≡ true)
+        ⊎ (is_set (G.words given.now (codes "recursive")) ≡ true))) }
 {
     if flag_in(given, "preserve") {
-        Err(missing("FOLDER", KEEPS_IN_FOLDER))
-    } else {
-        Ok(())
+        return Err(missing("FOLDER", KEEPS_IN_FOLDER));
     }
+    if flag_in(given, "recursive") {
+        return Err(missing("FOLDER", COPIES_INTO_FOLDER));
+    }
+    Ok(())
 }

@@ -1,10 +1,10 @@
 //! The command `put`.
-ghost use Rattle.std.specs.Prelude.{IfErr, IfOk};
-ghost use Rattle.command_words.specs.Invocations.{AsksFor, AsksForNothing, IsKeepGiven, TellsOf};
+ghost use Rattle.std.specs.Prelude.{◌≡◌, true, false, IfErr, IfOk, codes};
+ghost use Rattle.command_words.specs.Invocations.{AsksFor, AsksForNothing, IsKeepGiven, TellsOf, is_set};
 ghost use Rattle.command_words.specs.declared.verbs.Verb.TheVariants as verbs;
 
 use crate::fault::WordFault;
-use crate::given::{Given, flag_in, moment_in, owner_in, text_in};
+use crate::given::{Given, flag_in, missing, moment_in, owner_in, text_in};
 use crate::invocation::{Copying, Invocation};
 use crate::parameters::{AT, EDITION, IMAGE, Need, OWNER, Parameter, TRACE, ValueName, WordKind};
 use crate::read_words::volume_in;
@@ -16,17 +16,19 @@ use std::alloc::Global;
 pub(crate) const NAME: &str = "put";
 
 pub(crate) const ABOUT: &str =
-    "Puts a file into a volume, or several files into a directory of it.";
+    "Puts a file into a volume, or several files or folders into a directory of it.";
 
 pub(crate) const USAGE: &str = "\
 unixvol put [OPTIONS] <EDITION> <IMAGE> <PATH> <FILE> [NOW]
-       unixvol put [OPTIONS] <EDITION> <IMAGE> -t <DIR> <FILE>... [NOW]";
+       unixvol put [OPTIONS] <EDITION> <IMAGE> -t <DIR> <FILE>... [NOW]
+       unixvol put -r [OPTIONS] <EDITION> <IMAGE> -t <DIR> <FOLDER>... [NOW]";
 
 pub(crate) const MORE: &str = "\
 Examples:
   unixvol put 7 disk.img /etc/motd motd 173750400
   unixvol put 7 disk.img -t /usr/src a.c b.c c.c
   unixvol put 7 disk.img -p -t /bin pwd who
+  unixvol put 7 disk.img -r -t /usr/src cmd games
   unixvol put 7 disk.img /usr/ken/profile profile --owner 3:1
 
 PATH is in the volume, and comes before FILE, which is outside it. A new file is made with permissions 0644, user
@@ -45,6 +47,11 @@ last name, and a last name longer than 14 bytes is refused, never cut. An existi
 above. The image is saved once: with all files or with none. If the last of two or more words is a number or a
 date, it is NOW; if a file has that name too, nothing is put. Write the name of such a file as ./123.
 
+With -r, folders are put into DIR with all below them, each under its last name. Directories that are missing are
+made, with permissions 0755 or those that -p or -x keep, but not DIR itself; those that are there keep theirs. A
+folder may have regular files and folders only: anything else, a symbolic link for example, is reported with its
+path, and nothing is done. `unixvol sync` puts only what differs.
+
 IMAGE is written only if everything succeeded: a new file is written beside it and then takes its place.
 The new file has IMAGE's permissions. If IMAGE is a device, the bytes are written into it; it can't be a pipe or a
 terminal.
@@ -61,17 +68,22 @@ Status:
      `unixvol: 104 BadId`: UID or GID of --owner is above the edition's highest
      `unixvol: 28 NoSpace`, `unixvol: 103 NoInode`: there are too few free blocks, or there is no free i-node
      With -t, all of these lines but the first end with the path in the volume, as in
-     `unixvol: 28 NoSpace: /src/a.c`; and `unixvol: NAME: a name above 14 bytes` has the last name of a file
+     `unixvol: 28 NoSpace: /src/a.c`; and `unixvol: NAME: a name above 14 bytes` has the last name of a file,
+     or, with -r, the path below DIR
+     With -r, `unixvol: 17 Exists: PATH`: a file is there, and a folder outside
   2  the command line is wrong; or
      `unixvol: WORD: a moment, and a file too`: WORD is a file and could be NOW; write ./WORD, or another NOW
   3  `unixvol: cannot read IMAGE`, `unixvol: cannot read FILE`, `unixvol: cannot write IMAGE`; with -p, also if
-     FILE was modified before 1970 or after 7 February 2106, which no volume can say
+     FILE was modified before 1970 or after 7 February 2106, which no volume can say; with -r, FILE may be below a
+     folder, and is not read if it is neither a file nor a folder
      `unixvol: cannot write -`: with --trace, standard output failed, after the volume was saved
   4  `unixvol: 12 NoMemory`";
 
 const EMPTY_TARGET: &str = "it is empty; the root is /";
 
 const WANTS_TARGET: &str = "several files need -t DIR";
+
+const FOLDERS_WANT_TARGET: &str = "folders need -t DIR";
 
 const FIRST: Parameter = Parameter {
     name: "PATH",
@@ -108,6 +120,13 @@ const TARGET: Parameter = Parameter {
     help: "Put the files into this directory of the volume, each under its last name",
 };
 
+const RECURSIVE: Parameter = Parameter {
+    name: "recursive",
+    kind: WordKind::Flag,
+    need: Need::Flag(Some('r')),
+    help: "With -t, put folders with all below them",
+};
+
 const PRESERVE: Parameter = Parameter {
     name: "preserve",
     kind: WordKind::Flag,
@@ -124,7 +143,8 @@ const EXECUTABLE: Parameter = Parameter {
 
 /// The words that `put` takes.
 pub(crate) const WORDS: &[Parameter] = &[
-    EDITION, IMAGE, AT, FIRST, FILE, NOW, MORE_FILES, TARGET, PRESERVE, EXECUTABLE, OWNER, TRACE,
+    EDITION, IMAGE, AT, FIRST, FILE, NOW, MORE_FILES, TARGET, RECURSIVE, PRESERVE, EXECUTABLE,
+    OWNER, TRACE,
 ];
 
 /// Reads the words of `put`.
@@ -142,13 +162,26 @@ pub(crate) fn read<'a, G: Given<'a>>(
         Some(directory) => {
             not_empty("DIR", directory, EMPTY_TARGET)?;
             let PutFiles { files, now } = files_in(alloc, given, clock)?;
-            let copying = Copying::Put {
-                directory,
-                files,
-                keep: keep_in(given),
-                owner,
-                now,
-                trace: flag_in(given, "trace"),
+            let keep = keep_in(given);
+            let trace = flag_in(given, "trace");
+            let copying = if flag_in(given, "recursive") {
+                Copying::PutTree {
+                    directory,
+                    folders: files,
+                    keep,
+                    owner,
+                    now,
+                    trace,
+                }
+            } else {
+                Copying::Put {
+                    directory,
+                    files,
+                    keep,
+                    owner,
+                    now,
+                    trace,
+                }
             };
             Ok(Invocation::Copy { volume, copying })
         }
@@ -156,6 +189,7 @@ pub(crate) fn read<'a, G: Given<'a>>(
             let path = text_in(given, "PATH");
             let file = file_in(given)?;
             no_more(given, WANTS_TARGET)?;
+            no_folders(given)?;
             let now = moment_in(given, clock)?;
             let change = Change::Put {
                 path,
@@ -170,6 +204,18 @@ pub(crate) fn read<'a, G: Given<'a>>(
                 trace: flag_in(given, "trace"),
             })
         }
+    }
+}
+
+/// Succeeds if the words don't request that folders are put, which are put into a directory alone.
+fn no_folders<'a, G: Given<'a>>(given: &G) -> Result<(), WordFault<'a>>
+    ensures none { IfOk result (λ _. is_set (G.words given.now (codes "recursive")) ≡ false) }
+    ensures refused { IfErr result (TellsOf (is_set (G.words given.now (codes "recursive")) ≡ true)) }
+{
+    if flag_in(given, "recursive") {
+        Err(missing("DIR", FOLDERS_WANT_TARGET))
+    } else {
+        Ok(())
     }
 }
 

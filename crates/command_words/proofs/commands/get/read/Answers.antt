@@ -1,7 +1,7 @@
 use Rattle.std.proofs.Common.{drop, subst, sym}
 use Rattle.command_words.proofs.BadLooks.{get_asked}
 use Rattle.command_words.proofs.BadWords.{get_wrong}
-use Rattle.command_words.proofs.Copies.{bad_got, empty_output, kept_got, no_paths, too_many_got, unsound_got}
+use Rattle.command_words.proofs.Copies.{bad_got, empty_output, into_nothing, no_paths, too_many_got, unsound_got}
 use Rattle.command_words.proofs.Faults.{hands_on}
 use Rattle.command_words.proofs.Values.{no_value, volume_wrong}
 use Rattle.command_words.specs.BadWords.{IsBadImageGiven}
@@ -30,10 +30,10 @@ returns-in_err-not_empty-in-Some-clause-refused g c =
     hands_on _ _ _ _ c.from_residual-in_err-not_empty-in-Some.ensures.1 c.in_err-not_empty-in-Some.ensures.refused
     (empty_output c.args._clock (g.G.Given.words c.args.given.now) c.in-Some.folder.now (sym c.in-Some.ensures))
 
-pub returns-in_err-nothing_kept-in-None-clause-refused : goal.returns-in_err-nothing_kept-in-None-clause-refused
-returns-in_err-nothing_kept-in-None-clause-refused g c =
-    hands_on _ _ _ _ c.from_residual-in_err-nothing_kept-in-None.ensures.1 c.in_err-nothing_kept-in-None.ensures.refused
-    (kept_got c.args._clock (g.G.Given.words c.args.given.now) (sym c.in-None.ensures))
+pub returns-in_err-folder_unused-in-None-clause-refused : goal.returns-in_err-folder_unused-in-None-clause-refused
+returns-in_err-folder_unused-in-None-clause-refused g c =
+    hands_on _ _ _ _ c.from_residual-in_err-folder_unused-in-None.ensures.1 c.in_err-folder_unused-in-None.ensures.refused
+    (into_nothing c.args._clock (g.G.Given.words c.args.given.now) (sym c.in-None.ensures))
 
 pub returns-in_err-not_unsound-in-Some-clause-refused : goal.returns-in_err-not_unsound-in-Some-clause-refused
 returns-in_err-not_unsound-in-Some-clause-refused g c =
@@ -54,7 +54,12 @@ pub returns-clause-read : goal.returns-clause-read
 returns-clause-read g c =
     subst (AsksFor c.args._clock verbs.Get (g.G.Given.words c.args.given.now)) (sym c.look_at.ensures)
     (get_asked c.args._clock (g.G.Given.words c.args.given.now) c.in_ok-volume.volume c.text_in-path.result c.flag_in-damaged.result c.in_ok-bad.bad
-    c.in_ok-volume.ensures.read
-    (c.text_in-path.ensures, c.in_ok-no_more-in-None.ensures.none, sym c.in-None.ensures, c.in_ok-nothing_kept-in-None.ensures.none)
+    c.in_ok-volume.ensures.read (
+      c.text_in-path.ensures,
+      c.in_ok-no_more-in-None.ensures.none,
+      sym c.in-None.ensures,
+      c.in_ok-folder_unused-in-None.ensures.preserve,
+      c.in_ok-folder_unused-in-None.ensures.recursive,
+    )
     c.flag_in-damaged.ensures (c.is_plain.ensures.other c.if-is_plain.false)
     (subst (λ cut. IsBadImageGiven (g.G.Given.words c.args.given.now) c.in_ok-volume.volume.edition cut c.in_ok-bad.bad) c.flag_in-cut.ensures c.in_ok-bad.ensures.read))

@@ -20,6 +20,7 @@ same_work (invocations.Work old w) found volume work is = let same : w ≡ work 
 same_work (invocations.Cat old node) found volume work is = absurd (cc)
 same_work (invocations.Mkfs image made) found volume work is = absurd (cc)
 same_work (invocations.Migrate old at new migration) found volume work is = absurd (cc)
+same_work (invocations.Build list new) found volume work is = absurd (cc)
 same_work (invocations.Get old path) found volume work is = absurd (cc)
 same_work (invocations.Salvage old copy) found volume work is = absurd (cc)
 same_work (invocations.Repair old copy repairing) found volume work is = absurd (cc)

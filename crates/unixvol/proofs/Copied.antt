@@ -5,7 +5,8 @@ use Rattle.std.specs.Global.{Vec}
 use Rattle.std.proofs.lemmas.List.{map-append, take_more}
 use Rattle.command_reads.specs.declared.get.FileRead.{FileRead}
 use Rattle.command_changes.specs.declared.put.NewFile.{NewFile}
-use Rattle.unixvol.specs.Copies.{AreSaved, EndsRead, name_of}
+use Rattle.command_copies.specs.Trees.{name_of}
+use Rattle.unixvol.specs.Copies.{AreSaved, EndsRead}
 use Rattle.unixvol.specs.FileFaults.{file_status, saved_status}
 use Rattle.unixvol.specs.Runs.{IsStatusOfFileOrMemory}
 use Rattle.unixvol.specs.declared.file_fault.FileFault.{FileFault}

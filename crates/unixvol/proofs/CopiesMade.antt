@@ -14,14 +14,14 @@ use Rattle.unixvol.specs.Reports.{IsReportTold}
 use Rattle.unixvol.specs.Runs.{Ends, IsStatusOfFileOrMemory, ReportsCopy, RunsCopying, SavesCopy, but_remarks, host_files}
 
 -- the end of a run that reports a fault
-ends_told : (streams : Streams) (fault : Fault) (status : ℕ) → IsTold streams fault status → Ends streams status
+pub ends_told : (streams : Streams) (fault : Fault) (status : ℕ) → IsTold streams fault status → Ends streams status
 ends_told streams fault status told =
     let one : 1 ≤ status = subst (λ n. 1 ≤ n) (sym told.status) (fault_few fault).0 in
     let four : status ≤ 4 = subst (λ n. n ≤ 4) (sym told.status) (fault_few fault).1 in
     record { within = four; silent = λ _ _. told.kept; whole = λ e. absurd (omega (arith, one, e)) }
 
 -- the end of a run that prints a text
-ends_printed : (streams : Streams) (text : List ℕ) (status : ℕ) → Prints streams text status → Ends streams status
+pub ends_printed : (streams : Streams) (text : List ℕ) (status : ℕ) → Prints streams text status → Ends streams status
 ends_printed streams text status (inl printed) = record {
   within = omega (arith, printed.status);
   silent = λ some _. absurd (some printed.status);
@@ -34,7 +34,7 @@ ends_printed streams text status (inr broken) = record {
 }
 
 -- the end of a run that saves nothing
-ends_unsaved : (streams : Streams) (status : ℕ) → IsStatusOfFileOrMemory status → Keeps streams.old streams.new → Ends streams status
+pub ends_unsaved : (streams : Streams) (status : ℕ) → IsStatusOfFileOrMemory status → Keeps streams.old streams.new → Ends streams status
 ends_unsaved streams status (inl three) kept =
     record { within = omega (arith, three); silent = λ _ _. kept; whole = λ e. absurd (omega (arith, three, e)) }
 ends_unsaved streams status (inr four) kept =

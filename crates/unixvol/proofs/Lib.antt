@@ -7,13 +7,16 @@ pub mod Concluded
 pub mod Copied
 pub mod Done
 pub mod FileFaults
+pub mod FilledLists
 pub mod Given
 pub mod Identified
 pub mod Looked
 pub mod MadeVolumes
 pub mod Played
+pub mod CopiedTrees
 pub mod CopiesMade
 pub mod RepairedBad
 pub mod Saved
+pub mod Synced
 pub mod Traced
 pub mod VisitedBelow

@@ -49,7 +49,7 @@ traced_end taken (Err fault) answer saved streams status ok err (inl own) quiet 
 traced_end taken (Err fault) answer saved streams status ok err (inr file) quiet prints = absurd (true≢false (sym (subst IsSome err.0 file.0)))
 
 -- a quiet run ends, if its status is 1 to 4
-quiet_ends : (wanted : ℕ) (lines told : List ℕ) (streams : Streams) (status : ℕ) → 1 ≤ wanted → wanted ≤ 4 → IsQuiet wanted lines streams status
+pub quiet_ends : (wanted : ℕ) (lines told : List ℕ) (streams : Streams) (status : ℕ) → 1 ≤ wanted → wanted ≤ 4 → IsQuiet wanted lines streams status
     → EndsWith told streams status
 quiet_ends wanted lines told streams status least most quiet = let is = quiet.ended in record {
   within = omega (arith, is, most);
@@ -58,7 +58,7 @@ quiet_ends wanted lines told streams status least most quiet = let is = quiet.en
 }
 
 -- a run that prints a trace, or has none to print, ends with the lines
-printed_ends : (trace : Option (Vec ℕ)) (lines told : List ℕ) (streams : Streams) (status : ℕ) → lines ≡ told → PrintsTrace trace lines streams status
+pub printed_ends : (trace : Option (Vec ℕ)) (lines told : List ℕ) (streams : Streams) (status : ℕ) → lines ≡ told → PrintsTrace trace lines streams status
     → EndsWith told streams status
 printed_ends None lines told streams status same quiet = let is = quiet.ended in record {
   within = omega (arith, is);

@@ -143,6 +143,7 @@ visit_few : {F : Type 0} (remaining : F → Option (List ℕ)) (stamped : F → 
     → IsVisitOf remaining stamped stood listed form kind path line more one → one ≤ 4
 visit_few remaining stamped stood listed form found_kinds.File path line more one is = line_few remaining stamped stood form path line one is.0
 visit_few remaining stamped stood listed form found_kinds.Folder path line more one is = opened_few listed path more one is.0
+visit_few remaining stamped stood listed form found_kinds.Other path line more one is = omega (arith, is.2)
 
 -- so is the greatest of them
 visits_few : {F : Type 0} (remaining : F → Option (List ℕ)) (stamped : F → Stamp → Type 0) (stood : Stamp → Type 0) (listed : List ℕ → FolderListing → Type 0) (form : GuessForm) (count : ℕ) (start left : List Found) (lines : List ℕ) (status : ℕ)

@@ -40,10 +40,12 @@ IsOpened listed path more status =
     ((listing : FolderListing) × listed path listing × AreStacked listing.found.items more × (status ≡ listing_status listing.fault))
     ⊎ (IsStatusOfFileOrMemory status × (more ≡ []))
 
--- a visit of what is at a path, with this status: of a file its line is printed; of a folder nothing, and `more` is put on the stack (this project)
+-- a visit of what is at a path, with this status: of a file its line is printed; of a folder nothing, and `more` is put on the stack; of what is neither
+-- nothing (this project)
 abbrev pub IsVisitOf : {F : Type 0} → (F → Option (List ℕ)) → (F → Stamp → Type 0) → (Stamp → Type 0) → (List ℕ → FolderListing → Type 0) → GuessForm → FoundKind → List ℕ → List ℕ → List Found → ℕ → Type 0
 IsVisitOf remaining stamped stood listed form found_kinds.File path line more status = IsLine remaining stamped stood form path line status × (more ≡ [])
 IsVisitOf remaining stamped stood listed form found_kinds.Folder path line more status = IsOpened listed path more status × (line ≡ [])
+IsVisitOf remaining stamped stood listed form found_kinds.Other path line more status = (line ≡ []) × (more ≡ []) × (status ≡ 0)
 
 -- the same of what was found (this project)
 abbrev pub IsVisit : {F : Type 0} → (F → Option (List ℕ)) → (F → Stamp → Type 0) → (Stamp → Type 0) → (List ℕ → FolderListing → Type 0) → GuessForm → Found → List ℕ → List Found → ℕ → Type 0

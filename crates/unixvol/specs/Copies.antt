@@ -1,9 +1,8 @@
 -- The result of copying several files between the host and a volume.
-use Rattle.std.specs.Prelude.{All, ◌≡◌, ◌⊎◌, ℕ, List, [], map, Option, Some, IfSome, Result, Ok, Err, Bool, true, false, unwrap_or}
+use Rattle.std.specs.Prelude.{All, ◌≡◌, ◌⊎◌, ℕ, List, [], map, Option, Some, IfSome, Result, Ok, Err, Bool, true, false}
 use Rattle.std.specs.Global.{Vec}
 use Rattle.std.specs.Borrow.{Bor}
 use Rattle.std.specs.Io.KnownBytes.{Keeps}
-use Rattle.std.specs.Path.{path_file_name}
 use Rattle.vol_dir.specs.declared.cred.Cred.{Cred}
 use Rattle.vol_import.specs.Make.{told}
 use Rattle.vol_volume.specs.Volume.{reads_as}
@@ -17,19 +16,23 @@ use Rattle.command_words.specs.declared.invocation.Copying.{Copying}
 use Rattle.command_words.specs.declared.invocation.Copying.TheVariants as copyings
 use Rattle.command_words.specs.declared.invocation.Moment.{Moment}
 use Rattle.command_reads.specs.GetFiles.{GetsFiles}
+use Rattle.command_copies.specs.Trees.{GetsTrees, name_of, told_status}
+use Rattle.command_copies.specs.declared.nodes.NodeContent.{NodeContent}
+use Rattle.command_copies.specs.declared.nodes.NodeContent.TheVariants as contents
+use Rattle.command_copies.specs.declared.nodes.NodeRead.{NodeRead}
+use Rattle.command_copies.specs.declared.trees.TreesRead.{TreesRead}
+use Rattle.host_files.specs.Folders.{IsFolderThere}
 use Rattle.command_changes.specs.Import.{of_import}
 use Rattle.command_changes.specs.Put.{calls_to_put}
 use Rattle.command_reads.specs.declared.get.FileRead.{FileRead}
 use Rattle.command_terms.specs.declared.options.Keep.{Keep}
 use Rattle.command_changes.specs.declared.put.NewFile.{NewFile}
+use Rattle.command_changes.specs.declared.sync.Unchanged.TheVariants as unchanged
 use Rattle.unixvol.specs.Exits.{ExitsAfterSaving, ToEnd}
 use Rattle.unixvol.specs.Runs.{Ends, HostFiles, IsGivenFile, IsStatusOfFileOrMemory, RunsNothing}
+use Rattle.unixvol.specs.Syncs.{Listings, PutsTrees, RunsSync}
 use Rattle.unixvol.specs.Traces.{EndsTraced}
 use Rattle.host_files.specs.declared.image_file.Stamp.{Stamp}
-
--- the last name of a path; empty if the path ends in `..` or has no names (std::path)
-abbrev pub name_of : List ℕ → List ℕ
-name_of path = unwrap_or (path_file_name path) []
 
 -- bytes read from files are new files, with what is kept of them, and have these names (this project)
 abbrev pub AreGiven : (List ℕ → Type 0) → Keep → List (List ℕ) → List NewFile → Type 0
@@ -91,14 +94,52 @@ RunsGet streams files edition paths status =
     ⊎ ((image : List ℕ) × (read : Result (Vec FileRead) Fault) × files.shown edition image × GetsFiles edition image paths read
     × Keeps streams.old streams.new × (streams.failed ≡ streams.had_failed) × EndsRead files.taken streams.lines read status)
 
+-- a node was copied to the host: all bytes of a file were written to a file, or the system reported that a folder is there for a directory (this
+-- project)
+abbrev pub IsCopied : (List ℕ → Type 0) → (Stamp → Type 0) → NodeContent → Type 0
+IsCopied taken stood contents.Directory = IsFolderThere stood
+IsCopied taken stood (contents.File bytes) = taken bytes.items
+
+-- all these nodes were copied to the host (this project)
+abbrev pub AreCopied : (List ℕ → Type 0) → (Stamp → Type 0) → List NodeRead → Type 0
+AreCopied taken stood nodes = All (λ (node : NodeRead). IsCopied taken stood node.content) nodes
+
+-- a run ends after trees were read from a volume: if all was copied, the status is 0, or 1 if there are lines about what isn't copied, otherwise that of
+-- a file, and these lines are reported; or, if they weren't read, the fault is reported, with its status (this project)
+abbrev pub EndsCopied : (List ℕ → Type 0) → (Stamp → Type 0) → List ℕ → Result TreesRead Fault → ℕ → Type 0
+EndsCopied taken stood lines (Ok read) status =
+    (((status ≡ told_status read.lines.items) × AreCopied taken stood read.nodes.items) ⊎ IsStatusOfFileOrMemory status) × (lines ≡ read.lines.items)
+EndsCopied taken stood lines (Err fault) status = (status ≡ fault_status fault) × (lines ≡ fault_line fault)
+
+-- the trees at these paths of a volume are copied to the host: nothing is done; or nothing is printed, the trees are read from an image, which is read
+-- from a file, and are saved once all are read (this project)
+abbrev pub RunsGetTrees : Streams → HostFiles → Edition → List (List ℕ) → ℕ → Type 0
+RunsGetTrees streams files edition paths status =
+    RunsNothing streams files status
+    ⊎ ((image : List ℕ) × (read : Result TreesRead Fault) × files.shown edition image × GetsTrees edition image paths read
+    × Keeps streams.old streams.new × (streams.failed ≡ streams.had_failed) × EndsCopied files.taken files.stood streams.lines read status)
+
+-- folders are put: if the word that was read as the time is also a file's path, nothing is done; otherwise all of them are put, whether they differ or
+-- not (this project)
+abbrev pub RunsPutTree : Streams → HostFiles → Standing → Listings → Edition → Bor (List ℕ) → List (List ℕ) → Keep → Option Cred → Moment → Bool → ℕ → Type 0
+RunsPutTree streams files stands listed edition directory folders keep owner now trace status =
+    LeavesMoment streams stands now status
+    ⊎ (IsMomentAlone stands now
+    × PutsTrees streams files listed edition (record { directory = directory; owner = owner; unchanged = unchanged.Put; now = now.seconds }) folders keep trace status)
+
 -- several files are copied (this project)
-abbrev pub RunsCopy : Streams → HostFiles → Standing → Edition → Copying → ℕ → Type 0
-RunsCopy streams files stands edition (copyings.Put directory paths keep owner now trace) status =
+abbrev pub RunsCopy : Streams → HostFiles → Standing → Listings → Edition → Copying → ℕ → Type 0
+RunsCopy streams files stands listed edition (copyings.PutTree directory folders keep owner now trace) status =
+    RunsPutTree streams files stands listed edition directory (map (λ folder. folder.now) folders.items) keep owner now trace status
+RunsCopy streams files stands listed edition (copyings.Sync directory folder owner now is_trial) status =
+    RunsSync streams files listed edition (record { directory = directory; owner = owner; unchanged = unchanged.Skip; now = now }) folder.now is_trial status
+RunsCopy streams files stands listed edition (copyings.Put directory paths keep owner now trace) status =
     RunsPut streams files stands edition directory.now (map (λ path. name_of path.now) paths.items) keep owner now trace status
-RunsCopy streams files stands edition (copyings.Get folder paths keeps) status = RunsGet streams files edition (map (λ path. path.now) paths.items) status
+RunsCopy streams files stands listed edition (copyings.Get folder paths true keeps) status = RunsGetTrees streams files edition (map (λ path. path.now) paths.items) status
+RunsCopy streams files stands listed edition (copyings.Get folder paths false keeps) status = RunsGet streams files edition (map (λ path. path.now) paths.items) status
 
 -- a command that copies several files runs to its end, as a plain command does (this project)
-abbrev pub CopiesToEnd : HostFiles → Standing → Option (List ℕ) → Option (List ℕ) → Edition → Copying → ℕ → Type 0
-CopiesToEnd files stands output errors edition copying end =
-    ToEnd output errors (λ streams status. RunsCopy streams files stands edition copying status) Ends
+abbrev pub CopiesToEnd : HostFiles → Standing → Listings → Option (List ℕ) → Option (List ℕ) → Edition → Copying → ℕ → Type 0
+CopiesToEnd files stands listed output errors edition copying end =
+    ToEnd output errors (λ streams status. RunsCopy streams files stands listed edition copying status) Ends
     ExitsAfterSaving end

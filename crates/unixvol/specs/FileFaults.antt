@@ -10,6 +10,7 @@ use Rattle.unixvol.specs.declared.file_fault.FileFault.TheVariants as faults
 -- (this project)
 abbrev pub file_status : FileFault → ℕ
 file_status (faults.Unread file why) = 3
+file_status (faults.UnreadBelow path why) = 3
 file_status (faults.Short path block) = 3
 file_status (faults.Unwritten file why) = 3
 file_status (faults.Uncopied place why) = 3

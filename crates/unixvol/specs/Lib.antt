@@ -1,4 +1,5 @@
 pub mod Below
+pub mod Builds
 pub mod Compare
 pub mod Copies
 pub mod Editions
@@ -11,4 +12,5 @@ pub mod Reports
 pub mod Resize
 pub mod Runs
 pub mod Serve
+pub mod Syncs
 pub mod Traces

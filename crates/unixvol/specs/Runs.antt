@@ -1,5 +1,5 @@
 -- The result of a run of the program, from the bytes that its files give.
-use Rattle.std.specs.Prelude.{All, length, nat_le, nat_lt, ◌≡◌, ◌≢◌, ◌⊎◌, ◌↔◌, ◌≤◌, ◌&&◌, ◌||◌, ◌+◌, ◌*◌, ◌++◌, ◌∷◌, ℕ, false, true, List, [], Option, None, Some, IsSome, IfSome, Result, Ok, Err, IsErrAnd, Bool, if◌then◌else◌}
+use Rattle.std.specs.Prelude.{All, length, map, nat_le, nat_lt, ◌≡◌, ◌≢◌, ◌⊎◌, ◌↔◌, ◌≤◌, ◌&&◌, ◌||◌, ◌+◌, ◌*◌, ◌++◌, ◌∷◌, ℕ, false, true, List, [], Option, None, Some, IsSome, IfSome, Result, Ok, Err, IsErrAnd, Bool, if◌then◌else◌}
 use Rattle.std.specs.Io.KnownBytes.{Consumes, Keeps}
 use Rattle.std.specs.Result.{is_ok}
 use Rattle.clap.specs.Words.{kind_of}
@@ -35,6 +35,7 @@ use Rattle.command_reads.specs.Node.{number_of}
 use Rattle.command_faults.specs.Outcomes.{Concludes, IsAmong}
 use Rattle.command_faults.specs.Streams.{Streams}
 use Rattle.command_changes.specs.Mkfs.{mkfs_line_at}
+use Rattle.command_changes.specs.Build.{of_build, program_of}
 use Rattle.command_changes.specs.Migrate.{of_migration}
 use Rattle.command_changes.specs.Repair.{IsRepairReported, IsUnrepaired}
 use Rattle.command_changes.specs.Resize.{of_resize}
@@ -60,6 +61,7 @@ use Rattle.command_words.specs.declared.invocation.VolumeFile.{VolumeFile}
 use Rattle.command_words.specs.declared.invocation.Work.{Work}
 use Rattle.command_words.specs.declared.invocation.Work.TheVariants as works
 use Rattle.vol_check.specs.declared.checker.Checker.{Checker}
+use Rattle.command_changes.specs.declared.build.FilledList.{FilledList}
 use Rattle.command_changes.specs.declared.mkfs.MadeVolume.{MadeVolume}
 use Rattle.command_terms.specs.declared.options.Migration.{Migration}
 use Rattle.command_terms.specs.declared.options.Repairing.{Repairing}
@@ -75,6 +77,10 @@ use Rattle.host_files.specs.declared.image_file.Stamp.{Stamp}
 use Rattle.host_files.specs.declared.saved_files.VolumePart.{VolumePart}
 use Rattle.pack_files.specs.PackFiles.{blocks_in}
 use Rattle.pack_files.specs.declared.other_volumes.Growth.{Growth}
+use Rattle.pack_lists.specs.Archive.{filled}
+use Rattle.pack_lists.specs.Lists.{list_in, listed}
+use Rattle.pack_lists.specs.declared.list.PackList.{PackList}
+use Rattle.unixvol.specs.Builds.{IsFilled, TellsUnlisted}
 use Rattle.unixvol.specs.Exits.{Exits, ExitsAfterSaving, ToEnd}
 use Rattle.unixvol.specs.Reports.{IsOneFile, IsReportTold, may_report_read}
 use Rattle.unixvol.specs.Resize.{IsAlone, has_only}
@@ -246,6 +252,19 @@ RunsMigrate streams files migration status =
     RunsNothing streams files status
     ⊎ ((image : List ℕ) × (answer : Answer) × files.shown V6 image × Concludes (of_migration image migration) streams answer
     × EndsSaved files.taken answer status)
+
+-- the volume of a list is built from the bytes that its files gave, nothing is printed, and the volume is saved (this project)
+abbrev pub BuildsListed : Streams → HostFiles → List ℕ → ℕ → Type 0
+BuildsListed streams files text status =
+    (list : PackList) × (full : FilledList) × (answer : Answer) × (list_in text ≡ Ok (listed list)) × IsFilled files.put list full
+    × Concludes (of_build full.volume (program_of full) (map filled full.members.items)) streams answer × EndsSaved files.taken answer status
+
+-- `build` runs, with the list in the file of this name: nothing is done, as a file isn't read; or the list is read from a file, and it can't be read as a
+-- list; or its volume is built (this project)
+abbrev pub RunsBuild : Streams → HostFiles → List ℕ → ℕ → Type 0
+RunsBuild streams files name status =
+    RunsNothing streams files status
+    ⊎ ((text : List ℕ) × files.given text × (TellsUnlisted streams name text status ⊎ BuildsListed streams files text status))
 
 -- a volume with another number of blocks was saved, if this is no trial: in its place, or as the whole file if the file has nothing else; and the system
 -- reported that some file had the stamp of the volume's file (this project)
@@ -459,6 +478,7 @@ volume_at (invocations.Cat volume node) = volume.at
 volume_at (invocations.Get volume path) = volume.at
 volume_at (invocations.Mkfs place volume) = new_place_at place
 volume_at (invocations.Migrate old at new migration) = at
+volume_at (invocations.Build list new) = 0
 volume_at (invocations.Identify images form is_deep) = 0
 volume_at (invocations.Diff volume other by) = volume.at
 volume_at (invocations.LookBad volume image look) = volume.at
@@ -483,6 +503,7 @@ Runs streams files status (invocations.Cat volume node) = RunsCat streams files 
 Runs streams files status (invocations.Get volume path) = RunsGetOne streams files volume.edition path.now status
 Runs streams files status (invocations.Mkfs place volume) = RunsMkfs streams (made_in files place volume.blocks) volume status
 Runs streams files status (invocations.Migrate old at new migration) = RunsMigrate streams files migration status
+Runs streams files status (invocations.Build list new) = RunsBuild streams files list.now status
 Runs streams files status (invocations.Identify images form is_deep) = ⊥
 Runs streams files status (invocations.Diff volume other by) = ⊥
 Runs streams files status (invocations.LookBad volume image look) = ⊥

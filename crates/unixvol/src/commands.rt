@@ -1,4 +1,4 @@
-//! `cat`, `get`, `mkfs`, `migrate`, `resize`, `salvage -n`, `salvage -o` and `repair`, which print all or nothing: the files they open and save.
+//! `cat`, `get`, `mkfs`, `build`, `migrate`, `resize`, `salvage -n`, `salvage -o` and `repair`, which print all or nothing: the files they open and save.
 ghost use Rattle.std.specs.Prelude.{◌≡◌, ◌≢◌, ◌≤◌, ℕ, Bool, true, List, None, Option, IfOk};
 ghost use Rattle.std.specs.Io.KnownBytes.{Keeps};
 ghost use Rattle.std.specs.Process.{exit_status};
@@ -9,6 +9,7 @@ ghost use Rattle.unixvol.specs.Reports.{IsOneFile, may_report, may_report_read};
 ghost use Rattle.unixvol.specs.Runs.{IsPlainCommand, IsUnread, GaveAt, PrintsBody, RunsMigrate, RunsMkfs, RunsRepair, RunsSalvage, Runs, RunsRead, SavesCopy, RunsToEnd, Ends, but_remarks, host_files, made_in, new_place_at, read_at, volume_at};
 ghost use Rattle.host_files.specs.Save.{IsTaken};
 
+use crate::build::run_build;
 use crate::explain::{explain_cat, explain_command_line, finish, tell_end};
 use crate::file_fault::{FailedRun, after_saving};
 use crate::host::Surroundings;
@@ -89,6 +90,7 @@ fn carry_out<'a, R: ImageFiles + Clock + Eprint + AllocGlobal, O: Sink>(
         Invocation::Cat { volume, node } => run_cat(host, output, volume, node),
         Invocation::Get { volume, path } => run_get(host.rt, output, volume, path),
         Invocation::Mkfs { place, volume } => run_mkfs(host, place, volume),
+        Invocation::Build { list, new } => run_build(host, list, new),
         Invocation::Migrate {
             old,
             at,

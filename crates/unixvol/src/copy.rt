@@ -3,17 +3,22 @@ ghost use Rattle.std.specs.Prelude.{◌≡◌, ℕ, All, Bool, IfErr, IfOk, IfSo
 ghost use Rattle.std.specs.Process.{exit_status};
 ghost use Rattle.command_faults.specs.Streams.{still, streams};
 ghost use Rattle.unixvol.specs.FileFaults.{file_status, run_fault, run_status};
-ghost use Rattle.unixvol.specs.Copies.{AreSaved, CopiesToEnd, IsFileToo, IsMomentAlone, RunsCopy, RunsGet, RunsPut, name_of};
+ghost use Rattle.unixvol.specs.Copies.{AreSaved, CopiesToEnd, IsFileToo, IsMomentAlone, RunsCopy, RunsGet, RunsPut};
+ghost use Rattle.command_copies.specs.Trees.{name_of};
 ghost use Rattle.unixvol.specs.Runs.{Ends, GavePut, IsGivenFile, IsStatusOfFileOrMemory, IsUnread, host_files};
 ghost use Rattle.host_files.specs.Save.{IsTaken};
 
 use crate::explain::{finish, tell_end};
 use crate::file_fault::{FailedRun, FileFault, after_saving};
+use crate::get_trees::run_get_trees;
 use crate::host::Surroundings;
 use crate::read::{expect_volume, read_given, read_image, read_stamped};
 use crate::save::{save_new, save_traced};
 use crate::subject::Subject;
+use crate::sync::{run_put_tree, run_sync};
 use command_changes::put::{NewFile, put_files};
+use command_changes::{Syncing, Unchanged};
+use command_copies::name_of;
 use command_faults::Ending;
 use command_faults::status::DONE;
 use command_line::{Copying, VolumeFile};
@@ -23,7 +28,7 @@ use command_words::Moment;
 use host_files::{ImageFiles, Marks, Stamp, is_pipe, noted_writer};
 use pdp_words::{IntoWrite, Sink};
 use std::io::{self, Write};
-use std::path::Path;
+use std::path::{Path, PathBuf};
 use std::process::ExitCode;
 use std::rt::Clock;
 use vol_dir::Cred;
@@ -42,7 +47,7 @@ pub fn run_to_end<R: ImageFiles + Clock + Eprint + AllocGlobal, O: Write + Drop,
     volume: VolumeFile<'_>,
     copying: Copying<'_>,
 ) -> ExitCode
-    ensures { CopiesToEnd (host_files volume.entry.at R.File.remaining R.File.contents R.had R.stood) R.stands (O.contents output) (E.contents errors)
+    ensures { CopiesToEnd (host_files volume.entry.at R.File.remaining R.File.contents R.had R.stood) R.stands R.listed (O.contents output) (E.contents errors)
         volume.entry.edition copying.entry (exit_status result) }
 {
     let mut errors = IntoWrite::new(errors);
@@ -60,7 +65,7 @@ fn run<'a, R: ImageFiles + Clock + Eprint + AllocGlobal, O: Sink>(
     volume: VolumeFile<'a>,
     copying: Copying<'a>,
 ) -> Result<Ending, FailedRun<'a>>
-    ensures runs { RunsCopy (streams O.contents O.failed output.old output.new (run_fault result)) (host_files volume.entry.at R.File.remaining R.File.contents R.had R.stood) R.stands volume.entry.edition copying.entry (run_status result) }
+    ensures runs { RunsCopy (streams O.contents O.failed output.old output.new (run_fault result)) (host_files volume.entry.at R.File.remaining R.File.contents R.had R.stood) R.stands R.listed volume.entry.edition copying.entry (run_status result) }
     ensures ends { Ends (streams O.contents O.failed output.old output.new (run_fault result)) (run_status result) }
 {
     match copying {
@@ -74,9 +79,41 @@ fn run<'a, R: ImageFiles + Clock + Eprint + AllocGlobal, O: Sink>(
         } => run_put(
             host, output, volume, directory, &files, keep, owner, now, trace,
         ),
+        Copying::PutTree {
+            directory,
+            folders,
+            keep,
+            owner,
+            now,
+            trace,
+        } => run_put_tree(
+            host, output, volume, directory, &folders, keep, owner, now, trace,
+        ),
+        Copying::Sync {
+            directory,
+            folder,
+            owner,
+            now,
+            is_trial,
+        } => {
+            let syncing = Syncing {
+                directory,
+                owner,
+                unchanged: Unchanged::Skip,
+                now,
+            };
+            run_sync(host, output, volume, syncing, folder, is_trial)
+        }
         Copying::Get {
             folder,
             paths,
+            is_deep: true,
+            keeps,
+        } => run_get_trees(host, volume, folder, &paths, keeps),
+        Copying::Get {
+            folder,
+            paths,
+            is_deep: false,
             keeps,
         } => run_get(host, volume, folder, &paths, keeps),
     }
@@ -121,7 +158,7 @@ fn run_put<'a, R: ImageFiles + Clock + Eprint + AllocGlobal, O: Sink>(
 }
 
 /// Returns the word that was read as the time, if it is also the path of an existing file.
-fn moment_file<'a, R: ImageFiles>(rt: &R, now: Moment<'a>) -> Option<&'a str>
+pub fn moment_file<'a, R: ImageFiles>(rt: &R, now: Moment<'a>) -> Option<&'a str>
     ensures some { IfSome result (IsFileToo R.stands now.entry) }
     ensures none { result ≡ None → IsMomentAlone R.stands now.entry }
 {
@@ -150,13 +187,6 @@ fn read_named<'a, R: ImageFiles + AllocGlobal>(
         };
     }
     Ok(files)
-}
-
-/// Returns the last name of a path; empty if the path ends in `..` or has no names.
-fn name_of(path: &str) -> &str
-    ensures { result.now ≡ name_of path.now }
-{
-    Path::new(path).file_name().unwrap_or("")
 }
 
 /// Reads the files at some paths of the volume in a file, then saves each in a folder under its last name, and returns the result of the run. The
@@ -199,7 +229,7 @@ fn save_files<'a, R: ImageFiles + Clock + Eprint + AllocGlobal>(
     Ok(())
 }
 
-/// Saves a file of a volume in a folder, under the last name of its path, with its marks if `keeps`. A pipe or a socket with this name isn't replaced.
+/// Saves a file of a volume in a folder, under the last name of its path, with its marks if `keeps`.
 fn save_file_read<'a, R: ImageFiles + Clock + Eprint + AllocGlobal>(
     host: &Surroundings<'_, R>,
     folder: &'a str,
@@ -213,20 +243,40 @@ fn save_file_read<'a, R: ImageFiles + Clock + Eprint + AllocGlobal>(
     let Ok(place) = Path::new(folder).join(host.rt.alloc(), name_of(file.path)) else {
         return Err(FileFault::NoMemory);
     };
+    let marks = Marks {
+        permissions: file.stat.permissions,
+        modified: file.stat.modified,
+    };
+    save_copied(host, place, image, &file.bytes, keeps.then_some(marks))
+}
+
+/// Saves the bytes of a file of a volume at a place, with these marks, if some are given. A pipe or a socket there isn't replaced.
+pub fn save_copied<'a, R: ImageFiles + Clock + Eprint + AllocGlobal>(
+    host: &Surroundings<'_, R>,
+    place: PathBuf,
+    image: Stamp,
+    bytes: &[u8],
+    marks: Option<Marks>,
+) -> Result<(), FileFault<'a>>
+    ensures saved { OnOk result (IsTaken R.File.contents bytes.now) }
+    ensures fault { IfErr result (λ fault. IsStatusOfFileOrMemory (file_status fault)) }
+{
     if is_pipe(host.rt, place.as_str()) {
         return Err(FileFault::Uncopied(place, io::Error::other(PIPE)));
     }
-    let marks = if keeps {
-        Some(Marks {
-            permissions: file.stat.permissions,
-            modified: file.stat.modified,
-        })
-    } else {
-        None
-    };
-    match save_new(host, place.as_str(), image, &file.bytes, marks) {
+    match save_new(host, place.as_str(), image, bytes, marks) {
         Ok(()) => Ok(()),
-        Err(why) if why.kind() == io::ErrorKind::OutOfMemory => Err(FileFault::NoMemory),
-        Err(why) => Err(FileFault::Uncopied(place, why)),
+        Err(why) => Err(uncopied(place, why)),
+    }
+}
+
+/// Returns the fault of a file or a folder that can't be written at a place for this reason.
+pub fn uncopied<'a>(place: PathBuf, why: io::Error) -> FileFault<'a>
+    ensures { IsStatusOfFileOrMemory (file_status result) }
+{
+    if why.kind() == io::ErrorKind::OutOfMemory {
+        FileFault::NoMemory
+    } else {
+        FileFault::Uncopied(place, why)
     }
 }

@@ -70,6 +70,7 @@ fn explain_file<R: Eprint + AllocGlobal>(host: &Surroundings<'_, R>, fault: &Fil
         FileFault::Unread(file, why) | FileFault::Unwritten(file, why) => {
             tell_why(host, *file, *why);
         }
+        FileFault::UnreadBelow(path, why) => tell_why(host, NamedFile::File(path.as_str()), *why),
         FileFault::Uncopied(place, why) => tell_why(host, NamedFile::File(place.as_str()), *why),
         FileFault::Short(path, block) => {
             tell_words(

@@ -6,7 +6,9 @@ ghost use Rattle.unixvol.specs.Runs.{IsStatusOfFileOrMemory};
 use command_faults::status::{BAD_COMMAND_LINE, BAD_FILE, NO_MEMORY, REFUSED};
 use command_faults::{Ending, Fault};
 use command_line::VolumeFile;
+use host_files::TreeFault;
 use pack_files::Verdicts;
+use std::alloc::Global;
 use std::path::PathBuf;
 use std::{fmt, io};
 use vol_identify::Part;
@@ -49,6 +51,8 @@ impl<'a> NamedFile<'a> {
 pub enum FileFault<'a> {
     /// It can't be read.
     Unread(NamedFile<'a>, io::Error),
+    /// It can't be read at this path, which no word of the command line is.
+    UnreadBelow(String, io::Error),
     /// It can't be read: it ends before this block.
     Short(&'a str, u32),
     /// It can't be written.
@@ -81,6 +85,30 @@ impl<'a> FileFault<'a> {
         }
     }
 
+    /// Returns the fault of a file below a folder that can't be read for this reason.
+    pub fn below(alloc: Global, path: &str, why: io::Error) -> FileFault<'a>
+        ensures { IsStatusOfFileOrMemory (file_status result) }
+    {
+        if why.kind() == io::ErrorKind::OutOfMemory {
+            return FileFault::NoMemory;
+        }
+        match String::from_str(alloc, path) {
+            Ok(path) => FileFault::UnreadBelow(path, why),
+            Err(_) => FileFault::NoMemory,
+        }
+    }
+
+    /// Returns the fault of a file at a path that can't be read, with the path in memory of its own.
+    pub fn owned<'b>(self, alloc: Global, path: &str) -> FileFault<'b>
+        ensures { IsStatusOfFileOrMemory (file_status result) }
+    {
+        match self {
+            FileFault::NoMemory | FileFault::NoMemoryFor(_) => FileFault::NoMemory,
+            FileFault::Unread(_, why) => FileFault::below(alloc, path, why),
+            _ => FileFault::below(alloc, path, io::Error::from(io::ErrorKind::Other)),
+        }
+    }
+
     /// Returns the exit status.
     pub fn status(&self) -> u8
         ensures { result ≡ file_status self.now }
@@ -90,6 +118,7 @@ impl<'a> FileFault<'a> {
             FileFault::Moment(_) => BAD_COMMAND_LINE,
             FileFault::NoMemory | FileFault::NoMemoryFor(_) => NO_MEMORY,
             FileFault::Unread(..)
+            | FileFault::UnreadBelow(..)
             | FileFault::Short(..)
             | FileFault::Unwritten(..)
             | FileFault::Uncopied(..)
@@ -99,11 +128,23 @@ impl<'a> FileFault<'a> {
     }
 }
 
+impl From<TreeFault> for FileFault<'_> {
+    ghost from_gives = { λ _ fault. IsStatusOfFileOrMemory (file_status fault) };
+
+    fn from(fault: TreeFault) -> Self {
+        match fault {
+            TreeFault::Unread(path, why) => FileFault::UnreadBelow(path, why),
+            TreeFault::NoMemory => FileFault::NoMemory,
+        }
+    }
+}
+
 /// Writes the line of a fault, without the name of the program.
 impl fmt::Display for FileFault<'_> {
     fn fmt<W: fmt::Write>(&self, f: &mut fmt::Formatter<W>) -> fmt::Result {
         match self {
             FileFault::Unread(file, _) => write!(f, "cannot read {}", file.name()),
+            FileFault::UnreadBelow(path, _) => write!(f, "cannot read {}", path.as_str()),
             FileFault::Short(path, _) => write!(f, "cannot read {path}"),
             FileFault::Unwritten(file, _) => write!(f, "cannot write {}", file.name()),
             FileFault::Uncopied(place, _) => write!(f, "cannot write {}", place.as_str()),

@@ -162,6 +162,7 @@ fn visit<R: ImageFiles + Eprint + AllocGlobal, O: Sink>(
     match found.kind {
         FoundKind::File => print_line(host, output, form, &found.path),
         FoundKind::Folder => Ok(open_folder(host, &found.path, stack)),
+        FoundKind::Other => Ok(DONE),
     }
 }
 

@@ -1,6 +1,7 @@
 //! Lists, reads, changes and makes disk images of Sixth and Seventh Edition Unix.
 #![tactic(auto)]
 
+mod build;
 mod changes;
 mod commands;
 mod compare;
@@ -8,6 +9,7 @@ mod copy;
 mod editions;
 mod explain;
 mod file_fault;
+mod get_trees;
 mod guesses;
 mod hints;
 mod host;
@@ -29,6 +31,7 @@ mod save;
 mod serve;
 mod sizes;
 mod subject;
+mod sync;
 mod threads;
 mod words;
 

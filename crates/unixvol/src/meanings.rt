@@ -260,7 +260,7 @@ fn named_meaning(
     subject: Subject<'_>,
 ) -> Result<Option<String>, AllocError> {
     let named = match subject.verb {
-        Verb::Import => "this member",
+        Verb::Import | Verb::Build => "this member",
         _ => "this file",
     };
     let words = words_of(refusal, subject.verb);
@@ -273,7 +273,12 @@ fn refusal_meaning(
     refusal: Refusal,
     subject: Subject<'_>,
 ) -> Result<Option<String>, AllocError> {
-    let words = words_of(refusal, subject.verb);
+    // A refusal of `build` without a path is that of its boot block.
+    let verb = match subject.verb {
+        Verb::Build => Verb::Boot,
+        verb => verb,
+    };
+    let words = words_of(refusal, verb);
     match refusal {
         Refusal::NoMemory => Ok(Some(format!(in alloc; "{words}")?)),
         _ => {
@@ -345,8 +350,10 @@ fn no_entry(verb: Verb) -> &'static str {
         Verb::Cat => "there is no i-node of this number, it is free, or the path leads to none",
         Verb::Inode => "there is no i-node of this number, or the path leads to none",
         Verb::Dump => "there is no block or i-node of this number, or the path leads to none",
-        Verb::Put | Verb::Mkdir | Verb::Mknod => "a directory on the way to it isn't there",
-        Verb::Import => {
+        Verb::Put | Verb::Sync | Verb::Mkdir | Verb::Mknod => {
+            "a directory on the way to it isn't there"
+        }
+        Verb::Import | Verb::Build => {
             "a directory on the way to it, or the file that it is a link to, isn't there"
         }
         Verb::Rm =>
@@ -363,7 +370,9 @@ fn exists(verb: Verb) -> &'static str {
     match verb {
         Verb::Ln => "the second name is there already",
         Verb::Mv => "the new name is there already, and mv replaces no file",
-        Verb::Import => "something has its path already that isn't the directory wanted",
+        Verb::Import | Verb::Build | Verb::Sync => {
+            "something has its path already that isn't the directory wanted"
+        }
         _ => "a file or directory has this name already",
     }
 }
@@ -371,7 +380,7 @@ fn exists(verb: Verb) -> &'static str {
 /// Returns the meaning of NotDirectory for a command.
 fn not_directory(verb: Verb) -> &'static str {
     match verb {
-        Verb::Rmdir | Verb::Export | Verb::Sums | Verb::Find | Verb::Import => {
+        Verb::Rmdir | Verb::Export | Verb::Sums | Verb::Find | Verb::Import | Verb::Build => {
             "it, or something on the way to it, is no directory"
         }
         Verb::Ls => {
@@ -390,7 +399,8 @@ fn is_directory(verb: Verb) -> &'static str {
             "it is a directory: rmdir removes an empty one, and rm -r one with all below it",
         Verb::Ln | Verb::Mv =>
             "the first path leads to a directory, and only files get other names",
-        Verb::Import => "what it is a link to is a directory, and only files get other names",
+        Verb::Import | Verb::Build =>
+            "what it is a link to is a directory, and only files get other names",
         _ => "it is a directory",
     }
 }
@@ -406,7 +416,9 @@ fn invalid(verb: Verb) -> &'static str {
 /// Returns the meaning of TooBig for a command.
 fn too_big(verb: Verb) -> &'static str {
     match verb {
-        Verb::Put | Verb::Import => "the edition has no file, or no directory, of that size",
+        Verb::Put | Verb::Sync | Verb::Import | Verb::Build => {
+            "the edition has no file, or no directory, of that size"
+        }
         Verb::Boot => "a boot block has 512 bytes, and the program more",
         _ => "the directory for the name has the greatest size of the edition",
     }
@@ -426,7 +438,7 @@ fn no_space(verb: Verb) -> &'static str {
 fn too_many_links(verb: Verb) -> &'static str {
     match verb {
         Verb::Ln | Verb::Mv => "the file has as many names as the edition lets it have",
-        Verb::Import => {
+        Verb::Import | Verb::Build => {
             "the file, or the directory above, has as many links as the edition lets it have"
         }
         _ => "the directory above has as many directories as the edition lets it have",

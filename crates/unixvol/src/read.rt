@@ -101,7 +101,7 @@ fn read_to_put<'a, F: Read + Drop>(
 }
 
 /// Returns what is kept of an open file, which has this stamp, besides its bytes.
-fn kept_of<F: OpenFile>(keep: Keep, file: &F, stamp: Stamp) -> io::Result<Kept>
+pub fn kept_of<F: OpenFile>(keep: Keep, file: &F, stamp: Stamp) -> io::Result<Kept>
     ensures { IfOk result (IsKept keep) }
 {
     match keep {

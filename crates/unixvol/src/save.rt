@@ -26,8 +26,8 @@ use std::io;
 use std::rt::Clock;
 use vol_mkfs::BlankVolume;
 
-/// The message if the file to write holds the volume that was read.
-const OLD_VOLUME: &str = "it holds the volume that was read, which is kept";
+/// The message if the file to write holds what was read.
+const WAS_READ: &str = "it holds what was read, which is kept";
 
 /// Saves the result of a command in its place in the volume's file, if there is a result and the file still has the stamp `read`.
 pub fn save_answer<'a, R: ImageFiles + AllocGlobal>(
@@ -39,9 +39,22 @@ pub fn save_answer<'a, R: ImageFiles + AllocGlobal>(
     ensures saved { OnOk result (IfSome answer.now.image (λ bytes. IsStored volume.entry.at bytes.items R.File.remaining R.File.contents R.had × R.stood read)) }
     ensures fault { IfErr result (λ fault. IsSome answer.now.image × IsStatusOfFileOrMemory (file_status fault)) }
 {
-    let Some(bytes) = &answer.image else {
-        return Ok(());
-    };
+    match &answer.image {
+        Some(bytes) => save_bytes(rt, volume, read, bytes),
+        None => Ok(()),
+    }
+}
+
+/// Saves the bytes of a volume in its place in the volume's file, if the file still has the stamp `read`.
+pub fn save_bytes<'a, R: ImageFiles + AllocGlobal>(
+    rt: &R,
+    volume: VolumeFile<'a>,
+    read: Stamp,
+    bytes: &[u8],
+) -> Result<(), FileFault<'a>>
+    ensures saved { OnOk result (IsStored volume.entry.at bytes.now R.File.remaining R.File.contents R.had × R.stood read) }
+    ensures fault { IfErr result (λ fault. IsStatusOfFileOrMemory (file_status fault)) }
+{
     match save_volume(rt, volume.image, read, part_of(volume, bytes)) {
         Ok(()) => Ok(()),
         Err(why) => Err(FileFault::unsaved(volume.image, why)),
@@ -243,7 +256,7 @@ pub fn expect_new<'a, R: ImageFiles>(rt: &R, file: MadeFile<'a>) -> Result<(), F
     Ok(())
 }
 
-/// Saves the result of `migrate` in a file, if there is one, as [`save_over`] does.
+/// Saves the result of `migrate` or `build` in a file, if there is one, as [`save_over`] does.
 pub fn save_migrated<'a, R: ImageFiles + Clock + Eprint + AllocGlobal>(
     host: &Surroundings<'_, R>,
     file: MadeFile<'a>,
@@ -292,7 +305,7 @@ pub fn save_new<R: ImageFiles + Clock + Eprint + AllocGlobal>(
     ensures { OnOk result (IsTaken R.File.contents bytes.now) }
 {
     if stands_at(host.rt, path, old) {
-        return Err(io::Error::other(OLD_VOLUME));
+        return Err(io::Error::other(WAS_READ));
     }
     let _locked = lock_replaced(host, path)?;
     let content = Content::Bytes(bytes);

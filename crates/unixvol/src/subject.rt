@@ -62,6 +62,7 @@ impl<'a> Subject<'a> {
                 Some(Subject::new(*volume, Verb::Resize, About::Image))
             }
             Invocation::Mkfs { place, volume } => Some(Subject::of_new(*place, volume.edition)),
+            Invocation::Build { new, .. } => Some(Subject::of_built(new.path)),
             Invocation::Migrate { old, at, new, .. } => Some(Subject {
                 verb: Verb::Migrate,
                 image: old,
@@ -85,6 +86,18 @@ impl<'a> Subject<'a> {
             image,
             at,
             edition,
+            about: About::Image,
+            packed: None,
+        }
+    }
+
+    /// Returns the subject of `build`. Only its list says which edition the volume has, and no line names that.
+    fn of_built(image: &'a str) -> Subject<'a> {
+        Subject {
+            verb: Verb::Build,
+            image,
+            at: 0,
+            edition: Edition::V7,
             about: About::Image,
             packed: None,
         }
@@ -195,7 +208,10 @@ impl<'a> Subject<'a> {
     /// Returns the subject of copying several files. A line about one of the files names that file instead.
     pub fn of_copying(volume: VolumeFile<'a>, copying: &Copying<'a>) -> Subject<'a> {
         let (verb, about) = match copying {
-            Copying::Put { directory, .. } => (Verb::Put, About::Path(directory)),
+            Copying::Put { directory, .. } | Copying::PutTree { directory, .. } => {
+                (Verb::Put, About::Path(directory))
+            }
+            Copying::Sync { directory, .. } => (Verb::Sync, About::Path(directory)),
             Copying::Get { .. } => (Verb::Get, About::Image),
         };
         Subject::new(volume, verb, about)

@@ -18,6 +18,14 @@ returns-in-Mkfs-clause-ends g c = rw c.in-Mkfs.is (
     let runs = c.run_mkfs.ensures (g.O.Sink.contents c.args.output.now) (g.O.Sink.failed c.args.output.now) in
     record { within = runs.within.0; silent = λ _ _. runs.unprinted; whole = λ e. (runs.unused, runs.quiet e) })
 
+pub returns-in-Build-clause-runs : goal.returns-in-Build-clause-runs
+returns-in-Build-clause-runs g c =
+    rw c.in-Build.is (c.run_build.ensures.runs (g.O.Sink.contents c.args.output.now) (g.O.Sink.failed c.args.output.now))
+
+pub returns-in-Build-clause-ends : goal.returns-in-Build-clause-ends
+returns-in-Build-clause-ends g c =
+    rw c.in-Build.is (c.run_build.ensures.ends (g.O.Sink.contents c.args.output.now) (g.O.Sink.failed c.args.output.now))
+
 pub returns-in-Migrate-clause-runs : goal.returns-in-Migrate-clause-runs
 returns-in-Migrate-clause-runs g c =
     rw c.in-Migrate.is (c.run_migrate.ensures.runs (g.O.Sink.contents c.args.output.now) (g.O.Sink.failed c.args.output.now))

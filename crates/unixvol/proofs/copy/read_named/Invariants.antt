@@ -1,6 +1,6 @@
 use Rattle.std.proofs.Common.{◌≡◌, All, map, take}
 use Rattle.command_changes.specs.declared.put.NewFile.{NewFile}
-use Rattle.unixvol.specs.Copies.{name_of}
+use Rattle.command_copies.specs.Trees.{name_of}
 use Rattle.unixvol.specs.Runs.{GavePut, IsGivenFile}
 use Rattle.unixvol.proofs.copy.read_named.Given as goal
 

@@ -1,5 +1,6 @@
 use Rattle.std.proofs.Common.{[], List, ℕ, refl, subst, sym}
 use Rattle.std.proofs.KnownBytes.{Appends-nil}
+use Rattle.std.proofs.lemmas.List.{append-nil}
 use Rattle.std.specs.Prelude.{string_bytes}
 use Rattle.host_files.specs.declared.folders.FoundKind.{FoundKind}
 use Rattle.unixvol.specs.Below.{IsOpened, IsVisitOf}
@@ -16,3 +17,14 @@ returns-in-Folder-clause-visited g c =
       Appends-nil (g.O.Sink.contents c.args.output.now),
       refl,
     )
+
+pub returns-in-Other-clause-visited : goal.returns-in-Other-clause-visited
+returns-in-Other-clause-visited g c = (
+  [],
+  [],
+  subst (λ (kind : FoundKind). IsVisitOf g.R.File.Read.remaining g.R.ImageFiles.had g.R.ImageFiles.stood g.R.ImageFiles.listed c.args.form kind (string_bytes c.args.found.now.path) [] [] 0)
+      (sym c.in-Other.is) (refl, refl, refl),
+  sym (append-nil c.args.stack.now.items),
+  Appends-nil (g.O.Sink.contents c.args.output.now),
+  refl,
+)

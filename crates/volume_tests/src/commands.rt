@@ -3,6 +3,7 @@ use crate::fixtures::{Stream, copied, stream, taken};
 use command_changes::{
     GivenFile, Kept, NewFile, do_change, migrate_command, mkfs_command, put_all,
 };
+use command_copies::{NodeContent, TreesRead, ending_of, get_trees};
 use command_faults::Answer;
 use command_reads::cat::cat;
 use command_reads::checkers::check;
@@ -41,7 +42,7 @@ fn check_printed(rt: &impl Abort, stream: Stream, wanted: &[u8]) {
 }
 
 /// Makes a volume of 20 blocks, which prints nothing.
-fn made(rt: &impl Abort, alloc: Global) -> Vec<u8> {
+pub(crate) fn made(rt: &impl Abort, alloc: Global) -> Vec<u8> {
     let volume = NewVolume {
         edition: Edition::V6,
         blocks: 20,
@@ -131,6 +132,24 @@ fn check_read(rt: &impl Abort, alloc: Global, edition: Edition, image: &[u8]) {
     check_printed(rt, output, HELLO);
 }
 
+/// Checks what `get -r` reads of the directory with the file.
+fn check_copied(rt: &impl Abort, alloc: Global, edition: Edition, image: &[u8]) {
+    let copy = copied(rt, alloc, image);
+    let read = get_trees(alloc, edition, copy, &["/d"]);
+    let TreesRead { nodes, lines } = read.ok().expect(rt, "trees");
+    assert_eq!(rt; nodes.len(), 2);
+    for node in &nodes {
+        match &node.content {
+            NodeContent::Directory => assert_eq!(rt; node.path.as_str(), "d"),
+            NodeContent::File(body) => {
+                assert_eq!(rt; node.path.as_str(), "d/hello");
+                assert_eq!(rt; body.as_slice(), HELLO);
+            }
+        }
+    }
+    assert_eq!(rt; ending_of(lines).status, 0);
+}
+
 /// Checks what `ls --slots` and `icheck` print.
 fn check_shown<R: Threads + Wait + Sync + Abort>(rt: &R, alloc: Global, image: &[u8]) {
     let (mut output, mut errors) = (stream(alloc), stream(alloc));
@@ -180,6 +199,7 @@ fn commands_print_and_return_what_the_program_does(rt: HostRuntime) {
     assert_eq!(rt; (again.status, again.trace.is_none()), (1, true));
     let image = put_hello(&rt, alloc, image);
     check_read(&rt, alloc, Edition::V6, &image);
+    check_copied(&rt, alloc, Edition::V6, &image);
     check_shown(&rt, alloc, &image);
     let migration = Migration {
         blocks: 60,
@@ -193,4 +213,5 @@ fn commands_print_and_return_what_the_program_does(rt: HostRuntime) {
     check_printed(&rt, errors, b"");
     let migrated = answer.image.expect(&rt, "an image");
     check_read(&rt, alloc, Edition::V7, &migrated);
+    check_copied(&rt, alloc, Edition::V7, &migrated);
 }

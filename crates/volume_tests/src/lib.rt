@@ -1,9 +1,11 @@
 //! Tests of public functions, for properties that no contract states and no command shows: devices that fail at each of their calls, headers of
 //! another program, and the words of faults; threads that wait for one another, with sessions, as checkers and as scripts; the arguments
 //! of a log and a sweep; a volume that is cut at each of its bytes; what is left of a cut image, and of its tree; repairs; what differs between two
-//! trees; a view that learns twice; and functions that no command calls.
+//! trees; a list of a new volume, with a line of each kind; a view that learns twice; and functions that no command calls.
 #![tactic(auto)]
 
+#[cfg(test)]
+mod builds;
 #[cfg(test)]
 mod checkers;
 #[cfg(test)]
@@ -27,11 +29,15 @@ mod lost_blocks;
 #[cfg(test)]
 mod meeting;
 #[cfg(test)]
+mod migrations;
+#[cfg(test)]
 mod play;
 #[cfg(test)]
 mod repairs;
 #[cfg(test)]
 mod rescued_files;
+#[cfg(test)]
+mod syncs;
 #[cfg(test)]
 mod texts;
 #[cfg(test)]

@@ -8,7 +8,7 @@ PREFIX ?= /usr/local
 .PHONY: help run install uninstall build rows library ports page test library-test ports-test page-test bench faults wrong-bodies manual figures release verify
 
 # The scripts of rows, tests/NAME.sh, that the gate runs the built program through. Those that take longest come first.
-ROWS = many_trees saving checkers looks volumes icheck scripts checks archives release calls explaining examples manual mkfs cat changes trees plays migrations repairs words \
+ROWS = many_trees saving checkers looks volumes icheck scripts checks archives release calls explaining examples manual mkfs builds cat changes trees folders syncs plays migrations repairs words \
     identify packs resizes editions fields diffs traces rescue salvage lessons progress failures readme simh serve mount
 PROGRAM = ./unixvol
 PARTS = counts rows

@@ -300,7 +300,7 @@ helps --help
 helps help
 helps cat --help
 helps help cat
-for command in mkfs ls get find export sums inode super free block df map check icheck dcheck ncheck put import rm mkdir rmdir ln mv chmod chown touch mknod boot salvage repair resize play migrate serve identify; do
+for command in mkfs build ls get find export sums inode super free block df map check icheck dcheck ncheck put import rm mkdir rmdir ln mv chmod chown touch mknod boot salvage repair resize play migrate serve identify; do
     helps "$command" --help
     helps help "$command"
 done

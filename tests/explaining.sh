@@ -253,7 +253,7 @@ explains 3 'unixvol: cannot read third' 'unixvol: third: No such file or directo
 explains 3 'unixvol: cannot read .' 'unixvol: .: Is a directory (os error 21)' ls 6 .
 explains 3 'unixvol: cannot read .' 'unixvol: .: Is a directory (os error 21)' cat 6 . 1
 explains 3 'unixvol: cannot write missing/new.img' 'unixvol: missing/new.img: No such file or directory (os error 2)' mkfs 6 missing/new.img 400 10 0 0
-explains 3 'unixvol: cannot write disk.v6' 'unixvol: disk.v6: it holds the volume that was read, which is kept' migrate disk.v6 disk.v6 400 20
+explains 3 'unixvol: cannot write disk.v6' 'unixvol: disk.v6: it holds what was read, which is kept' migrate disk.v6 disk.v6 400 20
 mkfifo pipe
 explains 3 'unixvol: cannot write pipe' 'unixvol: pipe: it is a pipe, a socket or a terminal, which keeps nothing to be changed' rm 6 pipe /a
 "$program" import 6 "$image" --explain < . > output 2> error

@@ -210,6 +210,8 @@ put 7 disk -t /d a a/. 8 | invalid value 'a' for '<FILE>'
 put 7 disk -o /d a | invalid value '/d' for '--owner <UID:GID>': not two numbers from 0 to 65535 with a colon between them
 get 7 disk /d/f /d/g | invalid value '/d/g' for '<MORE>': one file is printed, as by > FILE; several need -o FOLDER
 get 7 disk -p /d/f | no value for '<FOLDER>': -p is for files in a folder: it needs -o FOLDER
+get 7 disk -r /d | no value for '<FOLDER>': -r copies into a folder: it needs -o FOLDER
+get 7 disk -r -o out --unsound /d | the argument '--output' cannot be used with '--unsound'
 get 7 disk /d/f --preserve /d/g | invalid value '/d/g' for '<MORE>': one file is printed, as by > FILE; several need -o FOLDER
 put 7 disk -p -p /d/f a | '--preserve' cannot be used multiple times
 get 7 disk -x -o out /d/f | unexpected argument '-x'

@@ -1,0 +1,152 @@
+#!/usr/bin/env bash
+# Runs `build` of the built program: lists with a line of each kind, in both editions; the same bytes each time, and as other commands make them; and
+# lists, files and volumes that are refused.
+# Usage: tests/builds.sh PROGRAM. It prints each row that fails, and ends with 'N passed, N failed'.
+. "$(dirname "$0")/rows.sh"
+
+mkdir -p lists/files volumes
+echo hello > lists/files/hello
+seq 3000 > lists/files/large
+printf '\005\000' > lists/reset
+echo outside > outside
+
+# archive FILE: the members of the list below, as another program writes them
+archive() {
+    python3 - "$1" << 'PYTHON'
+import io, sys, tarfile
+when = 173750400
+def member(name, kind, mode=0, uid=0, gid=0, mtime=when, link="", major=0, minor=0, body=b""):
+    one = tarfile.TarInfo(name)
+    one.type, one.mode, one.uid, one.gid, one.mtime, one.size = kind, mode, uid, gid, mtime, len(body)
+    one.linkname, one.devmajor, one.devminor = link, major, minor
+    tar.addfile(one, io.BytesIO(body))
+def read(name):
+    return open(name, "rb").read()
+with tarfile.open(sys.argv[1], "w", format=tarfile.USTAR_FORMAT) as tar:
+    member("d", tarfile.DIRTYPE, 0o751, 3, 1, 1000)
+    member("d/e", tarfile.DIRTYPE, 0o700)
+    member("d/hello", tarfile.REGTYPE, 0o4644, 3, 1, 2000, body=read("lists/files/hello"))
+    member("d/e/large", tarfile.REGTYPE, 0o600, 7, 8, body=read("lists/files/large"))
+    member("also", tarfile.LNKTYPE, link="d/hello")
+    member("dev/tty", tarfile.CHRTYPE, 0o622, 0, 5, major=3, minor=255)
+    member("dev/rk0", tarfile.BLKTYPE, 0o640, 3, 1, 3000, major=0, minor=1)
+    member("spaced", tarfile.REGTYPE, 0o644, body=read("outside"))
+PYTHON
+}
+
+for edition in 6 7; do
+    built=volumes/built.$edition
+    cat > lists/disk.list << END
+# a comment, and an empty line
+
+volume $edition 200 10
+time 173750400
+boot reset
+dir /d 751 3:1 1000
+dir /d/e 700 0:0
+file /d/hello 4644 3:1 files/hello 2000
+file /d/e/large 600 7:8 $PWD/lists/files/large
+link /also /d/hello
+char /dev/tty 622 0:5 3 255
+block /dev/rk0 640 3:1 0 1 3000
+  file   /spaced   0644 0:0  ../outside
+END
+    prints none build lists/disk.list "$built"
+    prints none build --new lists/disk.list volumes/again
+    saves 'the same list, once more' volumes/again "$built"
+    (cd lists && "$program" build disk.list ../volumes/again)
+    saves 'the same list, from its own folder' volumes/again "$built"
+    archive members.tar
+    "$program" mkfs "$edition" wanted 200 10 0 0 173750400
+    "$program" boot "$edition" wanted lists/reset
+    "$program" import "$edition" wanted / 173750400 < members.tar
+    saves 'a volume as mkfs, boot and import make it' "$built" wanted
+    holds 'the program in the boot block' "$built" 0 '05 00 00 00'
+    prints lists/files/hello get "$edition" "$built" /also
+    prints lists/files/large get "$edition" "$built" /d/e/large
+    prints outside get "$edition" "$built" /spaced
+    runs ls -l "$edition" "$built" /dev
+    awk '{ print $2, $3, $4, $5, $6 (NF > 9 ? $7 : ""), $NF }' output > listed
+    has 'devices with their numbers and owners' 'brw-r----- 1 3 1 0,1 rk0 crw--w--w- 1 0 5 3,255 tty' "$(tail -n 2 listed | paste -s -d ' ' -)"
+    has 'what check says of it' 0 "$("$program" check "$edition" "$built" > output; echo $?)"
+
+    # An export of it is what went in.
+    mkdir "out.$edition"
+    "$program" export "$edition" "$built" > built.tar
+    tar -xf built.tar -C "out.$edition" --exclude='dev/*' --no-same-owner
+    saves 'a file of an export' "out.$edition/d/e/large" lists/files/large
+    saves 'a file of an export, by its other name' "out.$edition/also" lists/files/hello
+    "$program" mkfs "$edition" copy.img 200 10 0 0 173750400
+    "$program" import "$edition" copy.img / 173750400 < built.tar
+    prints none diff "$edition" "$built" copy.img
+    rm volumes/again
+done
+
+# Sizes by the name of a disk, with the default of mkfs; no member.
+printf 'volume 6 RK05\ntime 1\n' > lists/empty.list
+prints none build lists/empty.list volumes/rk05
+"$program" mkfs 6 wanted 4872 103 0 0 1
+saves 'an empty pack' volumes/rk05 wanted
+
+# Lines that can't be read: the first is named, with the word. LINE N, LINES (apart by `;`), WHY.
+while IFS='|' read -r number lines why; do
+    tr ';' '\n' <<< "$lines" > lists/bad.list
+    refuses 2 "unixvol: lists/bad.list: line $number: $why" build lists/bad.list volumes/none
+done << 'END'
+1|volumes 7 100|`volumes` isn't `volume`
+1|volume 8 100|`8` isn't an edition, 6 or 7
+1|volume 7 rk99|`rk99` isn't a number of blocks, or the name of a disk
+1|volume 7 100 65536|`65536` isn't a number of blocks up to 65535
+1|volume 7|it ends where a number of blocks, or the name of a disk is wanted
+3|# sizes;volume 7 100;dir /d 755 0:0|`dir` isn't `time`
+2|volume 7 100;time -1|`-1` isn't a number of seconds up to 4294967295
+3|volume 7 100;time 1;fifo /p 644 0:0|`fifo` isn't `boot`, `dir`, `file`, `link`, `char` or `block`
+4|volume 7 100;time 1;boot reset;boot reset|`boot` isn't `dir`, `file`, `link`, `char` or `block`
+3|volume 7 100;time 1;dir d 755 0:0|`d` isn't a path with a slash before each name
+3|volume 7 100;time 1;dir /d/ 755 0:0|`/d/` isn't a path with a slash before each name
+3|volume 7 100;time 1;dir /d 758 0:0|`758` isn't an octal number up to 7777
+3|volume 7 100;time 1;dir /d 755 3|`3` isn't a user and a group, as 3:1
+3|volume 7 100;time 1;dir /d 755 3:65536|`3:65536` isn't a user and a group, as 3:1
+3|volume 7 100;time 1;dir /d 755 3:1 4 5|`5` is one too many
+3|volume 7 100;time 1;file /f 644 0:0|it ends where a path in UTF-8 is wanted
+3|volume 7 100;time 1;link /l|it ends where a path with a slash before each name is wanted
+3|volume 7 100;time 1;char /c 644 0:0 256 1|`256` isn't a number up to 255
+3|volume 7 100;time 1;a_word_of_forty_bytes_is_shown_up_to_here_:no_more|`a_word_of_forty_bytes_is_shown_up_to_her..` isn't `boot`, `dir`, `file`, `link`, `char` or `block`
+END
+printf '\n# nothing\n' > lists/bad.list
+refuses 2 "unixvol: lists/bad.list: it ends where \`volume\` is wanted" build lists/bad.list volumes/none
+echo 'volume 7 100' > lists/bad.list
+refuses 2 "unixvol: lists/bad.list: it ends where \`time\` is wanted" build lists/bad.list volumes/none
+printf 'volume 7 100\ntime 1\nfile /f 644 0:0 \377\n' > lists/bad.list
+refuses 2 "unixvol: lists/bad.list: line 3: \`\\377\` isn't a path in UTF-8" build lists/bad.list volumes/none
+
+# Lists that can be read, but not built. The first reason is named.
+head -c 513 lists/files/large > lists/long
+echo kept > volumes/kept
+while IFS='|' read -r status lines why; do
+    tr ';' '\n' <<< "$lines" > lists/bad.list
+    refuses "$status" "unixvol: $why" build lists/bad.list volumes/kept
+done << 'END'
+1|volume 6 65536 10;time 1;dir /a_name_of_fifteen 755 0:0|bounds
+1|volume 6 100;time 1;boot long;dir /a_name_of_fifteen 755 0:0|27 TooBig
+1|volume 7 100;time 1;dir /a_name_of_fifteen 755 0:0|/a_name_of_fifteen: a name above 14 bytes
+1|volume 7 100;time 1;dir /d/../e 755 0:0|/d/../e: a name ..
+1|volume 6 100;time 1;dir /d 755 256:0|/d: an owner or a group above the edition's highest
+1|volume 7 100;time 1;file /f 644 0:0 files/hello;dir /f 755 0:0|17 Exists: //f
+1|volume 7 100;time 1;link /l /none|2 NoEntry: //l
+1|volume 7 20 2;time 1;file /f 644 0:0 files/large|28 NoSpace: //f
+3|volume 7 100;time 1;boot none|cannot read lists/none
+3|volume 7 100;time 1;file /f 644 0:0 files/none|cannot read lists/files/none
+3|volume 7 100;time 1;file /f 644 0:0 /none|cannot read /none
+END
+refuses 3 'unixvol: cannot read lists/none.list' build lists/none.list volumes/kept
+refuses 3 'unixvol: cannot write volumes/kept' build --new lists/empty.list volumes/kept
+refuses 3 'unixvol: cannot write lists/empty.list' build lists/empty.list lists/empty.list
+saves 'a file where no volume was built' volumes/kept <(echo kept)
+has 'the files after all that' 'built.6 built.7 kept rk05' "$(ls volumes | paste -s -d ' ' -)"
+prints none build lists/empty.list volumes/kept
+saves 'a file that is replaced' volumes/kept volumes/rk05
+misread 'error: the following required arguments were not provided' build lists/empty.list
+
+echo "$passed passed, $failed failed"
+[ "$failed" = 0 ]

@@ -1,0 +1,148 @@
+#!/usr/bin/env bash
+# Runs `sync` and `put -r` of the built program: folders that are put into volumes of both editions, once more with nothing to do, and after one change; and
+# folders that can't be put. Usage: tests/syncs.sh PROGRAM. It prints each row that fails, and ends with 'N passed, N failed'.
+. "$(dirname "$0")/rows.sh"
+
+: > none
+
+# holds LABEL EDITION IMAGE PATH FOLDER: the directory at the path has what the folder has: the same names, kinds, permissions and times of files, and bytes
+holds() {
+    rm -rf out
+    mkdir out
+    "$program" export "$2" "$3" "$4" | tar -xpf - -C out
+    has "the files of $1" "$(listed "$5")" "$(listed out)"
+    if diff -r "$5" out > differences; then passes; else fails "the bytes of $1"; fi
+    runs check "$2" "$3"
+    has "the check of $1" 0 "$(cat status)"
+}
+
+# listed FOLDER: the path and permissions of each folder and file below a folder, and the size and time of each file
+listed() {
+    find "$1" -mindepth 1 -type d -printf '%P %m\n' -o -mindepth 1 -printf '%P %m %s %T@\n' | sed 's/\.0*$//' | LC_ALL=C sort
+}
+
+# A tree of 300 files, in 20 folders
+mkdir -p big
+for number in $(seq 300); do
+    mkdir -p "big/d$((number % 20))"
+    head -c $((number * 7)) /dev/zero | tr '\0' x > "big/d$((number % 20))/f$number"
+done
+chmod 755 big/d1 big/d1/f1
+chmod 700 big/d2
+chmod 4755 big/d3/f3
+find big -type f -exec touch -d @1000000000 {} +
+
+for edition in 6 7; do
+    disk=disk$edition.img
+    "$program" mkfs "$edition" "$disk" 4000 60 0 0 1000
+    cp "$disk" blank.img
+
+    # What would be done, and nothing is; then it is done, and once more there is nothing to do
+    {
+        echo 'mkdir /src'
+        find big -mindepth 1 -maxdepth 1 -type d -printf '%f\n' | LC_ALL=C sort | while read -r name; do
+            echo "mkdir /src/$name"
+            find "big/$name" -type f -printf '%f\n' | LC_ALL=C sort | sed "s|^|put /src/$name/|"
+        done
+    } > lines
+    prints lines sync "$edition" "$disk" /src big 2000 -n
+    saves "a trial, edition $edition" "$disk" blank.img
+    prints none sync "$edition" "$disk" /src big 2000
+    holds "a new tree, edition $edition" "$edition" "$disk" /src big
+    cp "$disk" first.img
+    touch -d @12345 "$disk"
+    prints none sync "$edition" "$disk" /src big 3000 -n
+    prints none sync "$edition" "$disk" /src big 3000
+    saves "a tree that is the same, edition $edition" "$disk" first.img
+    has "the time of an image that is not written, edition $edition" 12345 "$(stat -c %Y "$disk")"
+
+    # One file is edited, one gets other permissions and one another time: the others keep their i-nodes as they were
+    cp -a big edited
+    echo new > edited/d7/f7
+    touch -d @1000000002 edited/d7/f7
+    chmod 600 edited/d8/f8
+    touch -d @1000000001 edited/d9/f9
+    printf 'put /src/d7/f7\nmark /src/d8/f8\nmark /src/d9/f9\n' > lines
+    prints lines sync "$edition" "$disk" /src edited 4000 --dry-run
+    prints none sync "$edition" "$disk" /src edited 4000
+    holds "a tree after an edit, edition $edition" "$edition" "$disk" /src edited
+    "$program" diff --times "$edition" first.img "$disk" > differences
+    has "the files that were written, edition $edition" '/src/d7/f7 /src/d8/f8 /src/d9/f9' "$(grep -o '/src/d[0-9]*/f[0-9]*' differences | sort -u | xargs)"
+    rm -rf edited
+
+    # Bytes that differ are written though the size and the time are the same. What the folder hasn't stays
+    cp -a big same
+    tr x y < big/d5/f5 > same/d5/f5
+    touch -d @1000000000 same/d5/f5
+    rm -r same/d6
+    prints none sync "$edition" "$disk" /src same 5000
+    "$program" get "$edition" "$disk" /src/d5/f5 > body
+    saves "bytes with the same size and time, edition $edition" body same/d5/f5
+    "$program" get "$edition" "$disk" /src/d6/f6 > body
+    saves "a file that the folder has not, edition $edition" body big/d6/f6
+    rm -rf same
+
+    # What can't be put is told by its path, and nothing is done
+    cp "$disk" before.img
+    mkdir -p odd/d
+    echo text > odd/a
+    ln -s a odd/d/link
+    refuses 3 'unixvol: cannot read odd/d/link' sync "$edition" "$disk" /src odd 6000
+    refuses 3 'unixvol: cannot read odd/d/link' put -r "$edition" "$disk" -t /src odd 6000
+    rm odd/d/link
+    mkfifo odd/d/pipe
+    refuses 3 'unixvol: cannot read odd/d/pipe' sync "$edition" "$disk" /src odd 6000 -n
+    rm odd/d/pipe
+    echo text > odd/d/fifteen.letters
+    refuses 1 'unixvol: d/fifteen.letters: a name above 14 bytes' sync "$edition" "$disk" /src odd 6000
+    refuses 1 'unixvol: odd/d/fifteen.letters: a name above 14 bytes' put -r "$edition" "$disk" -t /src odd 6000
+    rm odd/d/fifteen.letters
+    touch -d '1960-01-01' odd/d/old
+    refuses 3 'unixvol: cannot read odd/d/old' sync "$edition" "$disk" /src odd 6000
+    rm odd/d/old
+    mkdir odd/d1
+    echo text > odd/d1/f1
+    echo text > odd/d2
+    refuses 1 'unixvol: 21 IsDirectory: /src/d2' sync "$edition" "$disk" /src odd 6000
+    rm odd/d2
+    mkdir odd/d1/f21
+    refuses 1 'unixvol: 17 Exists: /src/d1/f21' sync "$edition" "$disk" /src odd 6000
+    rmdir odd/d1/f21
+    body odd/large 40000000
+    fault='28 NoSpace'
+    [ "$edition" = 7 ] || fault='27 TooBig'
+    refuses 1 "unixvol: $fault: /src/large" sync "$edition" "$disk" /src odd 6000
+    rm odd/large
+    refuses 3 'unixvol: cannot read nothing' sync "$edition" "$disk" /src nothing 6000
+    refuses 3 'unixvol: cannot read odd/a' sync "$edition" "$disk" /src odd/a 6000
+    refuses 1 'unixvol: 2 NoEntry: /no/src' sync "$edition" "$disk" /no/src odd 6000
+    saves "a tree that can not be put, edition $edition" "$disk" before.img
+
+    # put -r puts all files, whether they differ or not, under the folder's last name; without -p it keeps nothing of them
+    mkdir -p more/x/y
+    echo one > more/x/y/one
+    chmod 711 more/x
+    chmod 751 more/x/y/one
+    touch -d @1000000000 more/x/y/one
+    prints none put -r "$edition" "$disk" -t /src odd more/x 7000
+    "$program" get "$edition" "$disk" /src/x/y/one > body
+    saves "a file of put -r, edition $edition" body more/x/y/one
+    has "the permissions of put -r, edition $edition" 'drwxr-xr-x -rw-r--r--' \
+        "$("$program" ls -l "$edition" "$disk" /src | awk '$NF == "x" { print $2 }') $("$program" ls -l "$edition" "$disk" /src/x/y | awk '$NF == "one" { print $2 }')"
+    prints none put -r -p "$edition" "$disk" -t /src more/x/ 8000 --owner 3:1
+    has "the permissions and the owner of put -r -p, edition $edition" '-rwxr-x--x 3 1' \
+        "$("$program" ls -l "$edition" "$disk" /src/x/y | awk '$NF == "one" { print $2, $4, $5 }')"
+    (cd more/x && "$program" put -r "$edition" "../../$disk" -t /src/d1 . 9000)
+    "$program" get "$edition" "$disk" /src/d1/y/one > body
+    saves "put -r of ., edition $edition" body more/x/y/one
+    refuses 1 'unixvol: 2 NoEntry: /none/x/' put -r "$edition" "$disk" -t /none more/x 9000
+    rm -rf odd more
+done
+
+# The words
+misread 'error' put -r 7 disk7.img /src/a big 1000
+misread 'error' sync 7 disk7.img '' big 1000
+has 'a moment that is a file too' 2 "$(: > 1000; "$program" put -r 7 disk7.img -t / big 1000 > output 2>&1; echo $?; rm 1000)"
+
+echo "$passed passed, $failed failed"
+[ "$failed" = 0 ]

@@ -32,13 +32,13 @@ _unixvol() {
     while [[ ${before[0]:-} == -* ]]; do before=("${before[@]:1}"); done
     command=${before[0]:-}
     if [ -z "$command" ]; then
-        mapfile -t COMPREPLY < <(compgen -W 'cat ls get find export sums inode super free block dump diff df map check icheck dcheck ncheck mkfs put import rm rmdir mkdir ln mv chmod chown touch mknod boot salvage repair resize play migrate serve identify help --explain -h --help -V --version' -- "$current")
+        mapfile -t COMPREPLY < <(compgen -W 'cat ls get find export sums inode super free block dump diff df map check icheck dcheck ncheck mkfs build put sync import rm rmdir mkdir ln mv chmod chown touch mknod boot salvage repair resize play migrate serve identify help --explain -h --help -V --version' -- "$current")
         return
     fi
     case $command in
         cat) kinds='6,7,any file any' options='--at --cut --bad --bad-blocks --sizes --like --damaged --explain -h --help' valued='--at=any --bad=file --bad-blocks=any --sizes=any --like=rk05,rk06,rk07,rl01,rl02,rm03,rp03,rp04,rp06,rx01,rx02' ;;
         ls) kinds='6,7,any file path' options='--at -l --long -R --recursive -d --directory --json --slots --unsound --cut --bad --bad-blocks --sizes --like --explain -h --help' valued='--at=any --bad=file --bad-blocks=any --sizes=any --like=rk05,rk06,rk07,rl01,rl02,rm03,rp03,rp04,rp06,rx01,rx02' ;;
-        get) kinds='6,7,any file path any...' options='--at -o --output -p --preserve --unsound --cut --bad --bad-blocks --sizes --like --damaged --explain -h --help' valued='--at=any -o=file --output=file --bad=file --bad-blocks=any --sizes=any --like=rk05,rk06,rk07,rl01,rl02,rm03,rp03,rp04,rp06,rx01,rx02' changing='-o --output' others='6,7,any file path...' ;;
+        get) kinds='6,7,any file path any...' options='--at -o --output -p --preserve -r --recursive --unsound --cut --bad --bad-blocks --sizes --like --damaged --explain -h --help' valued='--at=any -o=file --output=file --bad=file --bad-blocks=any --sizes=any --like=rk05,rk06,rk07,rl01,rl02,rm03,rp03,rp04,rp06,rx01,rx02' changing='-o --output' others='6,7,any file path...' ;;
         find) kinds='6,7,any file path' options='--at -g --name --lost --cut --bad --bad-blocks --sizes --like --json --explain -h --help' valued='--at=any -g=any --name=any --bad=file --bad-blocks=any --sizes=any --like=rk05,rk06,rk07,rl01,rl02,rm03,rp03,rp04,rp06,rx01,rx02' ;;
         export) kinds='6,7,any file path' options='--at --lost --cut --bad --bad-blocks --sizes --like --damaged --status --explain -h --help' valued='--at=any --bad=file --bad-blocks=any --sizes=any --like=rk05,rk06,rk07,rl01,rl02,rm03,rp03,rp04,rp06,rx01,rx02' ;;
         sums) kinds='6,7,any file path' options='--at --lost --cut --bad --bad-blocks --sizes --like --json --explain -h --help' valued='--at=any --bad=file --bad-blocks=any --sizes=any --like=rk05,rk06,rk07,rl01,rl02,rm03,rp03,rp04,rp06,rx01,rx02' ;;
@@ -55,7 +55,9 @@ _unixvol() {
         dcheck) kinds='6,7,any file any' options='--at --json --explain -h --help' valued='--at=any' ;;
         ncheck) kinds='6,7,any file any' options='--at --json --explain -h --help' valued='--at=any' ;;
         mkfs) kinds='6,7 file rk05,rk06,rk07,rl01,rl02,rm03,rp03,rp04,rp06,rx01,rx02 any any any any' options='--new --at --explain -h --help' valued='--at=any' ;;
-        put) kinds='6,7,any file path file any any...' options='--at -t --target-directory -p --preserve -x --executable -o --owner --trace --explain -h --help' valued='--at=any -t=path --target-directory=path -o=any --owner=any' changing='-t --target-directory' others='6,7,any file file...' ;;
+        build) kinds='any file' options='--new --explain -h --help' ;;
+        put) kinds='6,7,any file path file any any...' options='--at -t --target-directory -r --recursive -p --preserve -x --executable -o --owner --trace --explain -h --help' valued='--at=any -t=path --target-directory=path -o=any --owner=any' changing='-t --target-directory' others='6,7,any file file...' ;;
+        sync) kinds='6,7,any file path file any' options='--at -n --dry-run -o --owner --explain -h --help' valued='--at=any -o=any --owner=any' ;;
         import) kinds='6,7,any file path any' options='--at --skip-special -o --owner --trace --explain -h --help' valued='--at=any -o=any --owner=any' ;;
         rm) kinds='6,7,any file path any' options='--at -r --recursive --trace --explain -h --help' valued='--at=any' ;;
         rmdir) kinds='6,7,any file path any' options='--at --trace --explain -h --help' valued='--at=any' ;;

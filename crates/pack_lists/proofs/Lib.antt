@@ -1,2 +1,3 @@
 pub mod Lemmas
+pub mod ReadAsWritten
 pub mod ReadBack

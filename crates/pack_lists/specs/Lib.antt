@@ -5,4 +5,5 @@ pub mod Laws
 pub mod Lists
 pub mod MemberLines
 pub mod Paths
+pub mod Texts
 pub mod Words

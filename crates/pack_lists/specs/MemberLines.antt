@@ -1,4 +1,4 @@
--- The lines of members, of the volume, of its time and of its boot block.
+-- The lines of members, of the volume, of its time, of its boot block and of its root.
 use Rattle.std.specs.Prelude.{ℕ, List, [], ◌∷◌, Option, Result, Ok, codes}
 use Rattle.std.specs.List.{find}
 use Rattle.std.specs.Str.{bytes_eq}
@@ -16,6 +16,7 @@ use Rattle.pack_lists.specs.declared.members.ListedMember.{ListedMember}
 use Rattle.pack_lists.specs.declared.members.ListedMember.TheVariants as members
 use Rattle.pack_lists.specs.declared.members.ListedOwner.{ListedOwner}
 use Rattle.pack_lists.specs.declared.members.NodeMarks.{NodeMarks}
+use Rattle.pack_lists.specs.declared.members.RootMarks.{RootMarks}
 use Rattle.pack_lists.specs.declared.members.VolumeSizes.{VolumeSizes}
 
 -- the sizes after `volume`: `EDITION FSIZE [IBLOCKS]`; the default of IBLOCKS is that of mkfs (this project)
@@ -33,6 +34,17 @@ time_in words = and_then (taken forms.Seconds long_in words) (λ time. ended tim
 -- the path of a file after `boot`: `FILE` (this project)
 abbrev pub boot_in : List (List ℕ) → Result (List ℕ) LineFault
 boot_in words = and_then (taken forms.File file_in words) (λ file. ended file.0 file.1)
+
+-- the marks of a root (this project)
+abbrev pub root_of : ℕ → ListedOwner → RootMarks
+root_of permissions owner = record { permissions = permissions; owner = owner }
+
+-- the marks of a root after `root`: `PERM UID:GID` (this project)
+abbrev pub root_in : List (List ℕ) → Result RootMarks LineFault
+root_in words =
+    and_then (taken forms.Permissions permissions_in words) (λ permissions.
+    and_then (taken forms.Owner owner_in permissions.1) (λ owner.
+    ended (root_of permissions.0 owner.0) owner.1))
 
 -- the word for a kind of member (this project)
 abbrev pub kind_word : MemberKind → List ℕ

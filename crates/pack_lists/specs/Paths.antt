@@ -16,10 +16,10 @@ abbrev pub is_rooted : List ℕ → Bool
 is_rooted [] = false
 is_rooted (c ∷ names) = (c == 47) && are_names names
 
--- true if a word has a NUL (this project)
-abbrev pub has_zero : List ℕ → Bool
-has_zero word = list_any (λ c. c == 0) word
+-- true if a word has a byte (this project)
+abbrev pub has_byte : ℕ → List ℕ → Bool
+has_byte byte word = list_any (λ c. c == byte) word
 
 -- true if a word is a path in a volume: a slash before each name, no NUL, and at most 4,096 bytes (this project)
 unfoldable pub is_path : List ℕ → Bool
-is_path word = nat_le (length word) 4096 && (not (has_zero word) && is_rooted word)
+is_path word = nat_le (length word) 4096 && (not (has_byte 0 word) && is_rooted word)

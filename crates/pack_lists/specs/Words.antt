@@ -1,5 +1,5 @@
 -- The words of a line.
-use Rattle.std.specs.Prelude.{ℕ, ◌==◌, if◌then◌else◌, List, [], ◌∷◌, Option, Some, None, Result, Ok, Err, codes}
+use Rattle.std.specs.Prelude.{ℕ, ◌==◌, ◌&&◌, Bool, not, if◌then◌else◌, List, [], ◌∷◌, length, Option, Some, None, Result, Ok, Err, codes}
 use Rattle.std.specs.List.{slice_split}
 use Rattle.std.specs.Str.{bytes_eq, is_utf8}
 use Rattle.disk_sizes.specs.Disks.{disk_blocks}
@@ -8,7 +8,7 @@ use Rattle.line_words.specs.Pieces.{words_of}
 use Rattle.pdp_words.specs.Steps.{and_then}
 use Rattle.vol_layout.specs.declared.edition.Edition.{Edition}
 use Rattle.vol_layout.specs.declared.edition.Edition.TheVariants as editions
-use Rattle.pack_lists.specs.Paths.{is_path}
+use Rattle.pack_lists.specs.Paths.{has_byte, is_path}
 use Rattle.pack_lists.specs.declared.faults.LineFault.{LineFault}
 use Rattle.pack_lists.specs.declared.faults.LineFault.TheVariants as faults
 use Rattle.pack_lists.specs.declared.faults.ListFlaw.TheVariants as flaws
@@ -18,6 +18,10 @@ use Rattle.pack_lists.specs.declared.members.ListedOwner.{ListedOwner}
 -- the words of a line: its parts between spaces, without empty ones (this project)
 abbrev pub words_in : List ℕ → List (List ℕ)
 words_in line = words_of (slice_split (λ b. b == 32) line)
+
+-- true if bytes can be a word of a line: they aren't empty, and have no space and no newline (this project)
+abbrev pub is_list_word : List ℕ → Bool
+is_list_word word = not (length word == 0) && (not (has_byte 32 word) && not (has_byte 10 word))
 
 -- a value that was read from a word, with the words after it; or the flaw of this word, if there is none (this project)
 abbrev pub valued : {T : Type 0} → ListWord → List ℕ → List (List ℕ) → Option T → Result (T × List (List ℕ)) LineFault

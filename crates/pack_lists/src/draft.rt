@@ -8,8 +8,8 @@ ghost use Rattle.pack_lists.specs.MemberLines.{kind_named};
 
 use crate::faults::{LineFault, ListFault, ListWord};
 use crate::list::PackList;
-use crate::member_lines::{MemberKind, boot_in, member_in, sizes_in, time_in};
-use crate::members::{HostPath, ListedMember, ListedVolume, VolumeSizes};
+use crate::member_lines::{MemberKind, boot_in, member_in, root_in, sizes_in, time_in};
+use crate::members::{HostPath, ListedMember, ListedVolume, RootMarks, VolumeSizes};
 use crate::words::flawed;
 use line_words::{Pieces, next_word};
 use std::alloc::Global;
@@ -32,6 +32,8 @@ pub(crate) struct Draft {
     pub(crate) stage: Stage,
     /// The path of the file with the boot block.
     pub(crate) boot: Option<HostPath>,
+    /// The permissions and the owner of the root.
+    pub(crate) root: Option<RootMarks>,
     /// The members.
     pub(crate) members: Vec<ListedMember>,
 }
@@ -44,6 +46,7 @@ impl Draft {
         Draft {
             stage: Stage::Unsized,
             boot: None,
+            root: None,
             members: Vec::new(alloc),
         }
     }
@@ -114,7 +117,7 @@ impl Draft {
         Ok(())
     }
 
-    /// Reads the line of the boot block, or of a member.
+    /// Reads the line of the boot block, of the root, or of a member.
     fn take_more(
         &mut self,
         alloc: Global,
@@ -127,6 +130,10 @@ impl Draft {
     {
         if name == b"boot".as_slice() && self.boot.is_none() {
             self.boot = Some(boot_in(alloc, words)?);
+            return Ok(());
+        }
+        if name == b"root".as_slice() && self.root.is_none() {
+            self.root = Some(root_in(alloc, words)?);
             return Ok(());
         }
         self.take_member(alloc, volume, name, words)
@@ -144,11 +151,21 @@ impl Draft {
         ensures fault { IfErr result (TellsLine (with_member volume (drafted self.old) name.now (words_of words.old) (kind_named name.now))) }
     {
         match MemberKind::named(name) {
-            None => Err(flawed(alloc, name, wanted_of(&self.boot))),
+            None => Err(flawed(alloc, name, self.wanted())),
             Some(kind) => {
                 let member = member_in(alloc, kind, volume.time, words)?;
                 push_member(&mut self.members, member)
             }
+        }
+    }
+
+    /// Returns the form of the word that begins a line after the first two: `boot` and `root` come only once.
+    fn wanted(&self) -> ListWord
+        ensures { result ≡ wanted_of (drafted self.now) }
+    {
+        ListWord::Line {
+            boot: self.boot.is_none(),
+            root: self.root.is_none(),
         }
     }
 
@@ -160,6 +177,7 @@ impl Draft {
         let Draft {
             stage,
             boot,
+            root,
             members,
         } = self;
         match stage {
@@ -168,6 +186,7 @@ impl Draft {
             Stage::Begun(volume) => Ok(PackList {
                 volume,
                 boot,
+                root,
                 members,
             }),
         }
@@ -187,14 +206,4 @@ fn is_comment(word: &[u8]) -> bool
     ensures { result ≡ is_comment word.now }
 {
     word.starts_with(b"#")
-}
-
-/// Returns the form of the word that begins a line after the first two: `boot` comes only once.
-fn wanted_of(boot: &Option<HostPath>) -> ListWord
-    ensures { result ≡ wanted_of boot.now }
-{
-    match boot {
-        None => ListWord::Line,
-        Some(_) => ListWord::Member,
-    }
 }

@@ -12,10 +12,13 @@ pub enum ListWord {
     Volume,
     /// `time`, which begins the second line.
     Time,
-    /// `boot`, or what begins a member's line.
-    Line,
-    /// What begins a member's line: `dir`, `file`, `link`, `char` or `block`.
-    Member,
+    /// What begins a line after the first two: `dir`, `file`, `link`, `char` or `block`, and what may still come once.
+    Line {
+        /// True if it may be `boot`.
+        boot: bool,
+        /// True if it may be `root`.
+        root: bool,
+    },
     /// An edition: `6` or `7`.
     Edition,
     /// A number of blocks of 32 bits, or the name of a disk.

@@ -1,5 +1,5 @@
-//! The law about the archives of lists. The function does nothing that counts; its proved contract is the law.
-ghost use Rattle.pack_lists.specs.Laws.{ListsAreReadBack};
+//! The laws about the archives and the texts of lists. The functions do nothing that counts; their proved contracts are the laws.
+ghost use Rattle.pack_lists.specs.Laws.{ListsAreReadBack, ListsReadAsWritten};
 
 use vol_import::laws::members_are_read_back;
 
@@ -10,3 +10,9 @@ pub fn lists_are_read_back()
 {
     members_are_read_back();
 }
+
+/// The text of a list is read as this list, if its numbers have the bits of their types, its permissions are at most octal 7777, its paths, in the volume and
+/// outside it, are words, and each link has the time of the volume.
+pub fn lists_read_as_written()
+    ensures { ListsReadAsWritten }
+{}

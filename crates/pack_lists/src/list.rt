@@ -7,7 +7,7 @@ ghost use Rattle.pack_lists.specs.Lists.{list_in, listed};
 
 use crate::draft::Draft;
 use crate::faults::ListFault;
-use crate::members::{HostPath, ListedMember, ListedVolume};
+use crate::members::{HostPath, ListedMember, ListedVolume, RootMarks};
 use line_words::Pieces;
 use std::alloc::Global;
 
@@ -18,6 +18,8 @@ pub struct PackList {
     pub volume: ListedVolume,
     /// The path of the file, outside the volume, with its boot block; or none, if it is zeros.
     pub boot: Option<HostPath>,
+    /// The permissions and the owner of its root; or none, if they are those of `mkfs`, for user 0 and group 0.
+    pub root: Option<RootMarks>,
     /// The members, in their order.
     pub members: Vec<ListedMember>,
 }

@@ -2,10 +2,13 @@
 ghost use Rattle.std.specs.Prelude.{◌≡◌, Ok, IfOk, IfErr};
 ghost use Rattle.line_words.specs.Pieces.{words_of};
 ghost use Rattle.pack_lists.specs.Faults.{TellsLine};
-ghost use Rattle.pack_lists.specs.MemberLines.{boot_in, device_in, directory_in, file_member_in, kind_named, kind_word, link_in, member_in, sizes_in, start_in, time_in};
+ghost use Rattle.pack_lists.specs.MemberLines.{boot_in, device_in, directory_in, file_member_in, kind_named, kind_word, link_in, member_in, root_in, sizes_in, start_in, time_in};
+ghost use Rattle.pack_lists.specs.Texts.{device_line, line_of};
 
 use crate::faults::LineFault;
-use crate::members::{HostPath, ListedMember, ListedOwner, ListedPath, NodeMarks, VolumeSizes};
+use crate::members::{
+    HostPath, ListedMember, ListedOwner, ListedPath, NodeMarks, RootMarks, VolumeSizes,
+};
 use crate::words::{
     blocks, device_number, edition, end, file, list_blocks_or, owner, path, permissions, seconds,
     seconds_or,
@@ -35,8 +38,30 @@ static KINDS: [MemberKind; 5] = [
 ];
 
 impl MemberKind {
+    /// Returns the kind of a member.
+    pub(crate) fn of(member: &ListedMember) -> MemberKind
+        ensures { result ≡ line_of member.now }
+    {
+        match member {
+            ListedMember::Directory { .. } => MemberKind::Directory,
+            ListedMember::File { .. } => MemberKind::File,
+            ListedMember::Device { device, .. } => MemberKind::of_device(device.kind),
+            ListedMember::Link { .. } => MemberKind::Link,
+        }
+    }
+
+    /// Returns the kind of a special file.
+    fn of_device(kind: DeviceKind) -> MemberKind
+        ensures { result ≡ device_line kind }
+    {
+        match kind {
+            DeviceKind::Character => MemberKind::Character,
+            DeviceKind::Block => MemberKind::Block,
+        }
+    }
+
     /// Returns the word for the kind.
-    fn word(self) -> &'static str
+    pub(crate) fn word(self) -> &'static str
         ensures { result.now ≡ kind_word self }
     {
         match self {
@@ -122,6 +147,17 @@ pub(crate) fn boot_in(alloc: Global, words: &mut Pieces<'_>) -> Result<HostPath,
     let boot = file(alloc, words)?;
     end(alloc, words)?;
     Ok(boot)
+}
+
+/// Reads the words after `root`.
+pub(crate) fn root_in(alloc: Global, words: &mut Pieces<'_>) -> Result<RootMarks, LineFault>
+    ensures ok { IfOk result (λ root. root_in (words_of words.old) ≡ Ok root) }
+    ensures fault { IfErr result (TellsLine (root_in (words_of words.old))) }
+{
+    let permissions = permissions(alloc, words)?;
+    let owner = owner(alloc, words)?;
+    end(alloc, words)?;
+    Ok(RootMarks { permissions, owner })
 }
 
 /// Reads the words after the first word of a member's line. A member without a time of its own has this time.

@@ -38,6 +38,15 @@ pub struct ListedOwner {
     pub gid: u16,
 }
 
+/// The permissions and the owner of a root.
+#[derive(Clone, Copy)]
+pub struct RootMarks {
+    /// The permission bits, with set-uid, set-gid and sticky.
+    pub permissions: u16,
+    /// The owner and its group.
+    pub owner: ListedOwner,
+}
+
 /// The permissions, the owner and the time of a member.
 #[derive(Clone, Copy)]
 pub struct NodeMarks {
@@ -67,8 +76,8 @@ impl Model for ListedPath {
 }
 
 impl ListedPath {
-    /// Copies a path.
-    pub(crate) fn from_slice(alloc: Global, path: &[u8]) -> Result<ListedPath, AllocError>
+    /// Copies a path, for which [`is_path`](crate::is_path) is the test.
+    pub fn from_slice(alloc: Global, path: &[u8]) -> Result<ListedPath, AllocError>
         requires { is_path path.now ≡ true }
         ensures { IfOk result (λ copy. copy ≡ path.now) }
     {
@@ -104,7 +113,7 @@ impl Model for HostPath {
 
 impl HostPath {
     /// Copies a path.
-    pub(crate) fn from_str(alloc: Global, path: &str) -> Result<HostPath, AllocError>
+    pub fn from_str(alloc: Global, path: &str) -> Result<HostPath, AllocError>
         ensures { IfOk result (λ copy. copy ≡ path.now) }
     {
         let text = String::from_str(alloc, path)?;

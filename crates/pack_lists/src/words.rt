@@ -4,8 +4,8 @@ ghost use Rattle.std.specs.List.{list_all, slice_split};
 ghost use Rattle.std.specs.Str.{is_utf8};
 ghost use Rattle.line_words.specs.Pieces.{words_of};
 ghost use Rattle.pack_lists.specs.Faults.{TellsLine};
-ghost use Rattle.pack_lists.specs.Paths.{are_names, has_zero, is_name, is_path, is_rooted};
-ghost use Rattle.pack_lists.specs.Words.{blocks_in, byte_in, edition_in, file_in, last_or, long_in, none_left, owner_in, owner_of, path_in, permissions_in, short_in, taken};
+ghost use Rattle.pack_lists.specs.Paths.{are_names, has_byte, is_name, is_path, is_rooted};
+ghost use Rattle.pack_lists.specs.Words.{blocks_in, byte_in, edition_in, file_in, is_list_word, last_or, long_in, none_left, owner_in, owner_of, path_in, permissions_in, short_in, taken};
 
 use crate::faults::{LineFault, ListFlaw, ListWord};
 use crate::members::{HostPath, LONGEST, ListedOwner, ListedPath};
@@ -225,17 +225,24 @@ fn text_of(word: &[u8]) -> Option<&str>
 
 /// True if a word is a path in a volume: a slash before each of its names, none of which is empty or `.`; no NUL; and at most [`LONGEST`] bytes.
 #[tactic(auto, unfolding(crate::specs::Paths::is_path))]
-fn is_path(word: &[u8]) -> bool
+pub fn is_path(word: &[u8]) -> bool
     ensures { result ≡ is_path word.now }
 {
-    word.len() <= LONGEST && !has_zero(word) && is_rooted(word)
+    word.len() <= LONGEST && !has_byte(0, word) && is_rooted(word)
 }
 
-/// True if a word has a NUL.
-fn has_zero(word: &[u8]) -> bool
-    ensures { result ≡ has_zero word.now }
+/// True if bytes can be a word of a list: they aren't empty, and have no space and no newline.
+pub fn is_list_word(word: &[u8]) -> bool
+    ensures { result ≡ is_list_word word.now }
 {
-    word.iter().any(|c| *c == 0)
+    !word.is_empty() && !has_byte(b' ', word) && !has_byte(b'\n', word)
+}
+
+/// True if a word has a byte.
+fn has_byte(byte: u8, word: &[u8]) -> bool
+    ensures { result ≡ has_byte byte word.now }
+{
+    word.iter().any(|c| *c == byte)
 }
 
 /// True if a word begins with a slash, and names follow it, apart by slashes.

@@ -1,5 +1,5 @@
 -- Statements of the laws about what `repair` and `build` save, and about `sync`.
-use Rattle.std.specs.Prelude.{◌≡◌, ℕ, All, Bool, List, [], Option, Ok, codes, map, string_bytes}
+use Rattle.std.specs.Prelude.{◌≡◌, ℕ, ◌%◌, All, Bool, List, [], Option, None, Some, Ok, map, string_bytes}
 use Rattle.std.specs.List.{AllByRecursion}
 use Rattle.vol_dir.specs.Access.{user}
 use Rattle.vol_dir.specs.Tree.{Tree}
@@ -7,6 +7,7 @@ use Rattle.vol_batch.specs.Paths.{HasDirectory}
 use Rattle.vol_volume.specs.Answer.{answer}
 use Rattle.vol_volume.specs.declared.queries.Query.TheVariants as queries
 use Rattle.vol_volume.specs.declared.queries.Reply.TheVariants as replies
+use Rattle.vol_volume.specs.declared.queries.Stat.{Stat}
 use Rattle.bad_maps.specs.declared.maps.ReadRange.{ReadRange}
 use Rattle.vol_layout.specs.Geometry.{Fits, geometry_of}
 use Rattle.vol_layout.specs.declared.edition.Edition.{Edition}
@@ -20,9 +21,10 @@ use Rattle.vol_repair.specs.declared.repair_line.RepairLine.{RepairLine}
 use Rattle.pack_lists.specs.Laws.{IsListed, member_back}
 use Rattle.pack_lists.specs.declared.members.ListedMember.{ListedMember}
 use Rattle.pack_lists.specs.declared.members.ListedVolume.{ListedVolume}
+use Rattle.pack_lists.specs.declared.members.RootMarks.{RootMarks}
 use Rattle.vol_import.specs.MadeMembers.{HasArchive}
 use Rattle.vol_volume.specs.Volume.{reads_as}
-use Rattle.command_changes.specs.Build.{Builds, IsBegun, Members}
+use Rattle.command_changes.specs.Build.{Builds, IsBegun, Members, root_path}
 use Rattle.command_changes.specs.Repair.{IsRepairReported}
 use Rattle.command_changes.specs.RepairLosses.{IsRescueReported}
 use Rattle.command_changes.specs.Sync.{calls_to_sync, place_of}
@@ -56,17 +58,24 @@ RescuedFilesAreRight = (edition : Edition) (ranges : List ReadRange) (at : ℕ) 
     → FitsFile (geometry_of edition image) image i → IsWhole (geometry_of edition image) image lost i
     → KeepsFileIn (geometry_of edition image) (geometry_of edition new) volume new i
 
--- a volume was built of a list: it has each of the members, with the kind, permissions, owner, time, bytes, link and device that the list says, and all that
--- the volume without them had (this project)
-abbrev pub HasListed : ListedVolume → Option (List ℕ) → Members → List ℕ → Type 0
-HasListed volume program members bytes = (begun : List ℕ) × IsBegun volume program begun
-    × HasArchive (reads_as volume.sizes.edition begun).tree (reads_as volume.sizes.edition bytes).tree (codes "/") volume.time (Ok (map member_back members))
+-- a Stat of the root returns the permissions that a list says, if it says any (stat)
+abbrev pub HasRoot : Tree → Option RootMarks → Type 0
+HasRoot tree None = Unit {0}
+HasRoot tree (Some root) =
+    (stat : Stat) × (answer tree (queries.Stat user root_path) ≡ Ok (replies.Stat stat)) × (stat.permissions ≡ root.permissions % 4096)
 
--- what `build` saves has the members of its list, if none of their paths has more than 100 bytes (this project's law)
+-- a volume was built of a list: it has each of the members, with the kind, permissions, owner, time, bytes, link and device that the list says, and all that
+-- the volume without them had; and its root has the permissions that the list says (this project)
+abbrev pub HasListed : ListedVolume → Option RootMarks → Option (List ℕ) → Members → List ℕ → Type 0
+HasListed volume root program members bytes = (begun : List ℕ) × IsBegun volume root program begun
+    × HasArchive (reads_as volume.sizes.edition begun).tree (reads_as volume.sizes.edition bytes).tree root_path volume.time (Ok (map member_back members))
+    × HasRoot (reads_as volume.sizes.edition bytes).tree root
+
+-- what `build` saves has the members of its list, and its root, if none of their paths has more than 100 bytes (this project's law)
 abbrev pub VolumesHaveTheirLists : Type 0
-VolumesHaveTheirLists = (volume : ListedVolume) (program : Option (List ℕ)) (members : Members) (bytes : List ℕ)
-    → All (λ (member : ListedMember × List ℕ). IsListed member.0) members → Builds volume program members bytes
-    → HasListed volume program members bytes
+VolumesHaveTheirLists = (volume : ListedVolume) (root : Option RootMarks) (program : Option (List ℕ)) (members : Members) (bytes : List ℕ)
+    → All (λ (member : ListedMember × List ℕ). IsListed member.0) members → Builds volume root program members bytes
+    → HasListed volume root program members bytes
 
 -- what is to be at a path is there: a directory; or a file, of which a Read of all bytes returns these (stat, read)
 abbrev pub IsThereAt : Tree → List ℕ → TreeNode → Type 0

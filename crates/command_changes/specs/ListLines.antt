@@ -1,5 +1,5 @@
 -- Messages for lists that can't be read.
-use Rattle.std.specs.Prelude.{◌≡◌, ◌⊎◌, ℕ, ◌++◌, List, nat_le, length, min, take, if◌then◌else◌, Option, None, Some, Err, codes, decimal}
+use Rattle.std.specs.Prelude.{◌≡◌, ◌⊎◌, ℕ, ◌++◌, true, false, List, nat_le, length, min, take, if◌then◌else◌, Option, None, Some, Err, codes, decimal}
 use Rattle.escaped_text.specs.Escape.{escaped}
 use Rattle.pack_lists.specs.Lists.{list_in}
 use Rattle.pack_lists.specs.declared.faults.ListFault.{ListFault}
@@ -16,8 +16,10 @@ use Rattle.command_changes.specs.ImportLines.{worded_line}
 abbrev pub form_text : ListWord → List ℕ
 form_text forms.Volume = codes "`volume`"
 form_text forms.Time = codes "`time`"
-form_text forms.Line = codes "`boot`, `dir`, `file`, `link`, `char` or `block`"
-form_text forms.Member = codes "`dir`, `file`, `link`, `char` or `block`"
+form_text (forms.Line true true) = codes "`boot`, `root`, `dir`, `file`, `link`, `char` or `block`"
+form_text (forms.Line true false) = codes "`boot`, `dir`, `file`, `link`, `char` or `block`"
+form_text (forms.Line false true) = codes "`root`, `dir`, `file`, `link`, `char` or `block`"
+form_text (forms.Line false false) = codes "`dir`, `file`, `link`, `char` or `block`"
 form_text forms.Edition = codes "an edition, 6 or 7"
 form_text forms.Blocks = codes "a number of blocks, or the name of a disk"
 form_text forms.ListBlocks = codes "a number of blocks up to 65535"

@@ -139,8 +139,22 @@ fn form_text(form: ListWord) -> &'static [u8]
     match form {
         ListWord::Volume => b"`volume`",
         ListWord::Time => b"`time`",
-        ListWord::Line => b"`boot`, `dir`, `file`, `link`, `char` or `block`",
-        ListWord::Member => b"`dir`, `file`, `link`, `char` or `block`",
+        ListWord::Line {
+            boot: true,
+            root: true,
+        } => b"`boot`, `root`, `dir`, `file`, `link`, `char` or `block`",
+        ListWord::Line {
+            boot: true,
+            root: false,
+        } => b"`boot`, `dir`, `file`, `link`, `char` or `block`",
+        ListWord::Line {
+            boot: false,
+            root: true,
+        } => b"`root`, `dir`, `file`, `link`, `char` or `block`",
+        ListWord::Line {
+            boot: false,
+            root: false,
+        } => b"`dir`, `file`, `link`, `char` or `block`",
         ListWord::Edition => b"an edition, 6 or 7",
         ListWord::Blocks => b"a number of blocks, or the name of a disk",
         ListWord::ListBlocks => b"a number of blocks up to 65535",

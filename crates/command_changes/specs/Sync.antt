@@ -102,9 +102,13 @@ member_onto tree syncing calls member =
     if is_long_name (string_bytes member.path) then Err (plans.Member (string_bytes member.path) members.LongName)
     else Ok (calls ++ node_calls tree syncing (place_of syncing.directory.now (string_bytes member.path)) member.node)
 
+-- some calls, followed by those that make a directory what a tree is, decided on the unchanged volume; or the first name that is too long (rsync)
+abbrev pub calls_onto : Tree → Syncing → List Call → List TreeMember → Result (List Call) PlanFault
+calls_onto tree syncing calls all = each_onto (member_onto tree syncing) calls all
+
 -- the calls that make a directory what a tree is, decided on the unchanged volume; or the first name that is too long (rsync)
 abbrev pub calls_to_sync : Tree → Syncing → List TreeMember → Result (List Call) PlanFault
-calls_to_sync tree syncing all = each_onto (member_onto tree syncing) [] all
+calls_to_sync tree syncing all = calls_onto tree syncing [] all
 
 -- there are calls to make, and this says if they are none (this project)
 abbrev pub IsSame : Result (List Call) PlanFault → Bool → Type 0

@@ -20,7 +20,7 @@ pub fn rescued_files_are_right()
 }
 
 /// What `build` saves has all members of its list, each with the kind, permissions, owner, time, bytes, link and device that the list says, if none of their
-/// paths has more than 100 bytes.
+/// paths has more than 100 bytes; and its root has the permissions that the list says.
 pub fn volumes_have_their_lists()
     ensures { VolumesHaveTheirLists }
 {

@@ -4,13 +4,15 @@ ghost use Rattle.vol_dir.specs.Access.{user};
 ghost use Rattle.vol_volume.specs.Answer.{answer};
 ghost use Rattle.vol_volume.specs.Volume.{reads_as};
 ghost use Rattle.vol_volume.specs.declared.queries.Query.TheVariants as questions;
-ghost use Rattle.vol_import.specs.Make.{Imports, IsReason as IsStopped, told};
+ghost use Rattle.vol_import.specs.Make.{told};
 ghost use Rattle.vol_import.specs.Plan.{Tells};
 ghost use Rattle.command_faults.specs.Outcomes.{IsAmong};
+ghost use Rattle.command_changes.specs.Extras.{IsPlanned, IsStopped, IsSynced, IsSyncedVolume, IsUnplanned, IsUnsynced};
 ghost use Rattle.command_changes.specs.Import.{IsUnimported, of_import};
-ghost use Rattle.command_changes.specs.Sync.{IsSame, calls_to_sync, compared, has_kept, is_body, is_kept_by, is_long_name, line_of, lines_of_sync, member_line, member_onto, node_calls, node_line, folder_calls, folder_line, place_of, step_calls, step_line, step_of};
+ghost use Rattle.command_changes.specs.Sync.{calls_onto, calls_to_sync, compared, has_kept, is_body, is_kept_by, is_long_name, line_of, lines_of_sync, member_line, member_onto, node_calls, node_line, folder_calls, folder_line, place_of, step_calls, step_line, step_of};
 ghost use Rattle.command_changes.specs.Traced.{ImportsVolume};
 
+use crate::extras::{Extra, removals};
 use crate::import_lines::{fault_of, from_root};
 use crate::kept::{GivenFile, Kept};
 use crate::lookup::{PathKind, find, name_in};
@@ -78,12 +80,12 @@ pub(crate) enum FileStep {
     Put,
 }
 
-/// The calls for the members of a tree, and what they do in words.
+/// The calls for what is removed and for the members of a tree, and what they do in words.
 #[derive(Drop)]
 pub(crate) struct SyncPlan {
     /// The calls.
     pub(crate) calls: Vec<Call>,
-    /// A line for each member that isn't the same in the volume.
+    /// A line for each entry that is removed, and for each member that isn't the same in the volume.
     pub(crate) lines: Vec<u8>,
 }
 
@@ -92,7 +94,7 @@ pub(crate) struct SyncPlan {
 pub(crate) struct SyncedVolume {
     /// The volume, whose journal has the calls.
     pub(crate) volume: Volume,
-    /// A line for each member that wasn't the same in it.
+    /// A line for each entry that was removed, and for each member that wasn't the same in it.
     pub(crate) lines: Vec<u8>,
     /// True if there was no call to make.
     pub(crate) is_same: bool,
@@ -103,7 +105,8 @@ pub(crate) struct SyncedVolume {
 pub struct SyncedImage {
     /// Its bytes.
     pub bytes: Vec<u8>,
-    /// A line for each member that wasn't the same in it: `mkdir`, `put` or `mark`, and its path with unprintable bytes escaped.
+    /// A line for each entry that was removed: `rm` or `rmdir`, and its path with unprintable bytes escaped; then one for each member that wasn't the same:
+    /// `mkdir`, `put` or `mark`, and its path.
     pub lines: Vec<u8>,
     /// True if there was no call to make, so that the bytes are the same as before.
     pub is_same: bool,
@@ -143,28 +146,29 @@ fn sync_into(
     ensures made { IfOk result (ImportsVolume edition image.items (told (calls_to_sync (reads_as edition image.items).tree syncing.entry members.items))) }
     ensures fault { IfErr result (IsUnimported edition image.items (told (calls_to_sync (reads_as edition image.items).tree syncing.entry members.items))) }
 {
-    match make_syncs(alloc, edition, image, syncing, members) {
+    match make_syncs(alloc, edition, image, syncing, Extra::Keep, members) {
         Ok(synced) => Ok(synced.volume),
         Err(why) => Err(fault_of(alloc, &why)),
     }
 }
 
-/// Makes a directory of a volume what a tree is, as [`sync_tree`] does, and also returns what that did, and whether it did anything.
+/// Makes a directory of a volume what a tree is, as [`sync_tree`] does, and also returns what that did, and whether it did anything. If `extra` says so, all
+/// below the directory whose path no member has is removed first, which frees its blocks: each name by Unlink, and each directory by Rmdir, after what is in
+/// it. A refusal of these calls stops all, as any other.
 ///
-/// Takes the memory and the time of `sync_tree`, and memory for the lines.
+/// Takes the memory and the time of `sync_tree`, and memory for the lines. What is removed costs a walk of all below the directory, with memory for its paths.
 pub fn sync_image(
     alloc: Global,
     edition: Edition,
     image: Vec<u8>,
     syncing: Syncing<'_>,
+    extra: Extra,
     members: Vec<TreeMember>,
 ) -> Result<SyncedImage, Fault>
-    ensures made { IfOk result (λ synced. Imports edition image.items (told (calls_to_sync (reads_as edition image.items).tree syncing.entry members.items)) synced.bytes.items) }
-    ensures lines { IfOk result (λ synced. synced.lines.items ≡ lines_of_sync (reads_as edition image.items).tree syncing.entry members.items) }
-    ensures same { IfOk result (λ synced. IsSame (calls_to_sync (reads_as edition image.items).tree syncing.entry members.items) synced.is_same) }
-    ensures fault { IfErr result (IsUnimported edition image.items (told (calls_to_sync (reads_as edition image.items).tree syncing.entry members.items))) }
+    ensures synced { IfOk result (IsSynced edition image.items syncing.entry extra members.items) }
+    ensures fault { IfErr result (IsUnsynced edition image.items syncing.entry extra members.items) }
 {
-    match make_syncs(alloc, edition, image, syncing, members) {
+    match make_syncs(alloc, edition, image, syncing, extra, members) {
         Ok(synced) => {
             let SyncedVolume {
                 volume,
@@ -187,15 +191,14 @@ fn make_syncs(
     edition: Edition,
     image: Vec<u8>,
     syncing: Syncing<'_>,
+    extra: Extra,
     members: Vec<TreeMember>,
 ) -> Result<SyncedVolume, ImportFault>
-    ensures made { IfOk result (λ synced. ImportsVolume edition image.items (told (calls_to_sync (reads_as edition image.items).tree syncing.entry members.items)) synced.volume) }
-    ensures lines { IfOk result (λ synced. synced.lines.items ≡ lines_of_sync (reads_as edition image.items).tree syncing.entry members.items) }
-    ensures same { IfOk result (λ synced. IsSame (calls_to_sync (reads_as edition image.items).tree syncing.entry members.items) synced.is_same) }
-    ensures fault { IfErr result (IsStopped edition image.items (told (calls_to_sync (reads_as edition image.items).tree syncing.entry members.items))) }
+    ensures synced { IfOk result (IsSyncedVolume edition image.items syncing.entry extra members.items) }
+    ensures fault { IfErr result (IsStopped edition image.items syncing.entry extra members.items) }
 {
     let mut volume = make::mount(alloc, edition, image)?;
-    let plan = match calls_to_sync(alloc, &volume, syncing, members) {
+    let plan = match plan_syncs(alloc, &volume, syncing, extra, members) {
         Ok(plan) => plan,
         Err(fault) => return Err(make::unplanned(fault)),
     };
@@ -210,19 +213,37 @@ fn make_syncs(
     })
 }
 
-/// Returns the calls for a tree, and what they do.
+/// Returns the calls for what is removed and for a tree, and what they do.
+fn plan_syncs(
+    alloc: Global,
+    volume: &Volume,
+    syncing: Syncing<'_>,
+    extra: Extra,
+    members: Vec<TreeMember>,
+) -> Result<SyncPlan, PlanFault>
+    ensures plan { IfOk result (IsPlanned volume.now.edition volume.now.image syncing.entry extra members.items) }
+    ensures fault { IfErr result (IsUnplanned volume.now.edition volume.now.image syncing.entry extra members.items) }
+{
+    let begun = removals(alloc, volume, syncing, extra, &members)?;
+    calls_to_sync(alloc, volume, syncing, begun, members)
+}
+
+/// Returns the calls of a plan, followed by those for a tree, and what they do.
 fn calls_to_sync(
     alloc: Global,
     volume: &Volume,
     syncing: Syncing<'_>,
+    begun: SyncPlan,
     members: Vec<TreeMember>,
 ) -> Result<SyncPlan, PlanFault>
-    ensures calls { IfOk result (λ plan. calls_to_sync (reads_as volume.now.edition volume.now.image).tree syncing.entry members.items ≡ Ok plan.calls.items) }
-    ensures lines { IfOk result (λ plan. plan.lines.items ≡ lines_of_sync (reads_as volume.now.edition volume.now.image).tree syncing.entry members.items) }
-    ensures fault { IfErr result (Tells (calls_to_sync (reads_as volume.now.edition volume.now.image).tree syncing.entry members.items)) }
+    ensures calls { IfOk result (λ plan. calls_onto (reads_as volume.now.edition volume.now.image).tree syncing.entry begun.calls.items members.items ≡ Ok plan.calls.items) }
+    ensures lines { IfOk result (λ plan. plan.lines.items ≡ begun.lines.items ++ lines_of_sync (reads_as volume.now.edition volume.now.image).tree syncing.entry members.items) }
+    ensures fault { IfErr result (Tells (calls_onto (reads_as volume.now.edition volume.now.image).tree syncing.entry begun.calls.items members.items)) }
 {
-    let mut calls = Vec::new(alloc);
-    let mut lines = Vec::new(alloc);
+    let SyncPlan {
+        mut calls,
+        mut lines,
+    } = begun;
     let mut left = members;
     left.reverse();
     'members: while let Some(member) = left.pop() {
@@ -455,7 +476,7 @@ fn push_step_line(step: FileStep, path: &[u8], lines: &mut Vec<u8>) -> Result<()
 }
 
 /// Appends a line: a word, and a path of the volume with unprintable bytes escaped.
-fn push_line(word: &[u8], path: &[u8], lines: &mut Vec<u8>) -> Result<(), AllocError>
+pub(crate) fn push_line(word: &[u8], path: &[u8], lines: &mut Vec<u8>) -> Result<(), AllocError>
     ensures { OnOk result (lines.new.items ≡ lines.old.items ++ line_of word.now path.now) }
 {
     lines.extend_from_slice(word)?;

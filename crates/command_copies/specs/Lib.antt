@@ -1,2 +1,4 @@
+pub mod Lists
+pub mod Members
 pub mod Nodes
 pub mod Trees

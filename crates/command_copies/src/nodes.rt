@@ -36,7 +36,7 @@ pub struct NodeRead {
     pub content: NodeContent,
 }
 
-/// The reason why an entry of a volume isn't copied.
+/// The reason why an entry of a volume isn't copied, or can't be in a list.
 #[derive(Clone, Copy)]
 pub enum Uncopied {
     /// An archive doesn't have it either.
@@ -45,6 +45,8 @@ pub enum Uncopied {
     Special,
     /// Its path isn't UTF-8 text.
     NotText,
+    /// Its path can't be a word of a list, since it has a space or a newline.
+    Spaced,
 }
 
 /// Reads an entry that a walk met below a directory, to copy it to `path`.
@@ -86,7 +88,7 @@ pub(crate) fn read_node(
 }
 
 /// Returns bytes as text, if they are UTF-8.
-fn text_of(bytes: Vec<u8>) -> Option<String>
+pub(crate) fn text_of(bytes: Vec<u8>) -> Option<String>
     ensures text { IfSome result (λ text. string_bytes text ≡ bytes.items) }
     ensures utf8 { is_some result ≡ is_utf8 bytes.items }
 {

@@ -177,14 +177,22 @@ const SPECIAL: &[u8] = b"a special file";
 /// The words for a path that no file of the host can have.
 const NOT_TEXT: &[u8] = b"the name is not UTF-8 text";
 
+/// The words for a path that can't be a word of a list.
+const SPACED: &[u8] = b"a list has no place for a space or a newline in a path";
+
 /// Appends the line about the path of an entry that isn't copied.
-fn push_uncopied(lines: &mut Vec<u8>, shown: &[u8], why: Uncopied) -> Result<(), AllocError>
+pub(crate) fn push_uncopied(
+    lines: &mut Vec<u8>,
+    shown: &[u8],
+    why: Uncopied,
+) -> Result<(), AllocError>
     ensures { OnOk result (lines.new.items ≡ lines.old.items ++ uncopied_line shown.now why) }
 {
     match why {
         Uncopied::Left(reason) => push_role(lines, shown, Role::Left(reason)),
         Uncopied::Special => push_line(lines, shown, SPECIAL),
         Uncopied::NotText => push_line(lines, shown, NOT_TEXT),
+        Uncopied::Spaced => push_line(lines, shown, SPACED),
     }
 }
 

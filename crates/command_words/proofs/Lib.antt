@@ -2,6 +2,7 @@ mod Clauses
 pub mod BadLooks
 pub mod BadValues
 pub mod BadWords
+pub mod Builds
 pub mod Copies
 pub mod DumpWords
 pub mod ExcludedWords

@@ -211,10 +211,13 @@ abbrev pub IsOneWrong : Option ℕ → Words → List Argument → Type 0
 IsOneWrong clock given [] = ⊥
 IsOneWrong clock given (argument ∷ rest) = (IsValue clock argument.1 (given argument.0) → ⊥) ⊎ IsOneWrong clock given rest
 
+-- the words given for the edition of a volume, by this argument, or for the block that it begins at, aren't valid (this project)
+abbrev pub IsWrongBy : Words → List ℕ → Type 0
+IsWrongBy given name = (IsValue None kinds.Edition (given name) → ⊥) ⊎ (IsValue None kinds.LongOr (given (codes "at")) → ⊥)
+
 -- the words given for the edition of a volume, or for the block that it begins at, aren't valid (this project)
 abbrev pub IsVolumeWrong : Words → Type 0
-IsVolumeWrong given =
-    (IsValue None kinds.Edition (given (codes "EDITION")) → ⊥) ⊎ (IsValue None kinds.LongOr (given (codes "at")) → ⊥)
+IsVolumeWrong given = IsWrongBy given (codes "EDITION")
 
 -- the command of a checker (this project)
 abbrev pub checker_verb : Checker → Verb
@@ -281,8 +284,9 @@ bad_look_verb (bad_looks.Body node damaged) = verbs.Cat
 abbrev pub copying_verb : Copying → Verb
 copying_verb (copies.Put directory files keep owner now trace) = verbs.Put
 copying_verb (copies.PutTree directory folders keep owner now trace) = verbs.Put
-copying_verb (copies.Sync directory folder owner now is_trial) = verbs.Sync
+copying_verb (copies.Sync directory folder owner now deletes is_trial) = verbs.Sync
 copying_verb (copies.Get folder paths is_deep keeps) = verbs.Get
+copying_verb (copies.List new) = verbs.Build
 
 -- the command of an invocation (this project)
 abbrev pub verb_of : Invocation → Verb
@@ -348,11 +352,15 @@ with_volume (invocations.Identify images form is_deep) volume = invocations.Iden
 abbrev pub IsAtGiven : Words → ℕ → Type 0
 IsAtGiven given at = IsNumberOr 4294967295 0 (given (codes "at")) at
 
+-- the words name this volume, with the edition by this argument (this project)
+abbrev pub IsVolumeBy : Words → List ℕ → VolumeFile → Type 0
+IsVolumeBy given name volume =
+    IsEditionGiven volume.edition volume.is_any (the_word given name) × (volume.image.now ≡ the_word given (codes "IMAGE"))
+    × IsAtGiven given volume.at
+
 -- the words name this volume (this project)
 abbrev pub IsVolumeGiven : Words → VolumeFile → Type 0
-IsVolumeGiven given volume =
-    IsEditionGiven volume.edition volume.is_any (the_word given (codes "EDITION")) × (volume.image.now ≡ the_word given (codes "IMAGE"))
-    × IsAtGiven given volume.at
+IsVolumeGiven given volume = IsVolumeBy given (codes "EDITION") volume
 
 -- the words name this file to make, by the argument for its path, and say whether it must not exist (this project)
 abbrev pub IsMadeGiven : Words → List ℕ → MadeFile → Type 0
@@ -648,6 +656,10 @@ AreFilesGiven clock words files now word = (1 ≤ length files) × (are_apart fi
 abbrev pub ArePathsGiven : List (List ℕ) → List (List ℕ) → Type 0
 ArePathsGiven words paths = (1 ≤ length paths) × (are_apart paths ≡ true) × (paths ≡ words)
 
+-- the words name this file for the list of a volume: the third of them (this project)
+abbrev pub IsListGiven : Words → MadeFile → Type 0
+IsListGiven given new = IsFirstWord given (codes "MORE") new.path.now × (new.is_new ≡ is_set (given (codes "new")))
+
 -- the words describe this copying (this project)
 abbrev pub IsCopyGiven : Option ℕ → Words → Copying → Type 0
 IsCopyGiven clock given (copies.Put directory files keep owner now trace) = IsNonEmptyWord given (codes "target-directory") directory.now
@@ -658,13 +670,22 @@ IsCopyGiven clock given (copies.PutTree directory folders keep owner now trace) 
     × AreFilesGiven clock (put_words given) (map (λ folder. folder.now) folders.items) now.seconds (option_map (λ word. word.now) now.word)
     × IsKeepGiven given keep × IsOwnerGiven (given (codes "owner")) owner × (trace ≡ is_set (given (codes "trace")))
     × (is_set (given (codes "recursive")) ≡ true)
-IsCopyGiven clock given (copies.Sync directory folder owner now is_trial) = IsPathGiven (given (codes "PATH")) directory.now
+IsCopyGiven clock given (copies.Sync directory folder owner now deletes is_trial) = IsPathGiven (given (codes "PATH")) directory.now
     × (folder.now ≡ the_word given (codes "FOLDER")) × IsMomentGiven clock (given (codes "NOW")) now × IsOwnerGiven (given (codes "owner")) owner
-    × (is_trial ≡ is_set (given (codes "dry-run")))
+    × (deletes ≡ is_set (given (codes "delete"))) × (is_trial ≡ is_set (given (codes "dry-run")))
 IsCopyGiven clock given (copies.Get folder paths is_deep keeps) = IsNonEmptyWord given (codes "output") folder.now
     × ArePathsGiven (get_words given) (map (λ path. path.now) paths.items) × (keeps ≡ is_set (given (codes "preserve")))
     × (is_set (given (codes "unsound")) ≡ false) × IsBadImageGiven given V7 (is_set (given (codes "cut"))) None
     × (is_deep ≡ is_set (given (codes "recursive")))
+IsCopyGiven clock given (copies.List new) = IsListGiven given new × (is_set (given (codes "list")) ≡ true)
+
+-- the words name the volume of this copying; of a list to write, the edition is the first word (this project)
+abbrev pub IsCopyVolume : Words → VolumeFile → Copying → Type 0
+IsCopyVolume given volume (copies.Put directory files keep owner now trace) = IsVolumeGiven given volume
+IsCopyVolume given volume (copies.PutTree directory folders keep owner now trace) = IsVolumeGiven given volume
+IsCopyVolume given volume (copies.Sync directory folder owner now deletes is_trial) = IsVolumeGiven given volume
+IsCopyVolume given volume (copies.Get folder paths is_deep keeps) = IsVolumeGiven given volume
+IsCopyVolume given volume (copies.List new) = IsVolumeBy given (codes "LIST") volume
 
 -- the words choose this form of a play's results: JSON if that option is given, but not with a trace; else lines, with the trace if that option is given
 -- (this project)
@@ -708,6 +729,7 @@ IsGiven clock given (invocations.Mkfs place volume) = IsNewPlaceGiven given plac
 IsGiven clock given (invocations.Migrate old at new migration) = (old.now ≡ the_word given (codes "OLD"))
     × IsMadeGiven given (codes "NEW") new × IsMigrationGiven clock given migration × IsAtGiven given at
 IsGiven clock given (invocations.Build list new) = (list.now ≡ the_word given (codes "LIST")) × IsMadeGiven given (codes "IMAGE") new
+    × IsLeftOut given (codes "MORE") × IsLeftOut given (codes "at") × (is_set (given (codes "list")) ≡ false)
 IsGiven clock given (invocations.Get volume path) =
     IsVolumeGiven given volume × IsOnePathGiven given path.now × (is_set (given (codes "unsound")) ≡ false)
     × IsBadImageGiven given V7 (is_set (given (codes "cut"))) None
@@ -724,7 +746,7 @@ IsGiven clock given (invocations.Change volume change trace) =
     IsVolumeGiven given volume × IsChangeGiven clock given change × IsTraceGiven given change trace
 IsGiven clock given (invocations.Look volume look) = IsVolumeGiven given volume × IsLookGiven given look
 IsGiven clock given (invocations.LookBad volume image look) = IsVolumeGiven given volume × IsBadLookGiven given volume.edition image look
-IsGiven clock given (invocations.Copy volume copying) = IsVolumeGiven given volume × IsCopyGiven clock given copying
+IsGiven clock given (invocations.Copy volume copying) = IsCopyVolume given volume copying × IsCopyGiven clock given copying
 IsGiven clock given (invocations.Work volume work) = IsVolumeGiven given volume × IsWorkGiven given work
 IsGiven clock given (invocations.Serve volume serving) = IsVolumeGiven given volume × IsServingGiven given serving
 IsGiven clock given (invocations.Diff volume other by) =

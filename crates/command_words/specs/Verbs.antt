@@ -140,7 +140,10 @@ row_of verbs.Mkfs = (
   new_edition ∷ word (codes "IMAGE") ∷ ((codes "FSIZE", kinds.Blocks, needs.Once) ∷ maybe_number (codes "IBLOCKS") ∷ maybe_number (codes "UID") ∷ maybe_number (codes "GID") ∷ moment
       ∷ option (codes "new") ∷ at ∷ []),
 )
-row_of verbs.Build = (codes "build", word (codes "LIST") ∷ word (codes "IMAGE") ∷ option (codes "new") ∷ [])
+row_of verbs.Build = (
+  codes "build",
+  word (codes "LIST") ∷ word (codes "IMAGE") ∷ maybe_word (codes "MORE") ∷ option (codes "list") ∷ option (codes "new") ∷ at ∷ [],
+)
 row_of verbs.Put = (
   codes "put",
   on_volume (word (codes "PATH") ∷ maybe_word (codes "FILE") ∷ maybe_word (codes "NOW") ∷ more_words
@@ -149,7 +152,7 @@ row_of verbs.Put = (
 )
 row_of verbs.Sync = (
   codes "sync",
-  on_volume (path needs.Once ∷ word (codes "FOLDER") ∷ moment ∷ lettered (codes "dry-run") 110 ∷ owner ∷ []),
+  on_volume (path needs.Once ∷ word (codes "FOLDER") ∷ moment ∷ lettered (codes "dry-run") 110 ∷ option (codes "delete") ∷ owner ∷ []),
 )
 row_of verbs.Import = (
   codes "import",

@@ -59,12 +59,15 @@ pub(crate) struct EditionWord {
     pub is_any: bool,
 }
 
-/// Reads the edition of a volume.
-pub(crate) fn edition_in<'a, G: Given<'a>>(given: &G) -> Result<EditionWord, WordFault<'a>>
-    ensures read { IfOk result (λ word. IsEditionGiven word.edition word.is_any (the_word (G.words given.now) (codes "EDITION"))) }
-    ensures refused { IfErr result (TellsOf (IsValue None kinds.Edition (G.words given.now (codes "EDITION")) → ⊥)) }
+/// Reads the edition of a volume, which was given for an argument.
+pub(crate) fn edition_in<'a, G: Given<'a>>(
+    given: &G,
+    name: &str,
+) -> Result<EditionWord, WordFault<'a>>
+    ensures read { IfOk result (λ word. IsEditionGiven word.edition word.is_any (the_word (G.words given.now) name.now)) }
+    ensures refused { IfErr result (TellsOf (IsValue None kinds.Edition (G.words given.now name.now) → ⊥)) }
 {
-    let text = text_in(given, "EDITION");
+    let text = text_in(given, name);
     match text {
         "6" => Ok(EditionWord {
             edition: Edition::V6,

@@ -120,14 +120,19 @@ pub enum Copying<'a> {
         now: Moment<'a>,
         trace: bool,
     },
-    /// Make a directory of the volume what a folder is, and give what is made or put this owner, if any; `now` is the time of the calls; if `is_trial`,
-    /// only print what would be done.
+    /// Make a directory of the volume what a folder is, and give what is made or put this owner, if any; `now` is the time of the calls; if `deletes`, also
+    /// remove what the folder hasn't; if `is_trial`, only print what would be done.
     Sync {
         directory: &'a str,
         folder: &'a str,
         owner: Option<Cred>,
         now: u32,
+        deletes: bool,
         is_trial: bool,
+    },
+    /// Write a list of the volume, from which `build` makes it again, into the file `new`, and the files that it names beside it.
+    List {
+        new: MadeFile<'a>,
     },
     /// Write files of the volume into a folder, each under its last name; if `is_deep`, also directories with everything below them; if `keeps`, with
     /// their permissions and times of modification.

@@ -1,6 +1,6 @@
 //! Reads the words after a command.
 ghost use Rattle.std.specs.Prelude.{IfErr, IfOk};
-ghost use Rattle.command_words.specs.Invocations.{AsksFor, AsksForNothing, IsFormGiven, IsMadeGiven, IsVolumeGiven, IsVolumeWrong, TellsOf};
+ghost use Rattle.command_words.specs.Invocations.{AsksFor, AsksForNothing, IsFormGiven, IsMadeGiven, IsVolumeBy, IsVolumeGiven, IsVolumeWrong, IsWrongBy, TellsOf};
 
 use crate::commands;
 use crate::fault::WordFault;
@@ -38,7 +38,18 @@ pub(crate) fn volume_in<'a, G: Given<'a>>(given: &G) -> Result<VolumeFile<'a>, W
     ensures read { IfOk result (IsVolumeGiven (G.words given.now)) }
     ensures refused { IfErr result (TellsOf (IsVolumeWrong (G.words given.now))) }
 {
-    let EditionWord { edition, is_any } = edition_in(given)?;
+    volume_by(given, "EDITION")
+}
+
+/// Reads the same, with the edition that was given for an argument.
+pub(crate) fn volume_by<'a, G: Given<'a>>(
+    given: &G,
+    name: &str,
+) -> Result<VolumeFile<'a>, WordFault<'a>>
+    ensures read { IfOk result (IsVolumeBy (G.words given.now) name.now) }
+    ensures refused { IfErr result (TellsOf (IsWrongBy (G.words given.now) name.now)) }
+{
+    let EditionWord { edition, is_any } = edition_in(given, name)?;
     let image = text_in(given, "IMAGE");
     let at = long_or(given, "at", 0)?;
     Ok(VolumeFile {

@@ -36,8 +36,20 @@ pub(crate) fn no_more<'a, G: Given<'a>>(given: &G, wanted: &'a str) -> Result<()
     ensures none { IfOk result (λ _. IsLeftOut (G.words given.now) (codes "MORE")) }
     ensures refused { IfErr result (TellsOf (IsLeftOut (G.words given.now) (codes "MORE") → ⊥)) }
 {
-    match given.first("MORE") {
-        Some(word) => Err(wrong("MORE", word, wanted)),
+    left_out(given, "MORE", wanted)
+}
+
+/// Succeeds if no word was given for an argument; otherwise `wanted` says what it is for.
+pub(crate) fn left_out<'a, G: Given<'a>>(
+    given: &G,
+    name: &'a str,
+    wanted: &'a str,
+) -> Result<(), WordFault<'a>>
+    ensures none { IfOk result (λ _. IsLeftOut (G.words given.now) name.now) }
+    ensures refused { IfErr result (TellsOf (IsLeftOut (G.words given.now) name.now → ⊥)) }
+{
+    match given.first(name) {
+        Some(word) => Err(wrong(name, word, wanted)),
         None => Ok(()),
     }
 }

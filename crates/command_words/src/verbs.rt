@@ -146,6 +146,7 @@ impl Verb {
     /// Returns the usage of the command, if it has more than one form.
     pub fn usage(self) -> Option<&'static str> {
         match self {
+            Verb::Build => Some(commands::build::USAGE),
             Verb::Get => Some(commands::get::USAGE),
             Verb::Put => Some(commands::put::USAGE),
             _ => None,

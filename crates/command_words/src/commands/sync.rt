@@ -19,6 +19,7 @@ pub(crate) const MORE: &str = "\
 Examples:
   unixvol sync 7 disk.img /usr/src/cmd cmd
   unixvol sync 7 disk.img /usr/src/cmd cmd -n
+  unixvol sync 7 disk.img /usr/src/cmd cmd --delete
   unixvol sync 7 disk.img / rootfs --owner 3:1
 
 PATH is in the volume, and comes before FOLDER, which is outside it. Each file of FOLDER and below it is compared
@@ -27,10 +28,15 @@ its permissions and the time of its last modification in whole seconds. One with
 permissions and its time if they differ. A file that is the same is left alone, and if all are, IMAGE isn't written.
 
 A directory that is missing is made, PATH too, but not the directories above it; it gets the folder's permissions, and
-its owner with --owner. Directories that are there keep theirs. Nothing is removed from the volume.
+its owner with --owner. Directories that are there keep theirs.
+
+With --delete, what FOLDER hasn't is removed from PATH first: files, special files, further names, and directories
+with all below them. Without it nothing is removed from the volume. A file whose place a folder is to take, or the
+reverse, is never removed: nothing is done then.
 
 With -n nothing is written. A line says what would be done for each that isn't the same: `mkdir PATH`, `put PATH`, or
-`mark PATH` if only permissions and time would change. The status is what it would be, unless writing failed.
+`mark PATH` if only permissions and time would change. With --delete, these follow a line for each that would be
+removed: `rm PATH`, or `rmdir PATH` for a directory. The status is what it would be, unless writing failed.
 
 FOLDER may have regular files and folders only, with names of at most 14 bytes. If it has anything else, a symbolic
 link for example, this is reported with its path, and nothing is done; FOLDER itself may be a link to a folder. The
@@ -45,7 +51,7 @@ A path starts at the root, with or without a leading slash. Repeated slashes cou
 ignored, and each name is cut to 14 bytes. The volume must be sound: its twelve rules are checked first.
 
 Status:
-  0  PATH is what FOLDER is, but for what FOLDER hasn't; with -n, it can be
+  0  PATH is what FOLDER is, but without --delete for what FOLDER hasn't; with -n, it can be
   1  `unixvol: unsound, rule N`: this is the first rule that the volume breaks; `unixvol check` says what breaks it
      `unixvol: 2 NoEntry: PATH`, `unixvol: 20 NotDirectory: PATH`: the parent of PATH doesn't exist, or isn't one
      `unixvol: 17 Exists: PATH`: a file is there, and a folder in FOLDER
@@ -83,9 +89,16 @@ const DRY_RUN: Parameter = Parameter {
     help: "Write nothing, and print what would be done",
 };
 
+const DELETE: Parameter = Parameter {
+    name: "delete",
+    kind: WordKind::Flag,
+    need: Need::Flag(None),
+    help: "Also remove what FOLDER hasn't",
+};
+
 /// The words that `sync` takes.
 pub(crate) const WORDS: &[Parameter] = &[
-    EDITION, IMAGE, AT, PATH, FOLDER, CALL_NOW, DRY_RUN, OWNER,
+    EDITION, IMAGE, AT, PATH, FOLDER, CALL_NOW, DRY_RUN, DELETE, OWNER,
 ];
 
 /// Reads the words of `sync`.
@@ -106,6 +119,7 @@ pub(crate) fn read<'a, G: Given<'a>>(
         folder: text_in(given, "FOLDER"),
         owner,
         now,
+        deletes: flag_in(given, "delete"),
         is_trial: flag_in(given, "dry-run"),
     };
     Ok(Invocation::Copy { volume, copying })

@@ -9,6 +9,7 @@ pub mod Done
 pub mod FileFaults
 pub mod FilledLists
 pub mod Given
+pub mod SavedLists
 pub mod Identified
 pub mod Looked
 pub mod MadeVolumes

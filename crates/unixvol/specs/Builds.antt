@@ -33,6 +33,7 @@ IsContentRead given member content = content ≡ []
 -- a list is filled: with the program for its boot block, and the bytes of each of its members, which were read from files (this project)
 pub record IsFilled (given : Edition → List ℕ → Type 0) (list : PackList) (full : FilledList) : Type 0 where
   pub volume : full.volume ≡ list.volume
+  pub root : full.root ≡ list.root
   pub boot : IsProgramRead (given list.volume.sizes.edition) list.boot full.boot
   pub members : map (λ (member : FilledMember). member.listed.now) full.members.items ≡ list.members.items
   pub read : All (λ (member : FilledMember). IsContentRead (given list.volume.sizes.edition) member.listed.now member.content.items) full.members.items

@@ -16,7 +16,11 @@ use Rattle.command_words.specs.declared.invocation.Copying.{Copying}
 use Rattle.command_words.specs.declared.invocation.Copying.TheVariants as copyings
 use Rattle.command_words.specs.declared.invocation.Moment.{Moment}
 use Rattle.command_reads.specs.GetFiles.{GetsFiles}
+use Rattle.pack_lists.specs.Lists.{listed}
+use Rattle.pack_lists.specs.Texts.{list_text}
+use Rattle.command_copies.specs.Lists.{ListsVolume}
 use Rattle.command_copies.specs.Trees.{GetsTrees, name_of, told_status}
+use Rattle.command_copies.specs.declared.lists.VolumeListed.{VolumeListed}
 use Rattle.command_copies.specs.declared.nodes.NodeContent.{NodeContent}
 use Rattle.command_copies.specs.declared.nodes.NodeContent.TheVariants as contents
 use Rattle.command_copies.specs.declared.nodes.NodeRead.{NodeRead}
@@ -30,7 +34,7 @@ use Rattle.command_changes.specs.declared.put.NewFile.{NewFile}
 use Rattle.command_changes.specs.declared.sync.Unchanged.TheVariants as unchanged
 use Rattle.unixvol.specs.Exits.{ExitsAfterSaving, ToEnd}
 use Rattle.unixvol.specs.Runs.{Ends, HostFiles, IsGivenFile, IsStatusOfFileOrMemory, RunsNothing}
-use Rattle.unixvol.specs.Syncs.{Listings, PutsTrees, RunsSync}
+use Rattle.unixvol.specs.Syncs.{Listings, PutsTrees, RunsSync, extra_of}
 use Rattle.unixvol.specs.Traces.{EndsTraced}
 use Rattle.host_files.specs.declared.image_file.Stamp.{Stamp}
 
@@ -127,16 +131,37 @@ RunsPutTree streams files stands listed edition directory folders keep owner now
     ⊎ (IsMomentAlone stands now
     × PutsTrees streams files listed edition (record { directory = directory; owner = owner; unchanged = unchanged.Put; now = now.seconds }) folders keep trace status)
 
+-- a list was written, and the files that it names beside it: all bytes of each were written to a file, and for each directory the system reported that a
+-- folder is there (this project)
+abbrev pub IsListSaved : (List ℕ → Type 0) → (Stamp → Type 0) → VolumeListed → Type 0
+IsListSaved taken stood read = AreCopied taken stood read.nodes.items × IfSome read.boot (λ bytes. taken bytes.items) × taken (list_text (listed read.list))
+
+-- a run ends after a volume was read as a list: the status is 0 if all of it was written, otherwise that of a file, and nothing is reported; or, if it wasn't
+-- read, the fault is reported, with its status (this project)
+abbrev pub EndsListed : (List ℕ → Type 0) → (Stamp → Type 0) → List ℕ → Result VolumeListed Fault → ℕ → Type 0
+EndsListed taken stood lines (Ok read) status = (((status ≡ 0) × IsListSaved taken stood read) ⊎ IsStatusOfFileOrMemory status) × (lines ≡ [])
+EndsListed taken stood lines (Err fault) status = (status ≡ fault_status fault) × (lines ≡ fault_line fault)
+
+-- the list of a volume is written into a file with this path: nothing is done; or nothing is printed, the volume is read from a file as the list of the last name of
+-- this path, and all of it is saved once it is read (this project)
+abbrev pub RunsBuildList : Streams → HostFiles → Edition → List ℕ → ℕ → Type 0
+RunsBuildList streams files edition path status =
+    RunsNothing streams files status
+    ⊎ ((image : List ℕ) × (read : Result VolumeListed Fault) × files.shown edition image × ListsVolume edition image (name_of path) read
+    × Keeps streams.old streams.new × (streams.failed ≡ streams.had_failed) × EndsListed files.taken files.stood streams.lines read status)
+
 -- several files are copied (this project)
 abbrev pub RunsCopy : Streams → HostFiles → Standing → Listings → Edition → Copying → ℕ → Type 0
 RunsCopy streams files stands listed edition (copyings.PutTree directory folders keep owner now trace) status =
     RunsPutTree streams files stands listed edition directory (map (λ folder. folder.now) folders.items) keep owner now trace status
-RunsCopy streams files stands listed edition (copyings.Sync directory folder owner now is_trial) status =
-    RunsSync streams files listed edition (record { directory = directory; owner = owner; unchanged = unchanged.Skip; now = now }) folder.now is_trial status
+RunsCopy streams files stands listed edition (copyings.Sync directory folder owner now deletes is_trial) status =
+    RunsSync streams files listed edition (record { directory = directory; owner = owner; unchanged = unchanged.Skip; now = now }) (extra_of deletes) folder.now
+    is_trial status
 RunsCopy streams files stands listed edition (copyings.Put directory paths keep owner now trace) status =
     RunsPut streams files stands edition directory.now (map (λ path. name_of path.now) paths.items) keep owner now trace status
 RunsCopy streams files stands listed edition (copyings.Get folder paths true keeps) status = RunsGetTrees streams files edition (map (λ path. path.now) paths.items) status
 RunsCopy streams files stands listed edition (copyings.Get folder paths false keeps) status = RunsGet streams files edition (map (λ path. path.now) paths.items) status
+RunsCopy streams files stands listed edition (copyings.List new) status = RunsBuildList streams files edition new.path.now status
 
 -- a command that copies several files runs to its end, as a plain command does (this project)
 abbrev pub CopiesToEnd : HostFiles → Standing → Listings → Option (List ℕ) → Option (List ℕ) → Edition → Copying → ℕ → Type 0

@@ -257,7 +257,7 @@ RunsMigrate streams files migration status =
 abbrev pub BuildsListed : Streams → HostFiles → List ℕ → ℕ → Type 0
 BuildsListed streams files text status =
     (list : PackList) × (full : FilledList) × (answer : Answer) × (list_in text ≡ Ok (listed list)) × IsFilled files.put list full
-    × Concludes (of_build full.volume (program_of full) (map filled full.members.items)) streams answer × EndsSaved files.taken answer status
+    × Concludes (of_build full.volume full.root (program_of full) (map filled full.members.items)) streams answer × EndsSaved files.taken answer status
 
 -- `build` runs, with the list in the file of this name: nothing is done, as a file isn't read; or the list is read from a file, and it can't be read as a
 -- list; or its volume is built (this project)

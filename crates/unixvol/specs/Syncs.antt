@@ -4,11 +4,14 @@ use Rattle.std.specs.List.{FoldsTo}
 use Rattle.std.specs.Path.{StripsPrefix, path_join}
 use Rattle.std.specs.Io.KnownBytes.{Keeps}
 use Rattle.vol_dir.specs.declared.cred.Cred.{Cred}
-use Rattle.vol_import.specs.Make.{Imports, told}
+use Rattle.vol_import.specs.Make.{told}
 use Rattle.vol_layout.specs.declared.edition.Edition.{Edition}
 use Rattle.vol_volume.specs.Volume.{reads_as}
-use Rattle.command_changes.specs.Import.{IsUnimported, of_import}
-use Rattle.command_changes.specs.Sync.{IsSame, calls_to_sync, lines_of_sync}
+use Rattle.command_changes.specs.Extras.{IsSynced, IsUnsynced}
+use Rattle.command_changes.specs.Import.{of_import}
+use Rattle.command_changes.specs.Sync.{calls_to_sync}
+use Rattle.command_changes.specs.declared.extras.Extra.{Extra}
+use Rattle.command_changes.specs.declared.extras.Extra.TheVariants as extras
 use Rattle.command_changes.specs.declared.kept.GivenFile.{GivenFile}
 use Rattle.command_changes.specs.declared.kept.Kept.{Kept}
 use Rattle.command_changes.specs.declared.sync.SyncedImage.{SyncedImage}
@@ -87,19 +90,17 @@ EndsSynced files stamp false synced streams status =
     ⊎ ((files.stored synced.bytes.items × files.stood stamp × IsQuiet 0 [] streams status)
     ⊎ (IsStatusOfFileOrMemory status × IsQuiet status [] streams status))
 
--- an image is what the calls for these members make of another one, with their lines, and with no call to make exactly if it says so (this project)
-abbrev pub IsSynced : Edition → List ℕ → Syncing → List TreeMember → SyncedImage → Type 0
-IsSynced edition image syncing members synced =
-    Imports edition image (told (calls_to_sync (reads_as edition image).tree syncing members)) synced.bytes.items
-    × (synced.lines.items ≡ lines_of_sync (reads_as edition image).tree syncing members)
-    × IsSame (calls_to_sync (reads_as edition image).tree syncing members) synced.is_same
+-- what becomes of what a folder hasn't, by whether it is to be removed (rsync)
+abbrev pub extra_of : Bool → Extra
+extra_of true = extras.Remove
+extra_of false = extras.Keep
 
 -- a directory is made what a folder is: nothing is done; or the fault is reported for which the calls can't be made on an image that was read from a
 -- file; or they are made (this project)
-abbrev pub RunsSync : Streams → HostFiles → Listings → Edition → Syncing → List ℕ → Bool → ℕ → Type 0
-RunsSync streams files listed edition syncing folder is_trial status =
+abbrev pub RunsSync : Streams → HostFiles → Listings → Edition → Syncing → Extra → List ℕ → Bool → ℕ → Type 0
+RunsSync streams files listed edition syncing extra folder is_trial status =
     LeavesAll streams status
     ⊎ ((image : List ℕ) × (stamp : Stamp) × (members : List TreeMember) × files.opened edition image stamp
     × IsTreeGiven (files.put edition) listed keeps.All [] folder members
-    × (((fault : Fault) × IsUnimported edition image (told (calls_to_sync (reads_as edition image).tree syncing members)) fault × IsTold streams fault status)
-    ⊎ ((synced : SyncedImage) × IsSynced edition image syncing members synced × EndsSynced files stamp is_trial synced streams status)))
+    × (((fault : Fault) × IsUnsynced edition image syncing extra members fault × IsTold streams fault status)
+    ⊎ ((synced : SyncedImage) × IsSynced edition image syncing extra members synced × EndsSynced files stamp is_trial synced streams status)))

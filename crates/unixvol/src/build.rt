@@ -75,6 +75,7 @@ fn fill<'a, 'l, R: ImageFiles + AllocGlobal>(
     Ok(FilledList {
         volume,
         boot,
+        root: listed.root,
         members,
     })
 }

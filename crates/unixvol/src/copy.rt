@@ -6,8 +6,10 @@ ghost use Rattle.unixvol.specs.FileFaults.{file_status, run_fault, run_status};
 ghost use Rattle.unixvol.specs.Copies.{AreSaved, CopiesToEnd, IsFileToo, IsMomentAlone, RunsCopy, RunsGet, RunsPut};
 ghost use Rattle.command_copies.specs.Trees.{name_of};
 ghost use Rattle.unixvol.specs.Runs.{Ends, GavePut, IsGivenFile, IsStatusOfFileOrMemory, IsUnread, host_files};
+ghost use Rattle.unixvol.specs.Syncs.{extra_of};
 ghost use Rattle.host_files.specs.Save.{IsTaken};
 
+use crate::build_list::run_build_list;
 use crate::explain::{finish, tell_end};
 use crate::file_fault::{FailedRun, FileFault, after_saving};
 use crate::get_trees::run_get_trees;
@@ -17,7 +19,7 @@ use crate::save::{save_new, save_traced};
 use crate::subject::Subject;
 use crate::sync::{run_put_tree, run_sync};
 use command_changes::put::{NewFile, put_files};
-use command_changes::{Syncing, Unchanged};
+use command_changes::{Extra, Syncing, Unchanged};
 use command_copies::name_of;
 use command_faults::Ending;
 use command_faults::status::DONE;
@@ -94,6 +96,7 @@ fn run<'a, R: ImageFiles + Clock + Eprint + AllocGlobal, O: Sink>(
             folder,
             owner,
             now,
+            deletes,
             is_trial,
         } => {
             let syncing = Syncing {
@@ -102,7 +105,8 @@ fn run<'a, R: ImageFiles + Clock + Eprint + AllocGlobal, O: Sink>(
                 unchanged: Unchanged::Skip,
                 now,
             };
-            run_sync(host, output, volume, syncing, folder, is_trial)
+            let extra = extra_of(deletes);
+            run_sync(host, output, volume, syncing, extra, folder, is_trial)
         }
         Copying::Get {
             folder,
@@ -116,7 +120,15 @@ fn run<'a, R: ImageFiles + Clock + Eprint + AllocGlobal, O: Sink>(
             is_deep: false,
             keeps,
         } => run_get(host, volume, folder, &paths, keeps),
+        Copying::List { new } => run_build_list(host, volume, new),
     }
+}
+
+/// Returns what becomes of what the folder hasn't, by whether it is to be removed.
+fn extra_of(deletes: bool) -> Extra
+    ensures { result ≡ extra_of deletes }
+{
+    if deletes { Extra::Remove } else { Extra::Keep }
 }
 
 /// Puts the files at some paths into a directory of the volume in a file, saves the volume, prints the trace of the calls if `trace`, and returns the

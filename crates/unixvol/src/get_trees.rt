@@ -45,7 +45,7 @@ pub fn run_get_trees<'a, R: ImageFiles + Clock + Eprint + AllocGlobal>(
 /// Saves nodes of a volume in a folder, with their marks if `keeps`. After the first that can't be saved none is.
 pub fn save_nodes<'a, R: ImageFiles + Clock + Eprint + AllocGlobal>(
     host: &Surroundings<'_, R>,
-    folder: &'a str,
+    folder: &str,
     image: Stamp,
     nodes: &[NodeRead],
     keeps: bool,
@@ -66,7 +66,7 @@ pub fn save_nodes<'a, R: ImageFiles + Clock + Eprint + AllocGlobal>(
 /// Saves a node of a volume in a folder: makes a directory, if there is none; or saves a file, with its marks if `keeps`.
 fn save_node<'a, R: ImageFiles + Clock + Eprint + AllocGlobal>(
     host: &Surroundings<'_, R>,
-    folder: &'a str,
+    folder: &str,
     image: Stamp,
     node: &NodeRead,
     keeps: bool,
@@ -87,7 +87,7 @@ fn save_node<'a, R: ImageFiles + Clock + Eprint + AllocGlobal>(
 /// Gives directories that were saved in a folder their marks, the last one first: what has been marked may not be entered again.
 fn mark_folders<'a, R: ImageFiles + AllocGlobal>(
     host: &Surroundings<'_, R>,
-    folder: &'a str,
+    folder: &str,
     nodes: &[NodeRead],
 ) -> Result<(), FileFault<'a>>
     ensures { IfErr result (λ fault. IsStatusOfFileOrMemory (file_status fault)) }
@@ -107,14 +107,27 @@ fn mark_folders<'a, R: ImageFiles + AllocGlobal>(
 /// Makes the folder into which is copied, if there is none.
 fn make_top<'a, R: ImageFiles + AllocGlobal>(
     host: &Surroundings<'_, R>,
-    folder: &'a str,
+    folder: &str,
 ) -> Result<(), FileFault<'a>>
     ensures { IfErr result (λ fault. IsStatusOfFileOrMemory (file_status fault)) }
 {
     let place = place_of(host, folder, "")?;
     match make_folder(host.rt, place.as_str()) {
         Ok(()) => Ok(()),
-        Err(why) => Err(FileFault::unsaved(folder, why)),
+        Err(why) => Err(uncopied(path_of(host, folder)?, why)),
+    }
+}
+
+/// Returns a path in memory of its own.
+pub fn path_of<'a, R: AllocGlobal>(
+    host: &Surroundings<'_, R>,
+    path: &str,
+) -> Result<PathBuf, FileFault<'a>>
+    ensures { IfErr result (λ fault. IsStatusOfFileOrMemory (file_status fault)) }
+{
+    match PathBuf::from_str(host.rt.alloc(), path) {
+        Ok(path) => Ok(path),
+        Err(_) => Err(FileFault::NoMemory),
     }
 }
 
@@ -135,7 +148,7 @@ fn make_at<'a, R: ImageFiles>(
 /// Returns the place of a path in a folder; of the empty path, the folder itself, with a slash at the end, so that a link to it is followed.
 fn place_of<'a, R: AllocGlobal>(
     host: &Surroundings<'_, R>,
-    folder: &'a str,
+    folder: &str,
     path: &str,
 ) -> Result<PathBuf, FileFault<'a>>
     ensures { IfErr result (λ fault. IsStatusOfFileOrMemory (file_status fault)) }

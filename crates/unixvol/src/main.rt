@@ -2,6 +2,7 @@
 #![tactic(auto)]
 
 mod build;
+mod build_list;
 mod changes;
 mod commands;
 mod compare;

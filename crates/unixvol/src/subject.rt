@@ -213,6 +213,7 @@ impl<'a> Subject<'a> {
             }
             Copying::Sync { directory, .. } => (Verb::Sync, About::Path(directory)),
             Copying::Get { .. } => (Verb::Get, About::Image),
+            Copying::List { .. } => (Verb::Build, About::Image),
         };
         Subject::new(volume, verb, about)
     }

@@ -15,7 +15,7 @@ use crate::host::Surroundings;
 use crate::read::{expect_volume, kept_of, read_given, read_image};
 use crate::save::{save_bytes, save_traced};
 use command_changes::{
-    Kept, SyncedImage, Syncing, TreeMember, TreeNode, Unchanged, sync_image, sync_tree,
+    Extra, Kept, SyncedImage, Syncing, TreeMember, TreeNode, Unchanged, sync_image, sync_tree,
 };
 use command_copies::name_of;
 use command_faults::Ending;
@@ -69,18 +69,19 @@ pub fn run_put_tree<'a, R: ImageFiles + Clock + Eprint + AllocGlobal, O: Sink>(
     save_traced(host.rt, volume, stamp, outcome, output)
 }
 
-/// Makes a directory of the volume in a file what a folder is, saves the volume, unless nothing differed, and returns the result of the run. If
-/// `is_trial`, saves nothing, and prints what would be done.
+/// Makes a directory of the volume in a file what a folder is, saves the volume, unless nothing differed, and returns the result of the run. What the folder
+/// hasn't stays or is removed, as `extra` says. If `is_trial`, saves nothing, and prints what would be done.
 pub fn run_sync<'a, R: ImageFiles + Clock + Eprint + AllocGlobal, O: Sink>(
     host: &Surroundings<'_, R>,
     output: &mut O,
     volume: VolumeFile<'a>,
     syncing: Syncing<'_>,
+    extra: Extra,
     folder: &'a str,
     is_trial: bool,
 ) -> Result<Ending, FailedRun<'a>>
     ensures runs { RunsSync (streams O.contents O.failed output.old output.new (run_fault result)) (host_files volume.entry.at R.File.remaining R.File.contents R.had R.stood) R.listed
-        volume.entry.edition syncing.entry folder.entry.now is_trial (run_status result) }
+        volume.entry.edition syncing.entry extra folder.entry.now is_trial (run_status result) }
     ensures ends { Ends (streams O.contents O.failed output.old output.new (run_fault result)) (run_status result) }
 {
     expect_volume(host.rt, volume)?;
@@ -88,7 +89,7 @@ pub fn run_sync<'a, R: ImageFiles + Clock + Eprint + AllocGlobal, O: Sink>(
     // The image's file stays open, and so locked, until the result is saved.
     let (image, stamp, _locked) = read_image(host, volume)?;
     let alloc = host.rt.alloc();
-    match sync_image(alloc, volume.edition, image, syncing, members) {
+    match sync_image(alloc, volume.edition, image, syncing, extra, members) {
         Ok(synced) => end_sync(host, output, volume, stamp, synced, is_trial),
         Err(fault) => Ok(Ending::from(fault)),
     }

@@ -50,7 +50,7 @@ returns-clause-runs g c known failed =
 
 pub returns-clause-ends : goal.returns-clause-ends
 returns-clause-ends g c known failed =
-    ends_concluded (of_build c.in_ok-filled.filled.volume (program_of c.in_ok-filled.filled) (map filled c.in_ok-filled.filled.members.items)) _
+    ends_concluded (of_build c.in_ok-filled.filled.volume c.in_ok-filled.filled.root (program_of c.in_ok-filled.filled) (map filled c.in_ok-filled.filled.members.items)) _
     (IsTaken g.R.File.Write.contents) c.conclude-answer.result _
     (concluded _ _ _ _ _ _ (among _ _ _ _ _ refl c.build_volume.ensures.built c.build_volume.ensures.fault c.unremarked.ensures)
     c.conclude-answer.ensures.made c.conclude-answer.ensures.fault c.after_saving.ensures.fault)

@@ -9,7 +9,7 @@ returns-in-PutTree-clause-runs g c =
     rw c.in-PutTree.is (rw c.deref-in-PutTree.ensures.value at c.run_put_tree.ensures.runs)
 
 pub returns-in-Sync-clause-runs : goal.returns-in-Sync-clause-runs
-returns-in-Sync-clause-runs g c = rw c.in-Sync.is c.run_sync.ensures.runs
+returns-in-Sync-clause-runs g c = rw c.in-Sync.is (rw c.extra_of-extra.ensures at c.run_sync.ensures.runs)
 
 pub returns-in-Get-default-default-true-default-clause-runs : goal.returns-in-Get-default-default-true-default-clause-runs
 returns-in-Get-default-default-true-default-clause-runs g c =
@@ -28,3 +28,10 @@ returns-in-Get-default-default-false-default-clause-runs g c =
 pub returns-in-Get-default-default-false-default-clause-ends : goal.returns-in-Get-default-default-false-default-clause-ends
 returns-in-Get-default-default-false-default-clause-ends g c =
     c.run_get.ensures.ends (g.O.Sink.contents c.args.output.now) (g.O.Sink.failed c.args.output.now)
+
+pub returns-in-List-clause-runs : goal.returns-in-List-clause-runs
+returns-in-List-clause-runs g c =
+    rw c.in-List.is (c.run_build_list.ensures.runs (g.O.Sink.contents c.args.output.now) (g.O.Sink.failed c.args.output.now))
+
+pub returns-in-List-clause-ends : goal.returns-in-List-clause-ends
+returns-in-List-clause-ends g c = c.run_build_list.ensures.ends (g.O.Sink.contents c.args.output.now) (g.O.Sink.failed c.args.output.now)

@@ -39,7 +39,7 @@ returns-in-Ok-clause-runs g c =
       c.in_ok-members.members.items,
       c.in_ok-image.ensures.given,
       c.in_ok-members.ensures.read,
-      inr (c.in-Ok.synced, (c.in-Ok.ensures.made, c.in-Ok.ensures.lines, c.in-Ok.ensures.same), c.end_sync.ensures),
+      inr (c.in-Ok.synced, c.in-Ok.ensures.synced, c.end_sync.ensures),
     )
 
 pub returns-in-Ok-clause-ends : goal.returns-in-Ok-clause-ends

@@ -1,6 +1,6 @@
 #!/usr/bin/env bash
-# Boots volumes in SIMH's PDP-11 (Debian's simh): the boot block reads the first block of a file from the disk, prints it on the console and halts. Without
-# SIMH it says so, and nothing is run.
+# Boots volumes that `build` makes of a list in SIMH's PDP-11 (Debian's simh): the boot block reads the first block of a file from the disk, prints it on the
+# console and halts. Without SIMH it says so, and nothing is run.
 # Usage: tests/simh.sh PROGRAM. It prints each row that fails, and ends with 'N passed, N failed'.
 . "$(dirname "$0")/rows.sh"
 
@@ -23,14 +23,14 @@ if ! command -v pdp11 > /dev/null; then
 else
     for edition in 6 7; do
         printf 'edition %s is read from its file\r\n' "$edition" > greeting
-        rm -f rk.img
-        "$program" mkfs --new "$edition" rk.img rk05
-        "$program" mkdir "$edition" rk.img /dev
-        prints none mknod "$edition" rk.img /dev/console c 0 0 0622
-        "$program" put "$edition" rk.img /greeting greeting
+        printf '%s\n' "volume $edition rk05" 'time 173750400' 'dir /dev 755 0:0' 'char /dev/console 622 0:0 0 0' 'file /greeting 644 0:0 greeting' > rk.list
+        prints none build rk.list rk.img
         block=$("$program" inode "$edition" rk.img /greeting --json | sed -n 's/.*"block":\([0-9]*\),.*/\1/p')
         boot_block "$block" > boot.bin
-        prints none boot "$edition" rk.img boot.bin
+        echo 'boot boot.bin' >> rk.list
+        prints none build rk.list rk.img
+        prints none build rk.list again.img
+        saves "edition $edition: the same list, once more" again.img rk.img
         printf '%s\n' 'set cpu 11/40' 'attach rk0 rk.img' 'boot rk0' quit > commands
         timeout 60 pdp11 commands < /dev/null > said 2>&1
         has "edition $edition: what the boot block prints" "edition $edition is read from its file" "$(tr -d '\r' < said | grep -a '^edition')"

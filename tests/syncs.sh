@@ -1,6 +1,6 @@
 #!/usr/bin/env bash
-# Runs `sync` and `put -r` of the built program: folders that are put into volumes of both editions, once more with nothing to do, and after one change; and
-# folders that can't be put. Usage: tests/syncs.sh PROGRAM. It prints each row that fails, and ends with 'N passed, N failed'.
+# Runs `sync` and `put -r` of the built program: folders that are put into volumes of both editions, once more with nothing to do, and after one change;
+# folders that can't be put; and removing what a folder hasn't. Usage: tests/syncs.sh PROGRAM. It prints each row that fails, and ends with 'N passed, N failed'.
 . "$(dirname "$0")/rows.sh"
 
 : > none
@@ -137,6 +137,73 @@ for edition in 6 7; do
     saves "put -r of ., edition $edition" body more/x/y/one
     refuses 1 'unixvol: 2 NoEntry: /none/x/' put -r "$edition" "$disk" -t /none more/x 9000
     rm -rf odd more
+
+    # With --delete, what the folder hasn't is removed: a directory with all below it, a special file and another name of a file. The rest stays as it is
+    mkdir -p small/a small/z
+    echo one > small/a/one
+    echo two > small/two
+    find small -exec touch -d @1000000000 {} + -exec chmod 755 {} +
+    cp blank.img exact.img
+    "$program" sync "$edition" exact.img / small 1000
+    cp exact.img little.img
+    touch -d @12345 little.img
+    prints none sync "$edition" little.img / small 2000 --delete -n
+    prints none sync "$edition" little.img / small 2000 --delete
+    saves "a tree with nothing to remove, edition $edition" little.img exact.img
+    has "the time of an image with nothing to remove, edition $edition" 12345 "$(stat -c %Y little.img)"
+    "$program" mkdir "$edition" little.img /a/old 2000
+    "$program" put "$edition" little.img /a/old/file small/two 2000
+    "$program" mkdir "$edition" little.img /a/old/deep 2000
+    "$program" mknod "$edition" little.img /z/tty c 3 5 622 2000
+    "$program" ln "$edition" little.img /two /again 2000
+    cp little.img extra.img
+    prints none sync "$edition" little.img / small 3000 -n
+    prints none put -r "$edition" little.img -t / small/a 3000
+    has "what put -r leaves, edition $edition" '. .. deep file' "$("$program" ls "$edition" little.img /a/old | awk '{ print $2 }' | xargs)"
+    cp extra.img little.img
+    printf 'rm /z/tty\nrm /again\nrm /a/old/file\nrmdir /a/old/deep\nrmdir /a/old\n' > lines
+    prints lines sync "$edition" little.img / small 3000 --delete -n
+    saves "a trial of removals, edition $edition" little.img extra.img
+    prints none sync "$edition" little.img / small 3000 --delete
+    holds "a tree after removals, edition $edition" "$edition" little.img / small
+    has "the room after removals, edition $edition" "$("$program" df "$edition" exact.img)" "$("$program" df "$edition" little.img)"
+
+    # Removals, and a directory and a file that are made: the lines come in this order
+    cp extra.img little.img
+    mv small/two small/three
+    mkdir small/b
+    printf 'rm /z/tty\nrm /two\nrm /again\nrm /a/old/file\nrmdir /a/old/deep\nrmdir /a/old\nput /three\nmkdir /b\n' > lines
+    prints lines sync "$edition" little.img / small 3000 --delete -n
+    prints none sync "$edition" little.img / small 3000 --delete
+    rm -rf small/b
+    mv small/three small/two
+    prints none sync "$edition" little.img / small 3000 --delete
+    holds "a tree after two removals, edition $edition" "$edition" little.img / small
+
+    # A path that leads nowhere has nothing to remove, and a file isn't removed for a directory, nor the reverse
+    cp extra.img little.img
+    printf 'mkdir /new\nput /new/two\nmkdir /new/a\nput /new/a/one\nmkdir /new/z\n' > lines
+    prints lines sync "$edition" little.img /new small 3000 --delete -n
+    refuses 1 'unixvol: 17 Exists: /two' sync "$edition" little.img /two small 3000 --delete
+    rm small/two
+    mkdir small/two
+    refuses 1 'unixvol: 17 Exists: /two' sync "$edition" little.img / small 3000 --delete
+    rm -r small/two small/a
+    echo text > small/a
+    refuses 1 'unixvol: 21 IsDirectory: /a' sync "$edition" little.img / small 3000 --delete
+    saves "a tree whose kinds differ, edition $edition" little.img extra.img
+
+    # The blocks of what is removed are free for what is put
+    "$program" mkfs "$edition" little.img 60 8 0 0 1000
+    head -c 20000 /dev/zero > large
+    "$program" put "$edition" little.img /old large 1000
+    mkdir other
+    cp large other/new
+    touch -d @1500 other/new
+    refuses 1 'unixvol: 28 NoSpace: /new' sync "$edition" little.img / other 2000
+    prints none sync "$edition" little.img / other 2000 --delete
+    holds "a file in the blocks of another, edition $edition" "$edition" little.img / other
+    rm -rf small other
 done
 
 # The words

@@ -55,9 +55,9 @@ _unixvol() {
         dcheck) kinds='6,7,any file any' options='--at --json --explain -h --help' valued='--at=any' ;;
         ncheck) kinds='6,7,any file any' options='--at --json --explain -h --help' valued='--at=any' ;;
         mkfs) kinds='6,7 file rk05,rk06,rk07,rl01,rl02,rm03,rp03,rp04,rp06,rx01,rx02 any any any any' options='--new --at --explain -h --help' valued='--at=any' ;;
-        build) kinds='any file' options='--new --explain -h --help' ;;
+        build) kinds='any file any' options='--list --new --at --explain -h --help' valued='--at=any' changing='--list' others='file any' ;;
         put) kinds='6,7,any file path file any any...' options='--at -t --target-directory -r --recursive -p --preserve -x --executable -o --owner --trace --explain -h --help' valued='--at=any -t=path --target-directory=path -o=any --owner=any' changing='-t --target-directory' others='6,7,any file file...' ;;
-        sync) kinds='6,7,any file path file any' options='--at -n --dry-run -o --owner --explain -h --help' valued='--at=any -o=any --owner=any' ;;
+        sync) kinds='6,7,any file path file any' options='--at -n --dry-run --delete -o --owner --explain -h --help' valued='--at=any -o=any --owner=any' ;;
         import) kinds='6,7,any file path any' options='--at --skip-special -o --owner --trace --explain -h --help' valued='--at=any -o=any --owner=any' ;;
         rm) kinds='6,7,any file path any' options='--at -r --recursive --trace --explain -h --help' valued='--at=any' ;;
         rmdir) kinds='6,7,any file path any' options='--at --trace --explain -h --help' valued='--at=any' ;;

@@ -96,6 +96,10 @@ int fdatasync(int file) { return (int)answered(host_sync(file)); }
 int rename(const char *from, const char *to) { return (int)answered(host_rename(from, to)); }
 int unlink(const char *path) { return (int)answered(host_unlink(path)); }
 // There are no folders here.
+int mkdir(const char *path, unsigned mode) {
+    (void)path, (void)mode;
+    return refused(ENOSYS);
+}
 int rattle_open_dir_at(int folder, const char *name) {
     (void)folder, (void)name;
     return refused(ENOSYS);

@@ -17,8 +17,9 @@ is_built() {
     [ "$(tools/sources.sh page)" = "$(cat "$built/sources")" ] || skips 'built from other sources: the program for WebAssembly'
 }
 
-# test_command: the command for Node does what the rows say
+# test_command: the command for Node does what the rows say. It takes twice the processor time of the native program, and more on a busy machine.
 test_command() {
+    export SLOWER=3
     stands_for node "$built/unixvol.mjs"
     has 'Node: --version' "unixvol $version" "$("$room/unixvol" --version)"
     for script in $rows; do runs "Node: $script" "tests/$script.sh" "$room/unixvol"; done

@@ -186,7 +186,7 @@ runs_within() {
     echo $? > status
 }
 
-# seconds N: N seconds of a processor, for `ulimit -t`; more for a program that is emulated, by the factor SLOWER (tests/ports.sh)
+# seconds N: N seconds of a processor, for `ulimit -t`; more for a program that is emulated, by the factor SLOWER (tests/ports.sh, tests/page.sh)
 seconds() { echo $(($1 * ${SLOWER:-1})); }
 
 # in_memory KB COMMAND WORD..: in parentheses, runs a command that may take this many KB of memory. If another program runs the program (tests/elsewhere.sh), there

@@ -322,7 +322,7 @@ def check_buttons(page, native, letter):
     page.says("3 files put into /new/sub")
     native.write("buttons.v7", page.image("work.v7"))
     names = [os.path.basename(it) for it in native.out("find", 7, "buttons.v7", "/new/sub").split()]
-    has("three files that were put in", ["dear", "one", "three", "two"], names)
+    has("three files that were put in", ["dear", "one", "three", "tty", "two"], names)
     page.select("/new/sub")
     page.click("#rm")
     page.answers()

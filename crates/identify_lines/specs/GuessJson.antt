@@ -16,7 +16,7 @@ use Rattle.vol_identify.specs.declared.pack_scan.Part.{Part}
 use Rattle.vol_identify.specs.declared.pack_scan.Part.TheVariants as parts
 use Rattle.vol_identify.specs.declared.pack_texts.JudgedPart.{JudgedPart}
 use Rattle.vol_listing.specs.Json.{count}
-use Rattle.identify_lines.specs.ShellWords.{shell_word}
+use Rattle.identify_lines.specs.ShellWords.{file_word}
 use Rattle.identify_lines.specs.declared.seen.Seen.{Seen}
 use Rattle.identify_lines.specs.declared.seen.Seen.TheVariants as seens
 
@@ -32,7 +32,7 @@ next_command (Some rule) = codes "check"
 
 -- the command to go on with for a judged volume of the file at a path, which is one word of a shell (this project)
 abbrev pub volume_command : List ℕ → ℕ → FoundVolume → Option ℕ → List ℕ
-volume_command path block volume broken = command_text (next_command broken) (edition_number volume.edition) (shell_word path) block
+volume_command path block volume broken = command_text (next_command broken) (edition_number volume.edition) (file_word path) block
 
 -- a judged volume of the file at a path: its first block, its size, the command to go on with, its edition, the first rule that it breaks, and whether it
 -- is sound (this project)

@@ -6,6 +6,7 @@ use Rattle.vol_identify.specs.Texts.{identified_text}
 use Rattle.vol_identify.specs.declared.guess.Guess.{Guess}
 use Rattle.vol_identify.specs.declared.guess.Guess.TheVariants.{Volume}
 use Rattle.vol_identify.specs.declared.guess.Identified.{Identified}
+use Rattle.identify_lines.specs.ShellWords.{file_word}
 use Rattle.identify_lines.specs.declared.seen.Seen.{Seen}
 use Rattle.identify_lines.specs.declared.seen.Seen.TheVariants.{Pack, Image}
 
@@ -43,5 +44,5 @@ image_tail _ size = []
 -- the lines of what the file at a path seems to be, whose size may be known: those of a pack, or the line of an image, and a line for the bytes after the
 -- last whole block (this project)
 abbrev pub seen_lines : List ℕ → Option ℕ → Seen → List ℕ
-seen_lines path size (Pack parts) = pack_lines path parts.items ++ tail_lines size
+seen_lines path size (Pack parts) = pack_lines path (file_word path) parts.items ++ tail_lines size
 seen_lines path size (Image found read) = identified_line path found read ++ image_tail found.guess size

@@ -1,7 +1,7 @@
 -- Words of a shell.
-use Rattle.std.specs.Prelude.{ℕ, ◌==◌, ◌&&◌, ◌||◌, not, nat_le, Bool, if◌then◌else◌, List, [], ◌++◌, codes, length}
+use Rattle.std.specs.Prelude.{ℕ, nat_eq, ◌==◌, ◌&&◌, ◌||◌, not, nat_le, Bool, if◌then◌else◌, List, [], ◌++◌, codes, length}
 use Rattle.std.specs.Char.{encode_utf8}
-use Rattle.std.specs.List.{flat_map, list_any}
+use Rattle.std.specs.List.{flat_map, list_any, starts_with}
 use Rattle.std.specs.Str.{chars}
 
 -- true if a shell may not take a byte as it is: it is no letter, no digit, and none of + , - . / : @ _ (sh)
@@ -19,3 +19,11 @@ quoted text = codes "'" ++ (flat_map quoted_char (chars text) ++ codes "'")
 -- a text as one word of a shell: as it is if the shell leaves it so, otherwise between quotes (sh)
 unfoldable pub shell_word : List ℕ → List ℕ
 shell_word text = if (length text == 0) || list_any is_special text then quoted text else text
+
+-- a path that can be no option: one that begins with a hyphen gets ./ before it (getopt)
+abbrev pub path_word : List ℕ → List ℕ
+path_word path = if starts_with nat_eq path (codes "-") then codes "./" ++ path else path
+
+-- the path of a file as one word of a shell, which is no option (sh)
+abbrev pub file_word : List ℕ → List ℕ
+file_word path = shell_word (path_word path)

@@ -4,7 +4,7 @@ ghost use Rattle.serde_json.specs.View.{view};
 ghost use Rattle.identify_lines.specs.GuessJson.{between_data, fault_word, foreign_word, front_data, guess_parts, guess_word, next_command, part_by, part_data, seen_data, seen_json, seen_parts, seen_read, seen_word, tail_of, unread_data, unread_json, volume_command, volume_data};
 
 use crate::seen::{BLOCK, Seen};
-use crate::shell_words::shell_word;
+use crate::shell_words::file_word;
 use serde_json::{Value, json};
 use std::alloc::{AllocError, Global};
 use vol_findings::edition_number;
@@ -237,7 +237,7 @@ fn volume_command(
 ) -> Result<String, AllocError>
     ensures { IfOk result (λ command. string_bytes command ≡ volume_command path.now block volume broken) }
 {
-    let name = shell_word(alloc, path)?;
+    let name = file_word(alloc, path)?;
     let edition = edition_number(volume.edition);
     command_text(alloc, next_command(broken), edition, &name, block)
 }

@@ -9,3 +9,4 @@ mod shell_words;
 pub use guess_json::{seen_json, unread_json};
 pub use lines::{MOST, seen_lines};
 pub use seen::Seen;
+pub use shell_words::file_word;

@@ -3,6 +3,7 @@ ghost use Rattle.std.specs.Prelude.{◌≡◌, ◌++◌, IfOk, OnOk, string_byte
 ghost use Rattle.identify_lines.specs.Lines.{follow_text, identified_line, image_tail, is_cut, seen_lines, tail_line, tail_lines};
 
 use crate::seen::{BLOCK, Seen};
+use crate::shell_words::file_word;
 use std::alloc::{AllocError, Global};
 use vol_identify::{Guess, Identified, pack_lines};
 
@@ -21,7 +22,8 @@ pub fn seen_lines(
 {
     match seen {
         Seen::Pack(parts) => {
-            let mut lines = pack_lines(alloc, path, parts)?;
+            let word = file_word(alloc, path)?;
+            let mut lines = pack_lines(alloc, path, &word, parts)?;
             push_tail(&mut lines, size)?;
             Ok(lines)
         }

@@ -2,13 +2,32 @@
 ghost use Rattle.std.specs.Prelude.{◌≡◌, ◌++◌, IfOk, OnOk, string_bytes};
 ghost use Rattle.std.specs.List.{flat_map, list_any};
 ghost use Rattle.std.specs.Str.{chars};
-ghost use Rattle.identify_lines.specs.ShellWords.{is_special, quoted, quoted_char, shell_word};
+ghost use Rattle.identify_lines.specs.ShellWords.{file_word, is_special, path_word, quoted, quoted_char, shell_word};
 
 use std::alloc::{AllocError, Global};
 
+/// Returns the path of a file as one word of a shell, which is no option.
+pub fn file_word(alloc: Global, path: &str) -> Result<String, AllocError>
+    ensures { IfOk result (λ word. string_bytes word ≡ file_word path.now) }
+{
+    let path = path_word(alloc, path)?;
+    shell_word(alloc, &path)
+}
+
+/// Returns a path that can be no option: one that begins with a hyphen gets `./` before it.
+fn path_word(alloc: Global, path: &str) -> Result<String, AllocError>
+    ensures { IfOk result (λ word. string_bytes word ≡ path_word path.now) }
+{
+    if path.as_bytes().starts_with(b"-") {
+        format!(in alloc; "./{path}")
+    } else {
+        String::from_str(alloc, path)
+    }
+}
+
 /// Returns a text as one word of a shell: as it is if the shell leaves it so, otherwise between quotes.
 #[tactic(auto, unfolding(crate::specs::ShellWords::shell_word))]
-pub(crate) fn shell_word(alloc: Global, text: &str) -> Result<String, AllocError>
+fn shell_word(alloc: Global, text: &str) -> Result<String, AllocError>
     ensures { IfOk result (λ word. string_bytes word ≡ shell_word text.now) }
 {
     if text.is_empty() || has_special(text.as_bytes()) {

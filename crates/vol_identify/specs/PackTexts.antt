@@ -46,6 +46,6 @@ part_text path (Between block blocks zeros) broken = decimal block ++ (codes ": 
 abbrev pub part_line : List ℕ → JudgedPart → List ℕ
 part_line path judged = codes "  at " ++ (part_text path judged.part judged.broken ++ codes "\n")
 
--- the lines of the pack in the file at a path: what it looks like, and a line for each part, in order (this project)
-abbrev pub pack_lines : List ℕ → List JudgedPart → List ℕ
-pack_lines path parts = (path ++ codes ": looks like a larger pack\n") ++ flat_map (part_line path) parts
+-- the lines of the pack in the file at a path, which is this word of a shell: what it looks like, and a line for each part, in order (this project)
+abbrev pub pack_lines : List ℕ → List ℕ → List JudgedPart → List ℕ
+pack_lines path word parts = (path ++ codes ": looks like a larger pack\n") ++ flat_map (part_line word) parts

@@ -34,13 +34,19 @@ fn is_later(part: Part) -> bool
     }
 }
 
-/// Returns the lines of the pack in the file at `path`: what it looks like, and a line for each of its parts.
-pub fn pack_lines(alloc: Global, path: &str, parts: &[JudgedPart]) -> Result<String, AllocError>
-    ensures { IfOk result (λ lines. string_bytes lines ≡ pack_lines path.now parts.now) }
+/// Returns the lines of the pack in the file at `path`: what it looks like, and a line for each of its parts. `word` is this path as one word of a shell, for
+/// the commands in these lines.
+pub fn pack_lines(
+    alloc: Global,
+    path: &str,
+    word: &str,
+    parts: &[JudgedPart],
+) -> Result<String, AllocError>
+    ensures { IfOk result (λ lines. string_bytes lines ≡ pack_lines path.now word.now parts.now) }
 {
     let mut lines = format!(in alloc; "{path}: looks like a larger pack\n")?;
     for part in parts {
-        push_line(alloc, &mut lines, path, *part)?;
+        push_line(alloc, &mut lines, word, *part)?;
     }
     Ok(lines)
 }

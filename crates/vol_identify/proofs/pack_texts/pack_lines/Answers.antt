@@ -7,7 +7,7 @@ use Rattle.vol_identify.proofs.pack_texts.pack_lines.Goals as goal
 
 pub returns : goal.returns
 returns c =
-    let line = part_line c.args.path.now in
+    let line = part_line c.args.word.now in
     let all = take_all c.loop-part.part-index c.args.parts.now (omega arith) in
     c.loop-part.invariant
     ∙ (ap (λ parts. string_bytes c.in_ok-lines.lines ++ flat_map line parts) all

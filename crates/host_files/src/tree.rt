@@ -16,8 +16,7 @@ const MOST: u32 = u32::MAX;
 const TOO_MANY: &str = "more than 4294967295 files and folders";
 
 /// The message for what is neither a file nor a folder.
-const OTHER: &str =
-    "it is a symbolic link, a pipe, a socket or a device; only files and folders are copied";
+const OTHER: &str = "it is a symbolic link, a pipe, a socket or a device, which isn't copied";
 
 /// The reason why a tree can't be listed.
 #[derive(Drop)]

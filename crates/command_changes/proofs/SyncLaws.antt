@@ -1,5 +1,5 @@
 -- If `sync` has no call to make, all members of the tree are in the volume.
-use Rattle.std.proofs.Common.{◌≡◌, ◌++◌, ◌∷◌, ℕ, Bool, true, false, true≢false, List, [], Option, Ok, Err, ap, refl, sym}
+use Rattle.std.proofs.Common.{◌≡◌, ◌++◌, ◌∷◌, ℕ, Bool, true, false, true≢false, List, [], Option, None, Some, Ok, Err, ap, refl, sym}
 use Rattle.std.specs.Prelude.{Result, if◌then◌else◌, string_bytes}
 use Rattle.std.specs.List.{AllByRecursion}
 use Rattle.vol_dir.specs.Access.{user}
@@ -20,7 +20,7 @@ use Rattle.vol_import.specs.declared.import_plan.PlanFault.{PlanFault}
 use Rattle.command_changes.specs.Laws.{IsThere, IsThereAt, SameTreesAreThere}
 use Rattle.command_changes.specs.Lookup.{found_by, found_kind}
 use Rattle.command_changes.specs.Put.{each_onto}
-use Rattle.command_changes.specs.Sync.{folder_calls, is_body, is_kept_by, is_long_name, member_onto, node_calls, place_of, step_calls, step_of}
+use Rattle.command_changes.specs.Sync.{apart, folder_calls, is_body, is_kept_by, is_long_name, member_onto, node_calls, place_of, shared_owner, step_calls, step_of}
 use Rattle.command_changes.specs.declared.kept.GivenFile.{GivenFile}
 use Rattle.command_changes.specs.declared.kept.Kept.{Kept}
 use Rattle.command_changes.specs.declared.lookup.PathKind.{PathKind}
@@ -75,17 +75,18 @@ body_there (Ok (replies.Names names)) bytes is = absurd (true≢false (sym is))
 body_there (Err refusal) bytes is = absurd (true≢false (sym is))
 
 -- a file for which there is no call has the same bytes
-step_there : (same marked : Bool) (tree : Tree) (now : ℕ) (path : List ℕ) (file : GivenFile) (owner : Option Cred)
-    → step_calls (if same then (if marked then steps.Leave else steps.Mark) else steps.Put) tree now path file owner ≡ [] → same ≡ true
-step_there true marked tree now path file owner is = refl
-step_there false marked tree now path file owner is = absurd (cc)
+step_there : (same marked : Bool) (shared : Option Cred) (tree : Tree) (now : ℕ) (path : List ℕ) (file : GivenFile) (owner : Option Cred)
+    → step_calls (if same then (if marked then steps.Leave else apart shared steps.Mark) else apart shared steps.Put) tree now path file owner ≡ [] → same ≡ true
+step_there true marked shared tree now path file owner is = refl
+step_there false marked None tree now path file owner is = absurd (cc)
+step_there false marked (Some old) tree now path file owner is = absurd (cc)
 
 -- the same of a file that is put whether it differs or not: it has calls
 file_there : (way : Unchanged) (tree : Tree) (now : ℕ) (path : List ℕ) (file : GivenFile) (owner : Option Cred)
     → step_calls (step_of tree way path file) tree now path file owner ≡ [] → is_body (answer tree (queries.Read user path 0 4294967295)) file.bytes.items ≡ true
 file_there unchanged.Skip tree now path file owner is =
-    step_there (is_body (answer tree (queries.Read user path 0 4294967295)) file.bytes.items) (is_kept_by (answer tree (queries.Stat user path)) file.kept) tree now path file
-    owner is
+    step_there (is_body (answer tree (queries.Read user path 0 4294967295)) file.bytes.items) (is_kept_by (answer tree (queries.Stat user path)) file.kept)
+    (shared_owner (answer tree (queries.Stat user path))) tree now path file owner is
 file_there unchanged.Put tree now path file owner is = absurd (cc)
 
 -- what is to be at a path is there, if there is no call for it

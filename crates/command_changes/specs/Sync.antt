@@ -1,5 +1,5 @@
 -- The calls that make a directory of a volume what a folder of the host is.
-use Rattle.std.specs.Prelude.{◌≡◌, ℕ, ◌==◌, ◌&&◌, Bool, true, false, if◌then◌else◌, List, [], ◌++◌, length, nat_lt, Option, Result, Ok, Err, codes, string_bytes, unwrap_or}
+use Rattle.std.specs.Prelude.{◌≡◌, ℕ, ◌==◌, ◌&&◌, Bool, true, false, if◌then◌else◌, List, [], ◌∷◌, ◌++◌, length, nat_lt, Option, None, Some, Result, Ok, Err, codes, string_bytes, unwrap_or}
 use Rattle.std.specs.List.{flat_map}
 use Rattle.std.specs.Path.{path_file_name}
 use Rattle.std.specs.Str.{bytes_eq}
@@ -8,8 +8,11 @@ use Rattle.vol_dir.specs.Access.{user}
 use Rattle.vol_dir.specs.Tree.{Tree}
 use Rattle.vol_dir.specs.declared.cred.Cred.{Cred}
 use Rattle.vol_dir.specs.declared.refusal.Refusal.{Refusal}
+use Rattle.vol_layout.specs.declared.mode.Kind.{Kind}
+use Rattle.vol_layout.specs.declared.mode.Kind.TheVariants.{Regular}
 use Rattle.vol_volume.specs.Answer.{answer}
 use Rattle.vol_volume.specs.declared.calls.Call.{Call}
+use Rattle.vol_volume.specs.declared.calls.Call.TheVariants as calls
 use Rattle.vol_volume.specs.declared.queries.Query.TheVariants as queries
 use Rattle.vol_volume.specs.declared.queries.Reply.{Reply}
 use Rattle.vol_volume.specs.declared.queries.Reply.TheVariants as replies
@@ -20,7 +23,7 @@ use Rattle.vol_import.specs.declared.import_plan.PlanFault.TheVariants as plans
 use Rattle.command_changes.specs.ImportLines.{from_root}
 use Rattle.command_changes.specs.Lookup.{found_by}
 use Rattle.command_changes.specs.Mkdir.{mkdir_calls}
-use Rattle.command_changes.specs.Put.{each_onto, kept_calls, put_calls, target_by, with_execution}
+use Rattle.command_changes.specs.Put.{calls_on, each_onto, kept_calls, put_calls, target_by, with_execution}
 use Rattle.command_changes.specs.declared.kept.GivenFile.{GivenFile}
 use Rattle.command_changes.specs.declared.kept.Kept.{Kept}
 use Rattle.command_changes.specs.declared.kept.Kept.TheVariants as kepts
@@ -60,24 +63,44 @@ is_kept_by (Ok (replies.Bytes bytes)) kept = false
 is_kept_by (Ok (replies.Names names)) kept = false
 is_kept_by (Err refusal) kept = false
 
+-- true if a node of this kind with so many links is a regular file with further names (stat)
+abbrev pub is_shared : Kind → ℕ → Bool
+is_shared Regular links = nat_lt 1 links
+is_shared _ links = false
+
+-- the owner of a regular file with further names, by the answer to a Stat (stat)
+abbrev pub shared_owner : Result Reply Refusal → Option Cred
+shared_owner (Ok (replies.Stat stat)) = if is_shared stat.kind stat.links then Some (record { uid = stat.uid; gid = stat.gid }) else None
+shared_owner (Ok (replies.Bytes bytes)) = None
+shared_owner (Ok (replies.Names names)) = None
+shared_owner (Err refusal) = None
+
+-- what is done with a file that differs: one with further names is replaced by a new one with the same owner, so that these keep what they have (rsync)
+abbrev pub apart : Option Cred → FileStep → FileStep
+apart (Some owner) step = steps.Replace owner
+apart None step = step
+
 -- what is done with a file, if files that are the same are left: nothing, if the path leads to these bytes and what is kept; only what is kept changes,
--- if it leads to these bytes; otherwise the file is put (this project)
+-- if it leads to these bytes; otherwise the file is put. A file with further names is replaced (this project)
 abbrev pub compared : Tree → List ℕ → GivenFile → FileStep
 compared tree path file =
     if is_body (answer tree (queries.Read user path 0 4294967295)) file.bytes.items
-    then (if is_kept_by (answer tree (queries.Stat user path)) file.kept then steps.Leave else steps.Mark)
-    else steps.Put
+    then (if is_kept_by (answer tree (queries.Stat user path)) file.kept then steps.Leave else apart (shared_owner (answer tree (queries.Stat user path))) steps.Mark)
+    else apart (shared_owner (answer tree (queries.Stat user path))) steps.Put
 
 -- what is done with a file (this project)
 abbrev pub step_of : Tree → Unchanged → List ℕ → GivenFile → FileStep
 step_of tree unchanged.Skip path file = compared tree path file
 step_of tree unchanged.Put path file = steps.Put
 
--- the calls for a file: none; those that give it what is kept of the host's file; or those of `put` (this project)
+-- the calls for a file: none; those that give it what is kept of the host's file; those of `put`; or those that remove this name and put a new file, which
+-- gets the owner given, else that of the old one (this project)
 abbrev pub step_calls : FileStep → Tree → ℕ → List ℕ → GivenFile → Option Cred → List Call
 step_calls steps.Leave tree now path file owner = []
 step_calls steps.Mark tree now path file owner = kept_calls (target_by (answer tree (queries.Stat user path))) now path file.kept
 step_calls steps.Put tree now path file owner = put_calls tree now path file.bytes.items file.kept owner
+step_calls (steps.Replace old) tree now path file owner =
+    calls.Unlink user now path ∷ calls_on targets.Missing now path file.bytes.items file.kept (Some (unwrap_or owner old))
 
 -- the calls for a folder, by what its path leads to: none for a directory; otherwise it is made with permissions 0755, and gets its owner, if one is
 -- given, and what is kept of the host's folder. If a file is there, the first of them is refused (mkdir)
@@ -124,6 +147,7 @@ abbrev pub step_line : FileStep → List ℕ → List ℕ
 step_line steps.Leave path = []
 step_line steps.Mark path = line_of (codes "mark ") path
 step_line steps.Put path = line_of (codes "put ") path
+step_line (steps.Replace old) path = line_of (codes "put ") path
 
 -- the line for a folder, if a directory is made (this project)
 abbrev pub folder_line : PathKind → List ℕ → List ℕ

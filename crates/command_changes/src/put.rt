@@ -10,7 +10,7 @@ ghost use Rattle.command_faults.specs.ChangeFaults.{IsReason};
 ghost use Rattle.command_faults.specs.Outcomes.{Concludes, IsAmong};
 ghost use Rattle.command_faults.specs.Streams.{Hears, heard, streams};
 ghost use Rattle.command_changes.specs.Import.{IsUnimported, of_import};
-ghost use Rattle.command_changes.specs.Put.{calls_to_put, emptying_by, kept_calls, onto, permissions_of, put_calls, target_by, with_execution};
+ghost use Rattle.command_changes.specs.Put.{calls_on, calls_to_put, emptying_by, kept_calls, onto, permissions_of, put_calls, target_by, with_execution};
 ghost use Rattle.command_changes.specs.Traced.{ImportsVolume, MakesVolume};
 
 use crate::calls::{make_calls, push};
@@ -248,7 +248,7 @@ fn push_file(
     Ok(())
 }
 
-/// Appends the calls that put a file at a path. Costs a walk.
+/// Appends the calls that put a file at a path, by what is there. Costs a walk.
 pub(crate) fn push_calls(
     alloc: Global,
     volume: &Volume,
@@ -262,6 +262,21 @@ pub(crate) fn push_calls(
         ++ put_calls (reads_as volume.now.edition volume.now.image).tree now path.now file.bytes.items file.kept owner) }
 {
     let target = find_target(alloc, volume, path)?;
+    push_onto(alloc, target, path, file, owner, now, calls)
+}
+
+/// Appends the calls that put a file at a path where this is.
+pub(crate) fn push_onto(
+    alloc: Global,
+    target: Target,
+    path: &[u8],
+    file: GivenFile,
+    owner: Option<Cred>,
+    now: u32,
+    calls: &mut Vec<Call>,
+) -> Result<(), AllocError>
+    ensures { OnOk result (calls.new.items ≡ calls.old.items ++ calls_on target now path.now file.bytes.items file.kept owner) }
+{
     let GivenFile { bytes, kept } = file;
     let empty = emptying_call(alloc, target, path, now)?;
     push(calls, empty)?;

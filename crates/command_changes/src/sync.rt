@@ -9,15 +9,17 @@ ghost use Rattle.vol_import.specs.Plan.{Tells};
 ghost use Rattle.command_faults.specs.Outcomes.{IsAmong};
 ghost use Rattle.command_changes.specs.Extras.{IsPlanned, IsStopped, IsSynced, IsSyncedVolume, IsUnplanned, IsUnsynced};
 ghost use Rattle.command_changes.specs.Import.{IsUnimported, of_import};
-ghost use Rattle.command_changes.specs.Sync.{calls_onto, calls_to_sync, compared, has_kept, is_body, is_kept_by, is_long_name, line_of, lines_of_sync, member_line, member_onto, node_calls, node_line, folder_calls, folder_line, place_of, step_calls, step_line, step_of};
+ghost use Rattle.command_changes.specs.Sync.{apart, calls_onto, calls_to_sync, compared, has_kept, is_body, is_kept_by, is_long_name, is_shared, line_of, lines_of_sync, member_line, member_onto, node_calls, node_line, folder_calls, folder_line, place_of, shared_owner, step_calls, step_line, step_of};
 ghost use Rattle.command_changes.specs.Traced.{ImportsVolume};
 
+use crate::calls::push;
 use crate::extras::{Extra, removals};
 use crate::import_lines::{fault_of, from_root};
 use crate::kept::{GivenFile, Kept};
 use crate::lookup::{PathKind, find, name_in};
 use crate::mkdir::{PERMISSIONS, push_mkdir};
-use crate::put::{Target, find_target, push_calls, push_kept, with_execution};
+use crate::put::{Target, find_target, push_calls, push_kept, push_onto, with_execution};
+use crate::rm::unlink_call;
 use crate::traced::traced;
 use command_faults::{Fault, Remarked};
 use escaped_text::push_escaped;
@@ -25,8 +27,8 @@ use std::alloc::{AllocError, Global};
 use std::path::Path;
 use vol_dir::{Cred, Refusal};
 use vol_import::{ImportFault, MemberFault, PlanFault, make};
-use vol_layout::Edition;
 use vol_layout::slot::NAME;
+use vol_layout::{Edition, Kind};
 use vol_volume::{Bytes, Call, Query, Reply, Volume};
 
 /// What becomes of a file that the volume has with the same bytes.
@@ -78,6 +80,8 @@ pub(crate) enum FileStep {
     Mark,
     /// It is put.
     Put,
+    /// It has further names in the volume, which keep it: its name is removed, and a new file is put, with the old one's owner if none is given.
+    Replace { owner: Cred },
 }
 
 /// The calls for what is removed and for the members of a tree, and what they do in words.
@@ -114,7 +118,8 @@ pub struct SyncedImage {
 
 /// Makes a directory of a volume what a tree is, except that nothing is removed. Each folder that is missing is made with permissions 0755, and gets the
 /// owner, if one is given, and what is kept of the host's folder. Each file that is missing, or that has other bytes, is put as by `put`. A file with the same bytes
-/// gets only what is kept of the host's file, if it hasn't that, and nothing otherwise; unless `syncing` says that all files are put. The members must come
+/// gets only what is kept of the host's file, if it hasn't that, and nothing otherwise. A file that differs and has further names in the volume is replaced by
+/// a new one, so that these keep what they have. If `syncing` says so, all files are put instead. The members must come
 /// so that a folder precedes what is in it. If one of them can't be put, nothing is saved, and the fault is the rule that the image breaks, the path of the
 /// first name above 14 bytes, or the refusal of a call with its path: as `Exists` if a file is in the place of a folder, and as `IsDirectory` if a directory is
 /// in the place of a file. If `trace` is true, the outcome has the trace of the calls.
@@ -360,7 +365,7 @@ fn push_folder_line(found: PathKind, path: &[u8], lines: &mut Vec<u8>) -> Result
     }
 }
 
-/// Returns what is done with a file. Costs two walks, and reading the file of the volume.
+/// Returns what is done with a file. Costs up to three walks, and reading the file of the volume.
 fn step_of(
     alloc: Global,
     volume: &Volume,
@@ -386,12 +391,54 @@ fn compared(
     ensures { IfOk result (λ step. step ≡ compared (reads_as volume.now.edition volume.now.image).tree path.now file.now) }
 {
     if !is_body(alloc, volume, path, &file.bytes)? {
-        return Ok(FileStep::Put);
+        return apart(alloc, volume, path, FileStep::Put);
     }
     if is_kept(alloc, volume, path, file.kept)? {
         Ok(FileStep::Leave)
     } else {
-        Ok(FileStep::Mark)
+        apart(alloc, volume, path, FileStep::Mark)
+    }
+}
+
+/// Returns what is done with a file that differs: one with further names is replaced, so that these keep what they have. Costs a walk.
+fn apart(
+    alloc: Global,
+    volume: &Volume,
+    path: &[u8],
+    step: FileStep,
+) -> Result<FileStep, AllocError>
+    ensures { IfOk result (λ next. next ≡ apart (shared_owner (answer (reads_as volume.now.edition volume.now.image).tree (questions.Stat user path.now))) step) }
+{
+    match shared_owner(alloc, volume, path)? {
+        Some(owner) => Ok(FileStep::Replace { owner }),
+        None => Ok(step),
+    }
+}
+
+/// Returns the owner of the regular file that a path leads to, if it has further names.
+fn shared_owner(alloc: Global, volume: &Volume, path: &[u8]) -> Result<Option<Cred>, AllocError>
+    ensures { IfOk result (λ owner. owner ≡ shared_owner (answer (reads_as volume.now.edition volume.now.image).tree (questions.Stat user path.now))) }
+{
+    let query = Query::Stat {
+        cred: Cred::ROOT,
+        path: Bytes::from_slice(alloc, path)?,
+    };
+    match volume.ask(alloc, &query) {
+        Ok(Reply::Stat(stat)) if is_shared(stat.kind, stat.links) => Ok(Some(Cred {
+            uid: stat.uid,
+            gid: stat.gid,
+        })),
+        _ => Ok(None),
+    }
+}
+
+/// True if a node of this kind with so many links is a regular file with further names.
+fn is_shared(kind: Kind, links: u16) -> bool
+    ensures { result ≡ is_shared kind links }
+{
+    match kind {
+        Kind::Regular => links > 1,
+        _ => false,
     }
 }
 
@@ -461,6 +508,12 @@ fn push_step(
             push_kept(alloc, target, path, file.kept, now, calls)
         }
         FileStep::Put => push_calls(alloc, volume, path, file, owner, now, calls),
+        FileStep::Replace { owner: old } => {
+            let unlink = unlink_call(alloc, path, now)?;
+            push(calls, unlink)?;
+            let owner = Some(owner.unwrap_or(old));
+            push_onto(alloc, Target::Missing, path, file, owner, now, calls)
+        }
     }
 }
 
@@ -471,7 +524,7 @@ fn push_step_line(step: FileStep, path: &[u8], lines: &mut Vec<u8>) -> Result<()
     match step {
         FileStep::Leave => Ok(()),
         FileStep::Mark => push_line(b"mark ", path, lines),
-        FileStep::Put => push_line(b"put ", path, lines),
+        FileStep::Put | FileStep::Replace { .. } => push_line(b"put ", path, lines),
     }
 }
 

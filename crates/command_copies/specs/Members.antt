@@ -1,10 +1,12 @@
 -- The members of the list of a volume.
-use Rattle.std.specs.Prelude.{◌≡◌, ◌≢◌, ◌/◌, ◌%◌, ℕ, if◌then◌else◌, List, ◌∷◌, ◌++◌, Option, None, Some, Result, Ok, Err, codes, slice_get}
+use Rattle.std.specs.Prelude.{◌≡◌, ◌≢◌, ◌/◌, ◌%◌, ◌==◌, ◌&&◌, ◌||◌, nat_lt, drop, Bool, ℕ, if◌then◌else◌, List, ◌∷◌, ◌++◌, Option, None, Some, Result, Ok, Err, codes, slice_get, slice_index}
+use Rattle.std.specs.List.{list_all}
 use Rattle.std.specs.Str.{is_utf8}
 use Rattle.pdp_words.specs.Steps.{and_then}
 use Rattle.pdp_words.specs.Words.{long}
-use Rattle.vol_layout.specs.Inode.{device_of, inode_of, is_block, permissions_of}
+use Rattle.vol_layout.specs.Inode.{device_of, device_type, inode_of, is_block, permissions_of}
 use Rattle.vol_layout.specs.Super.{time_place}
+use Rattle.vol_layout.specs.declared.edition.Edition.{Edition}
 use Rattle.vol_layout.specs.declared.geometry.Geometry.{Geometry}
 use Rattle.vol_layout.specs.declared.i_node.Inode.{Inode}
 use Rattle.vol_layout.specs.declared.mode.DeviceId.{DeviceId}
@@ -24,7 +26,7 @@ use Rattle.pack_lists.specs.declared.members.NodeMarks.{NodeMarks}
 use Rattle.command_copies.specs.declared.members.MemberFault.{MemberFault}
 use Rattle.command_copies.specs.declared.members.MemberFault.TheVariants as faults
 use Rattle.command_copies.specs.declared.nodes.Uncopied.{Uncopied}
-use Rattle.command_copies.specs.declared.nodes.Uncopied.TheVariants.{Left, NotText, Spaced}
+use Rattle.command_copies.specs.declared.nodes.Uncopied.TheVariants.{Device, Left, NotText, Spaced}
 
 -- the fault of an entry when memory runs out (this project)
 abbrev pub no_memory_of_member : MemberFault
@@ -90,12 +92,23 @@ directory_member g image found =
     and_then (node_of g image found.inode) (λ node.
     Ok (members.Directory path (marks_of node)))))
 
--- the member for a special file (this project)
+-- true if the type in a mode is that of a character or a block file (stat.h)
+abbrev pub is_device_type : Edition → ℕ → Bool
+is_device_type edition mode = (mode / 4096 == device_type edition devices.Character) || (mode / 4096 == device_type edition devices.Block)
+
+-- true if a special file is one that mknod makes: its type is that of a character or a block file, and its addresses are the number of its device alone
+-- (mknod, ino.h)
+abbrev pub is_made_device : Edition → Inode → Bool
+is_made_device edition node =
+    is_device_type edition node.mode.bits
+    && (nat_lt (slice_index node.addresses 0) 65536 && list_all (λ address. address == 0) (drop 1 node.addresses))
+
+-- the member for a special file, if it is one that mknod makes (this project)
 abbrev pub special_member : Geometry → List ℕ → MetEntry → Result ListedMember MemberFault
 special_member g image found =
     and_then (listed_path found.path) (λ path.
     and_then (node_of g image found.inode) (λ node.
-    Ok (members.Device path (marks_of node) (device_id node))))
+    if is_made_device g.edition node then Ok (members.Device path (marks_of node) (device_id node)) else unlisted Device))
 
 -- the path of the first name of a file (this project)
 abbrev pub first_path : Option MetEntry → Result (List ℕ) MemberFault

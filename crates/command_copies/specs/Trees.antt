@@ -21,7 +21,7 @@ use Rattle.command_faults.specs.PathLines.{path_line}
 use Rattle.command_faults.specs.declared.fault.Fault.{Fault}
 use Rattle.command_copies.specs.Nodes.{CopiedNode, copied_as, entry_node, node_at}
 use Rattle.command_copies.specs.declared.nodes.Uncopied.{Uncopied}
-use Rattle.command_copies.specs.declared.nodes.Uncopied.TheVariants.{Left, Special, NotText, Spaced}
+use Rattle.command_copies.specs.declared.nodes.Uncopied.TheVariants.{Device, Left, Special, NotText, Spaced}
 use Rattle.command_copies.specs.declared.trees.TreesRead.{TreesRead}
 
 -- the last name of a path, under which it is copied; empty if the path ends in `..` or has no names (std::path)
@@ -34,6 +34,7 @@ uncopied_text (Left reason) = reason_text reason
 uncopied_text Special = codes "a special file"
 uncopied_text NotText = codes "the name is not UTF-8 text"
 uncopied_text Spaced = codes "a list has no place for a space or a newline in a path"
+uncopied_text Device = codes "a list has no place for such a special file"
 
 -- the line about the path of an entry that isn't copied (this project)
 abbrev pub uncopied_line : List ℕ → Uncopied → List ℕ

@@ -136,7 +136,7 @@ fn has_blocks(node: &Inode) -> bool
 }
 
 /// True if all addresses are 0.
-fn are_zero(addresses: &[u32]) -> bool
+pub(crate) fn are_zero(addresses: &[u32]) -> bool
     ensures { result ≡ list_all (λ address. address == 0) addresses.now }
 {
     addresses.iter().all(|address| *address == 0)

@@ -1,9 +1,10 @@
 //! The member of a list for an entry of a volume.
-ghost use Rattle.std.specs.Prelude.{◌≡◌, ◌∷◌, Ok, IfErr, IfOk, slice_get};
+ghost use Rattle.std.specs.Prelude.{◌≡◌, ◌∷◌, Ok, IfErr, IfOk, nat_lt, slice_get};
 ghost use Rattle.std.specs.String.{string_bytes};
 ghost use Rattle.vol_layout.specs.Geometry.{Fits};
-ghost use Rattle.command_copies.specs.Members.{TellsMember, device_id, directory_member, entry_member, file_member, first_path, host_path, link_member, listed_path, marks_of, no_memory_of_member, node_of, owner_of, special_member, text_path, time_of};
+ghost use Rattle.command_copies.specs.Members.{TellsMember, device_id, directory_member, entry_member, file_member, first_path, host_path, is_device_type, is_made_device, link_member, listed_path, marks_of, no_memory_of_member, node_of, owner_of, special_member, text_path, time_of};
 
+use crate::lists::are_zero;
 use crate::nodes::{Uncopied, text_of};
 use pack_lists::{
     HostPath, ListedMember, ListedOwner, ListedPath, NodeMarks, is_list_word, is_path,
@@ -11,7 +12,7 @@ use pack_lists::{
 use pdp_words::Image;
 use std::alloc::{AllocError, Global};
 use vol_archive::{MetEntry, Reason, Role};
-use vol_layout::{DeviceId, DeviceKind, Geometry, Inode, Super, inode};
+use vol_layout::{DeviceId, DeviceKind, Edition, Geometry, Inode, Mode, Super, inode};
 
 /// The reason why an entry has no member.
 #[derive(Drop)]
@@ -108,6 +109,9 @@ fn special_member(
 {
     let path = listed_path(alloc, found.path.as_slice())?;
     let node = node_of(image, geometry, found.inode)?;
+    if !is_made_device(geometry.edition, &node) {
+        return Err(MemberFault::Unlisted(Uncopied::Device));
+    }
     Ok(ListedMember::Device {
         path,
         marks: marks_of(&node),
@@ -220,6 +224,32 @@ fn marks_of(node: &Inode) -> NodeMarks
         permissions: node.mode.permissions(),
         owner: owner_of(node),
         modified: node.modified,
+    }
+}
+
+/// True if a special file is one that mknod makes: its type is that of a character or a block file, and its addresses are the number of its device alone.
+fn is_made_device(edition: Edition, node: &Inode) -> bool
+    ensures { result ≡ is_made_device edition node.now }
+{
+    is_device_type(edition, node.mode)
+        && is_number(node.addresses[0])
+        && are_zero(&node.addresses[1..])
+}
+
+/// True if an address can be the number of a device.
+fn is_number(address: u32) -> bool
+    ensures { result ≡ nat_lt address 65536 }
+{
+    address < 65536
+}
+
+/// True if the type in a mode is that of a character or a block file.
+fn is_device_type(edition: Edition, mode: Mode) -> bool
+    ensures { result ≡ is_device_type edition mode.bits }
+{
+    match edition {
+        Edition::V6 => matches!(mode.bits / 0o10000, 0o12 | 0o16),
+        Edition::V7 => matches!(mode.bits / 0o10000, 0o2 | 0o6),
     }
 }
 

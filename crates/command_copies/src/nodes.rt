@@ -47,6 +47,8 @@ pub enum Uncopied {
     NotText,
     /// Its path can't be a word of a list, since it has a space or a newline.
     Spaced,
+    /// It is a special file that a list can't say: a multiplexor of the seventh edition, or one whose i-node has more than the number of a device.
+    Device,
 }
 
 /// Reads an entry that a walk met below a directory, to copy it to `path`.

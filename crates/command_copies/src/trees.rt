@@ -180,6 +180,9 @@ const NOT_TEXT: &[u8] = b"the name is not UTF-8 text";
 /// The words for a path that can't be a word of a list.
 const SPACED: &[u8] = b"a list has no place for a space or a newline in a path";
 
+/// The words for a special file that a list can't say.
+const DEVICE: &[u8] = b"a list has no place for such a special file";
+
 /// Appends the line about the path of an entry that isn't copied.
 pub(crate) fn push_uncopied(
     lines: &mut Vec<u8>,
@@ -193,6 +196,7 @@ pub(crate) fn push_uncopied(
         Uncopied::Special => push_line(lines, shown, SPECIAL),
         Uncopied::NotText => push_line(lines, shown, NOT_TEXT),
         Uncopied::Spaced => push_line(lines, shown, SPACED),
+        Uncopied::Device => push_line(lines, shown, DEVICE),
     }
 }
 

@@ -6,7 +6,7 @@ ghost use Rattle.command_words.specs.declared.verbs.Verb.TheVariants as verbs;
 use crate::fault::WordFault;
 use crate::given::{Given, flag_in, missing, text_in};
 use crate::invocation::{Copying, Invocation, MadeFile};
-use crate::parameters::{AT, Need, Parameter, UNREPLACED, WordKind};
+use crate::parameters::{Need, Parameter, UNREPLACED, ValueName, WordKind};
 use crate::read_words::{made_in, volume_by};
 use crate::several::{left_out, no_more};
 use std::alloc::Global;
@@ -40,12 +40,13 @@ There may be one line `boot`, and one line `root`. An empty line says nothing, n
 
 PATH and TARGET are paths in the volume, with a slash before each name. FILE is the path of a file outside the volume:
 one that begins with a slash is taken as it is, any other begins at the folder of LIST. PERM is octal. SECONDS are
-counted from the beginning of 1970: the time of access and of modification. The time of change is that of `time`.
+counted from the beginning of 1970: the time of access and of modification. A list says no times of change.
 
 The volume is that of `unixvol mkfs`, whose root has permissions 0777, user 0 and group 0, if no line `root` says
 others, with the program of `unixvol boot`. Then all things are made in their order, as `unixvol import` makes the
 members of an archive: if a directory on the way to one is missing, it is made too, with permissions 0755, user 0 and
-group 0. A name longer than 14 bytes is refused, never cut.
+group 0, and has the time of modification of what was made in it last. A name longer than 14 bytes is refused, never
+cut.
 
 LIST is read first, then each FILE. The same list and files give the same bytes, whatever the clock says.
 
@@ -57,7 +58,8 @@ With --list it is the other way round: the words are EDITION, IMAGE and LIST, an
 written into LIST. Its regular files are saved in the folder LIST.files, by their paths, and the boot block, if it isn't
 all zeros, in the file LIST.boot. `unixvol build LIST NEW` then makes a volume with the same tree: the same names,
 kinds, bytes, permissions, owners, times of modification and links. The list has no i-numbers, no times of access and
-change, and not the time of modification of the root.
+change, and not the time of modification of the root. It has no holes: a file that has some gets all its blocks, for
+which FSIZE may have to be greater.
 
 The volume must be sound, and is read as a whole before anything is written: the folder with its files first, and LIST
 last. Files that are there are replaced, and nothing is removed; with --new nothing is written if something already has
@@ -82,13 +84,16 @@ Status:
      `unixvol: PATH: the name is not UTF-8 text`, `unixvol: PATH: a path above 4096 bytes`: neither has a list a place
      for this; nothing was written
      `unixvol: i-node 1 has bad blocks, which a list has no place for`: nothing was written
+     `unixvol: PATH: a list has no place for such a special file`: a multiplexor of the seventh edition, or one with more
+     in its i-node than the number of its device; nothing was written
   2  the command line is wrong
      `unixvol: LIST: line N: WHY`: this line can't be read; its first word that is wrong is named
      `unixvol: LIST: it ends where `volume` is wanted`, or `time`
   3  `unixvol: cannot read LIST`, `unixvol: cannot read FILE`
-     `unixvol: cannot write IMAGE`; with --new, also if something already has this path; also if it is LIST
-     With --list, `unixvol: cannot read IMAGE`; or `unixvol: cannot write FILE`: LIST, or a file beside it, which may be
-     where a folder must be; the files before it were written
+     `unixvol: cannot write IMAGE`; with --new, also if something already has this path; also if it is LIST or a FILE
+     With --list, `unixvol: cannot read IMAGE`; `unixvol: cannot write LIST`: it is IMAGE, or has no last name, as `..`
+     and `/` have none; or `unixvol: cannot write FILE`: LIST, or a file beside it, which may be where a folder must be;
+     the files before it were written
   4  `unixvol: 12 NoMemory`";
 
 const WANTS_LIST: &str = "three words, EDITION, IMAGE and LIST, need --list";
@@ -125,8 +130,15 @@ const WRITES_LIST: Parameter = Parameter {
     help: "Write the list of a volume, and the files that it names beside it",
 };
 
+const LISTED_AT: Parameter = Parameter {
+    name: "at",
+    kind: WordKind::LongOr,
+    need: Need::Value(None, ValueName::Block),
+    help: "With --list, the block of IMAGE, of 512 bytes, that the volume begins at; by default 0",
+};
+
 /// The words that `build` takes.
-pub(crate) const WORDS: &[Parameter] = &[FIRST, SECOND, THIRD, WRITES_LIST, UNREPLACED, AT];
+pub(crate) const WORDS: &[Parameter] = &[FIRST, SECOND, THIRD, WRITES_LIST, UNREPLACED, LISTED_AT];
 
 /// Reads the words of `build`.
 pub(crate) fn read<'a, G: Given<'a>>(

@@ -31,8 +31,9 @@ Without --fields the trees are compared, path by path, as `find` meets them. A p
   U /deep path above 4096 bytes            both have it, and it is too long to be followed: what is below it isn't compared
 Of a path that both have, these are compared: the kind, the permissions, the number of links, the owner, the group, the
 time of the last write, a file's size and bytes, a special file's device, and which paths are names of one file. Of the
-bytes the line has the first place that differs. I-numbers aren't compared, nor are the sizes of directories. Nothing is
-printed if and only if all that is equal and no path is above 4096 bytes. The sizes of the volumes may differ.
+bytes the line has the first place that differs. I-numbers aren't compared, nor are the sizes of directories, and a
+multiplexor of the seventh edition counts as the character or block file that it multiplexes. Nothing is printed if and
+only if all that is equal and no path is above 4096 bytes. The sizes of the volumes may differ.
 
 Of an image that isn't sound only what `find` meets is compared, and a line on standard error names its file.
 

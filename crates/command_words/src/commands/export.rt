@@ -27,9 +27,9 @@ Examples:
 
 A POSIX ustar archive is written to standard output: files, directories and special files, with their permissions,
 owners and times of modification. The second and further names of a file are links to the first. Members are
-sorted by name, with paths that start at PATH, and no path occurs twice. A header of pax comes before a member whose
-path or link is too long for its own header, with --damaged before one with lost bytes, and before no other. Paths
-above 4096 bytes are left out.
+sorted by name, with paths that start at PATH, and without --lost no path occurs twice. A header of pax comes before
+a member whose path or link is too long for its own header, with --damaged before one with lost bytes, and before no
+other. Paths above 4096 bytes are left out.
 
 The volume need not be sound. Only rules 1 and 2 are checked: the image's size, and the sizes in its super-block.
 Everything that entries lead to, from PATH on, is exported. Anything left out, and anything wrong with the volume,
@@ -42,7 +42,8 @@ has a line on standard error, and the status is then 1. There is a line for
 If a directory has a name more than once, the first entry counts, and the others have no line.
 
 With --lost, i-nodes that no entry names are exported too, with everything below them, each under its number:
-lost+found/#96 is i-node 96, and the line of i-node 96 says so. Each keeps its owner and its time. If an i-node is
+lost+found/#96 is i-node 96, and the line of i-node 96 says so; if the volume has another file of this name, the archive
+has both. Each keeps its owner and its time. If an i-node is
 still out of reach, as in a ring of directories that name only one another, the least such i-node is exported in the
 same way, and so on. So if PATH is the root, every i-node of a known kind is exported. If the root is no directory,
 these are all that is exported: names are known only below them. A root that is a file has its number too.
@@ -68,7 +69,8 @@ With --bad, the image was copied from a medium of which some blocks couldn't be 
 ddrescue kept of it. It is of all of IMAGE, also with --at. Each block of 512 bytes that the map doesn't call
 finished (+) as a whole is lost, whatever the image has in its place; so is each that the map doesn't cover, or that
 isn't wholly there, as with --cut. All else is as with --cut. With --bad-blocks, the blocks of the volume that LIST
-names are lost: numbers and ranges, as 12,878-4871, strictly ascending.
+names are lost: numbers and ranges, as 12,878-4871, strictly ascending. They count from the volume's first block, where
+--bad counts from that of IMAGE; a number or range that begins behind the volume is refused, with status 3.
 
 If the super-block is lost, its sizes aren't known, and rule 2 is broken. Then --sizes or --like gives them: FSIZE
 blocks with IBLOCKS of them for the i-list, as `mkfs` takes them, or those of a volume that `mkfs` makes for DISK.

@@ -35,8 +35,8 @@ The file's bytes are printed to standard output; missing blocks read as zeros.
 
 With -o, each file is written into FOLDER, which must exist, under the last name of its path. No two files may
 have the same last name. Nothing is written until all files have been read from the volume. An existing file is
-replaced without asking: a new file is written beside it and then takes its place, so each file is written whole
-or not at all.
+replaced without asking, through a symbolic link too: a new file is written beside it and then takes its place, so each
+file is written whole or not at all.
 
 With -r too, a PATH may be a directory, and is copied with everything below it, as by `cp -r`: /usr/src above becomes
 out/src. What is in the root is written into FOLDER itself. FOLDER and the directories in it are made if they aren't

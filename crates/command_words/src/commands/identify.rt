@@ -21,8 +21,8 @@ Examples:
   unixvol identify -r archive > found.txt
 
 Each image has a line: its path, and what it looks like. That is a guess by a few bytes; nothing is changed. All
-other commands must be told the edition. A file in which a volume begins after block 0, or in which other bytes than
-zeros follow a volume, is a pack, and has lines:
+other commands must be told the edition. A file in which a volume begins after block 0, or in which a whole block that
+isn't all zeros follows a volume, is a pack, and has lines:
 
   PATH: looks like a larger pack
     at K: a volume of edition N, with B blocks, sound: unixvol ls N PATH --at K
@@ -31,10 +31,11 @@ zeros follow a volume, is a pack, and has lines:
     at K: C blocks of other bytes
     at K: C bytes follow
 
-K is the first block of each part, and the command goes on with it. What is inside a volume isn't looked at. The last
-line is for the bytes after the last whole block; after the line of a volume it is printed too. Where the last volume
-ends, one that is cut off is named too: it breaks rule 1. Elsewhere its blocks are other bytes. Of other files the
-first of these that fits is printed:
+K is the first block of each part, and the command goes on with it: PATH has a shell's quotes there if it needs them,
+and ./ before it if it begins with a hyphen. What is inside a volume isn't looked at. The last line is for the bytes
+after the last whole block; after the line of a volume it is printed too. Where the last volume ends, one that is cut
+off is named too: it breaks rule 1. Elsewhere its blocks are other bytes. Of other files the first of these that fits
+is printed:
 
   looks like a volume of edition N, with B blocks, sound
   looks empty: it has no bytes but zeros
@@ -63,8 +64,8 @@ the next one is read.
 
 With -r an IMAGE may be a folder: all regular files below it have their lines, as they are found. In each folder the
 files come first, then its folders, each in the order of their names' bytes. Symbolic links and special files below
-it are left out. A folder that can't be read, or that has a name which isn't UTF-8, has no line but
-`unixvol: cannot read FOLDER` on standard error.
+it are left out. A folder that can't be read, or that has a name which isn't UTF-8, has the line
+`unixvol: cannot read FOLDER` on standard error, and the files in it whose names are UTF-8 have theirs.
 
 With --json each image is one object on a line:
 
@@ -78,15 +79,15 @@ With --json each image is one object on a line:
   tail     the number of bytes after the last whole block of a regular file; null of another
 
 A part that is a volume has block, blocks, edition, and, if it was judged, sound, rule (the first that it breaks, or
-null) and command, in which a shell's quotes are round a path that needs them. Any other part has block, blocks and
-zeros, which is true if all its bytes are. A file without a line has an object with fault, file and format: the
+null) and command. Any other part has block, blocks and zeros, which is true if all its bytes are. A file without a
+line has an object with fault, file and format: the
 fault is `cannot read` or `12 NoMemory`.
 
 With --csv a catalogue is printed, as a table of comma-separated values (RFC 4180, with a newline after each row): a
 row of headings, then one for each volume of each image: file, bytes, sha256 (of the whole file), block, edition,
-blocks, free_blocks (up to the first fault of the free list), files, verdict (`sound`, or `rule R` for the first
-that it breaks) and time (of its last change, in universal time). A volume that is cut off breaks rule 1, and its
-free_blocks, files and time are empty. A file in which no volume is named has no row and no other line, and its
+blocks, free_blocks (up to the first fault of the free list), files (regular ones), verdict (`sound`, or `rule R` for
+the first that it breaks) and time (of its last change, in universal time). A volume that is cut off breaks rule 1, and
+its free_blocks, files and time are empty. A file in which no volume is named has no row and no other line, and its
 status is 0: an empty one, an archive, a volume with exchanged bytes or whose sizes break rule 2, a disk of another
 system. All must be regular files: each is read to its end twice, and then each volume once more; one volume at a
 time is in memory.

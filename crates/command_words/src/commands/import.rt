@@ -30,10 +30,12 @@ modification, files with their bytes, and more names of files. All members are m
 exist, unless a member whose name is empty or a slash makes it. What follows the end of the archive is dropped, a
 second archive too.
 
-If a directory on the way to a member is missing, it is made too, with permissions 0755, user 0 and group 0. A
-directory that the volume already has stays as it is. A name longer than 14 bytes is refused, never cut, and so is
-a path longer than 4096 bytes. Symbolic links and FIFOs are refused, as these systems have none. Files stored as
-sparse are refused: make the archive with tar without -S, or with bsdtar --no-read-sparse.
+If a directory on the way to a member is missing, it is made too, with permissions 0755, user 0 and group 0, also
+with --owner. A directory that the volume already has keeps its permissions and its owner; it gets the time of
+modification of what is made in it last. A time of modification that doesn't fit 32 bits becomes NOW; times in headers
+of pax aren't read. A name longer than 14 bytes is refused, never cut, and so is a path longer than 4096 bytes. Symbolic
+links and FIFOs are refused, as these systems have none. Files stored as sparse are refused: make the archive with tar
+without -S, or with bsdtar --no-read-sparse.
 
 Character and block files keep the major and the minor number of their device, which are 0 to 255 here. `export`
 writes a multiplexor of the seventh edition as the character or block file that it multiplexes; it comes back as that.

@@ -57,7 +57,7 @@ Status:
      `unixvol: unsound, rule N`: this is the first rule that the volume breaks; `unixvol check` says what breaks it
   2  `unixvol: script S line L`: this line can't be read, and nothing was played; or the command line is wrong
   3  `unixvol: cannot read FILE`, `unixvol: cannot write IMAGE`, or
-     `unixvol: cannot write -`: standard output failed
+     `unixvol: cannot write -`: standard output failed; the volume is saved all the same, if it can be
   4  `unixvol: 12 NoMemory`, or memory ran out for a line, or a view's line was not answered (`NotEntered`)";
 
 const SCRIPT: Parameter = Parameter {

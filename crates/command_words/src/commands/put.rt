@@ -39,18 +39,18 @@ numbers go up to 255 in the sixth edition, and up to 32767 in the seventh.
 
 With -p, the file then gets FILE's permissions, also the set-user-ID and set-group-ID bits and the sticky bit, and
 the time of FILE's last modification in whole seconds; its time of access becomes NOW. The user and the group of
-FILE are not kept; --owner sets them. With -x it gets FILE's execute bits alone; its other permissions stay as
-they are.
+FILE are not kept; --owner sets them. With -x, and not -p, it gets FILE's execute bits alone; its other permissions
+stay as they are.
 
 With -t, each file is put into DIR, a directory of the volume, under its last name. No two files may have the same
 last name, and a last name longer than 14 bytes is refused, never cut. An existing file gets the new bytes, as
 above. The image is saved once: with all files or with none. If the last of two or more words is a number or a
 date, it is NOW; if a file has that name too, nothing is put. Write the name of such a file as ./123.
 
-With -r, folders are put into DIR with all below them, each under its last name. Directories that are missing are
-made, with permissions 0755 or those that -p or -x keep, but not DIR itself; those that are there keep theirs. A
-folder may have regular files and folders only: anything else, a symbolic link for example, is reported with its
-path, and nothing is done. `unixvol sync` puts only what differs.
+With -r, folders are put into DIR with all below them, each under its last name; what is in one without a last name, as
+`.`, is put into DIR itself. Directories that are missing are made, with permissions 0755 or those that -p or -x keep,
+but not DIR itself; those that are there keep theirs. A folder may have regular files and folders only: anything else, a
+symbolic link for example, is reported with its path, and nothing is done. `unixvol sync` puts only what differs.
 
 IMAGE is written only if everything succeeded: a new file is written beside it and then takes its place.
 The new file has IMAGE's permissions. If IMAGE is a device, the bytes are written into it; it can't be a pipe or a
@@ -70,7 +70,8 @@ Status:
      With -t, all of these lines but the first end with the path in the volume, as in
      `unixvol: 28 NoSpace: /src/a.c`; and `unixvol: NAME: a name above 14 bytes` has the last name of a file,
      or, with -r, the path below DIR
-     With -r, `unixvol: 17 Exists: PATH`: a file is there, and a folder outside
+     With -r, `unixvol: 17 Exists: PATH`: a file or a special file is there, and a folder outside; and
+     `unixvol: 31 TooManyLinks: PATH`: the directory above has as many directories as the edition lets it have
   2  the command line is wrong; or
      `unixvol: WORD: a moment, and a file too`: WORD is a file and could be NOW; write ./WORD, or another NOW
   3  `unixvol: cannot read IMAGE`, `unixvol: cannot read FILE`, `unixvol: cannot write IMAGE`; with -p, also if

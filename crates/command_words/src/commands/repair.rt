@@ -62,10 +62,12 @@ Status:
      `unixvol: bounds`: no volume of the edition has FSIZE blocks: 65535 in the sixth, 16777216 in the seventh
      `unixvol: 28 NoSpace`: a directory or an entry that is needed has no free block or i-node; --blocks makes more
      blocks, and no more i-nodes
-     `unixvol: 112 NotRepaired`: the copy still isn't sound, or a file that fits would change
+     `unixvol: 112 NotRepaired`: the copy still isn't sound, as if another file has the name that a lost one is to get in
+     /lost+found; or a file that fits would change
   2  the command line is wrong
      `unixvol: no volume has 5 blocks with an i-list of 9`: --sizes, or --like in the sixth edition, breaks rule 2
-  3  `unixvol: cannot read IMAGE`, `unixvol: cannot write NEW`; with --new, also if something already has this path
+  3  `unixvol: cannot read IMAGE`, `unixvol: cannot write NEW`; with --new, also if something already has this path; also if
+     it is IMAGE or MAPFILE
      `unixvol: cannot write -`: standard output failed, after NEW was written
      `unixvol: rescue.map: line 7: the size is no number`: MAPFILE can't be read
   4  `unixvol: 12 NoMemory`

@@ -26,6 +26,8 @@ PATH is in the volume, and comes before FOLDER, which is outside it. Each file o
 with the one in the volume, all bytes of it. A file that is missing, or has other bytes, is put as by `put -p`, with
 its permissions and the time of its last modification in whole seconds. One with the same bytes gets its
 permissions and its time if they differ. A file that is the same is left alone, and if all are, IMAGE isn't written.
+A file that differs and has further names in the volume is replaced by a new one with its owner, so that its other
+names keep what they have.
 
 A directory that is missing is made, PATH too, but not the directories above it; it gets the folder's permissions, and
 its owner with --owner. Directories that are there keep theirs.
@@ -54,10 +56,11 @@ Status:
   0  PATH is what FOLDER is, but without --delete for what FOLDER hasn't; with -n, it can be
   1  `unixvol: unsound, rule N`: this is the first rule that the volume breaks; `unixvol check` says what breaks it
      `unixvol: 2 NoEntry: PATH`, `unixvol: 20 NotDirectory: PATH`: the parent of PATH doesn't exist, or isn't one
-     `unixvol: 17 Exists: PATH`: a file is there, and a folder in FOLDER
+     `unixvol: 17 Exists: PATH`: a file or a special file is there, and a folder in FOLDER
      `unixvol: 21 IsDirectory: PATH`: a directory is there, and a file in FOLDER
-     `unixvol: 102 NotRegular: PATH`: a special file is there
+     `unixvol: 102 NotRegular: PATH`: a special file is there, and a file in FOLDER
      `unixvol: 27 TooBig: PATH`: the file, or its directory, would be larger than the edition allows
+     `unixvol: 31 TooManyLinks: PATH`: the directory above has as many directories as the edition lets it have
      `unixvol: 104 BadId: PATH`: UID or GID of --owner is above the edition's highest
      `unixvol: 28 NoSpace: PATH`, `unixvol: 103 NoInode: PATH`: there are too few free blocks, or no free i-node
      `unixvol: NAME: a name above 14 bytes`: NAME is below FOLDER

@@ -1,5 +1,5 @@
 -- The result of `sync` and of `put -r`, which put folders of the host with all below them into a directory of a volume.
-use Rattle.std.specs.Prelude.{◌≡◌, ◌⊎◌, ◌++◌, ◌∷◌, ℕ, Bool, true, false, List, [], Option, Result, string_bytes}
+use Rattle.std.specs.Prelude.{◌≡◌, ◌==◌, ◌⊎◌, ◌++◌, ◌∷◌, ℕ, if◌then◌else◌, length, Bool, true, false, List, [], Option, Result, string_bytes}
 use Rattle.std.specs.List.{FoldsTo}
 use Rattle.std.specs.Path.{StripsPrefix, path_join}
 use Rattle.std.specs.Io.KnownBytes.{Keeps}
@@ -46,10 +46,14 @@ IsNodeGiven given keep found_kinds.File node = (file : GivenFile) × IsGivenFile
 IsNodeGiven given keep found_kinds.Folder node = (kept : Kept) × IsKept keep kept × (node ≡ nodes.Folder kept)
 IsNodeGiven given keep found_kinds.Other node = ⊥
 
+-- a path with a prefix before it; the prefix itself if the path is empty (std's Path::join)
+abbrev pub path_after : List ℕ → List ℕ → List ℕ
+path_after prefix path = if length path == 0 then prefix else path_join prefix path
+
 -- what was found in a folder is this member of a tree: its path is that below the folder, after a prefix (std's Path::strip_prefix)
 abbrev pub IsMemberGiven : (List ℕ → Type 0) → Keep → List ℕ → List ℕ → Found → TreeMember → Type 0
 IsMemberGiven given keep folder prefix found member =
-    ((rest : List ℕ) × StripsPrefix (string_bytes found.path) folder rest × (string_bytes member.path ≡ path_join prefix rest))
+    ((rest : List ℕ) × StripsPrefix (string_bytes found.path) folder rest × (string_bytes member.path ≡ path_after prefix rest))
     × IsNodeGiven given keep found.kind member.node
 
 -- some members are followed by that for what was found (this project)

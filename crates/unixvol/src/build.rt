@@ -9,7 +9,7 @@ ghost use Rattle.unixvol.specs.Runs.{Ends, GaveBytes, GavePut, IsStatusOfFileOrM
 use crate::file_fault::{FailedRun, FileFault, NamedFile, after_saving};
 use crate::host::Surroundings;
 use crate::read::{read_given, read_open};
-use crate::save::save_migrated;
+use crate::save::{expect_apart, save_answer_over};
 use command_changes::{FilledList, build_volume, list_of};
 use command_faults::Ending;
 use command_faults::answer::{conclude, unremarked};
@@ -22,8 +22,8 @@ use std::path::{Path, PathBuf};
 use std::rt::Clock;
 use vol_layout::Edition;
 
-/// Makes a volume of all that the list in the file `list` has, saves it in the file `new`, and returns the result of the run. The file of the list isn't
-/// replaced, whatever its path.
+/// Makes a volume of all that the list in the file `list` has, saves it in the file `new`, and returns the result of the run. Neither the file of the list nor
+/// one that it names is replaced, whatever its path.
 pub fn run_build<'a, R: ImageFiles + Clock + Eprint + AllocGlobal>(
     host: &Surroundings<'_, R>,
     list: &'a str,
@@ -39,9 +39,9 @@ pub fn run_build<'a, R: ImageFiles + Clock + Eprint + AllocGlobal>(
         Ok(listed) => listed,
         Err(ending) => return Ok(ending),
     };
-    let filled = fill(host.rt, list, &listed)?;
+    let filled = fill(host.rt, list, &listed, new.path)?;
     let answer = conclude(unremarked(alloc, build_volume(alloc, filled)));
-    let saved = save_migrated(host, new, stamp, &answer);
+    let saved = save_answer_over(host, new, stamp, &answer);
     after_saving(saved, answer.status, answer.fault)
 }
 
@@ -60,15 +60,18 @@ fn read_text<'a, R: ImageFiles + AllocGlobal>(
     }
 }
 
-/// Reads the files that the list in the file `list` names, that of the boot block and then those of its members, in their order.
+/// Reads the files that the list in the file `list` names, that of the boot block and then those of its members, in their order; unless one of them is the file
+/// to write, `new`.
 fn fill<'a, 'l, R: ImageFiles + AllocGlobal>(
     rt: &R,
     list: &str,
     listed: &'l PackList,
+    new: &'a str,
 ) -> Result<FilledList<'l>, FileFault<'a>>
     ensures filled { IfOk result (IsFilled (λ edition. GavePut edition R.File.remaining) listed.now) }
     ensures fault { IfErr result (λ fault. IsStatusOfFileOrMemory (file_status fault)) }
 {
+    expect_unlisted(rt, list, listed, new)?;
     let volume = listed.volume;
     let boot = read_program(rt, list, volume.sizes.edition, &listed.boot)?;
     let members = fill_members(rt, list, volume.sizes.edition, &listed.members)?;
@@ -78,6 +81,41 @@ fn fill<'a, 'l, R: ImageFiles + AllocGlobal>(
         root: listed.root,
         members,
     })
+}
+
+/// Checks that a file to write, `new`, is none of those that the list in the file `list` names.
+fn expect_unlisted<'a, R: ImageFiles + AllocGlobal>(
+    rt: &R,
+    list: &str,
+    listed: &PackList,
+    new: &'a str,
+) -> Result<(), FileFault<'a>>
+    ensures { IfErr result (λ fault. IsStatusOfFileOrMemory (file_status fault)) }
+{
+    if let Some(file) = &listed.boot {
+        expect_unread(rt, list, file, new)?;
+    }
+    for member in &listed.members {
+        if let ListedMember::File { file, .. } = member {
+            expect_unread(rt, list, file, new)?;
+        }
+    }
+    Ok(())
+}
+
+/// Checks that a file to write, `new`, isn't this one that the list in the file `list` names.
+fn expect_unread<'a, R: ImageFiles + AllocGlobal>(
+    rt: &R,
+    list: &str,
+    file: &HostPath,
+    new: &'a str,
+) -> Result<(), FileFault<'a>>
+    ensures { IfErr result (λ fault. IsStatusOfFileOrMemory (file_status fault)) }
+{
+    let Ok(place) = place_of(rt.alloc(), list, file.as_str()) else {
+        return Err(FileFault::NoMemory);
+    };
+    expect_apart(rt, place.as_str(), new)
 }
 
 /// Reads the program for the boot block, if a list names its file.

@@ -16,7 +16,7 @@ use crate::host::Surroundings;
 use crate::looks::run_get;
 use crate::read::{read_stamped, read_volume};
 use crate::resize::run_resize;
-use crate::save::{expect_new, save_made, save_migrated, save_over};
+use crate::save::{expect_new, save_answer_over, save_made, save_over};
 use crate::subject::Subject;
 use clap::Error;
 use command_changes::migrate::migrate_image;
@@ -179,7 +179,7 @@ fn run_migrate<'a, R: ImageFiles + Clock + Eprint + AllocGlobal>(
     let (image, stamp) = read_stamped(host.rt, volume)?;
     let alloc = host.rt.alloc();
     let answer = conclude(unremarked(alloc, migrate_image(alloc, image, migration)));
-    let saved = save_migrated(host, new, stamp, &answer);
+    let saved = save_answer_over(host, new, stamp, &answer);
     after_saving(saved, answer.status, answer.fault)
 }
 

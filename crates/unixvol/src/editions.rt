@@ -11,6 +11,7 @@ use crate::meanings::shown;
 use clap::Error;
 use command_line::{Invocation, VolumeFile};
 use host_files::{FileKind, ImageFiles};
+use identify_lines::file_word;
 use pack_files::{PackFault, Verdicts, judge_twice};
 use std::alloc::{AllocError, Global};
 use std::io;
@@ -110,9 +111,12 @@ pub fn ambiguous_words(
 ) -> Result<String, AllocError> {
     let name = shown(alloc, volume.image)?;
     match (verdicts.sixth, verdicts.seventh) {
-        (Some(sixth), Some(seventh)) => format!(in alloc;
-            "{name}: it breaks rule {sixth} as one of the sixth edition, and rule {seventh} as one of the seventh: write 6 or 7 for any; `unixvol identify {name}` guesses which"
-        ),
+        (Some(sixth), Some(seventh)) => {
+            let word = shown(alloc, &file_word(alloc, volume.image)?)?;
+            format!(in alloc;
+                "{name}: it breaks rule {sixth} as one of the sixth edition, and rule {seventh} as one of the seventh: write 6 or 7 for any; `unixvol identify {word}` guesses which"
+            )
+        }
         _ => format!(in alloc; "{name}: write 6 or 7 for any"),
     }
 }

@@ -139,17 +139,52 @@ impl From<TreeFault> for FileFault<'_> {
     }
 }
 
+/// A path as a line shows it: as it is, or, if it has control characters, with each byte that is no printable ASCII as a backslash and three octal digits, and
+/// a backslash doubled.
+#[derive(Clone, Copy)]
+struct ShownPath<'a>(&'a str);
+
+impl fmt::Display for ShownPath<'_> {
+    fn fmt<W: fmt::Write>(&self, f: &mut fmt::Formatter<W>) -> fmt::Result {
+        let path = self.0;
+        if !path.chars().any(|character| character.is_control()) {
+            return write!(f, "{path}");
+        }
+        for byte in path.as_bytes().iter() {
+            write_escaped(f, *byte)?;
+        }
+        Ok(())
+    }
+}
+
+/// Writes a byte: as it is if it is printable ASCII, a backslash twice, and any other as a backslash and three octal digits.
+fn write_escaped<W: fmt::Write>(f: &mut fmt::Formatter<W>, byte: u8) -> fmt::Result {
+    match byte {
+        b'\\' => write!(f, "\\\\"),
+        b' '..=b'~' => write!(f, "{}", char::from(byte)),
+        _ => write!(f, "\\{}{}{}", byte / 64, byte / 8 % 8, byte % 8),
+    }
+}
+
 /// Writes the line of a fault, without the name of the program.
 impl fmt::Display for FileFault<'_> {
     fn fmt<W: fmt::Write>(&self, f: &mut fmt::Formatter<W>) -> fmt::Result {
         match self {
-            FileFault::Unread(file, _) => write!(f, "cannot read {}", file.name()),
-            FileFault::UnreadBelow(path, _) => write!(f, "cannot read {}", path.as_str()),
-            FileFault::Short(path, _) => write!(f, "cannot read {path}"),
-            FileFault::Unwritten(file, _) => write!(f, "cannot write {}", file.name()),
-            FileFault::Uncopied(place, _) => write!(f, "cannot write {}", place.as_str()),
+            FileFault::Unread(file, _) => write!(f, "cannot read {}", ShownPath(file.name())),
+            FileFault::UnreadBelow(path, _) => write!(
+                f,
+                "cannot read {}",
+                ShownPath(path.as_str())
+            ),
+            FileFault::Short(path, _) => write!(f, "cannot read {}", ShownPath(path)),
+            FileFault::Unwritten(file, _) => write!(f, "cannot write {}", ShownPath(file.name())),
+            FileFault::Uncopied(place, _) => write!(
+                f,
+                "cannot write {}",
+                ShownPath(place.as_str())
+            ),
             FileFault::Small(path, _) | FileFault::Taken(path, _) => {
-                write!(f, "cannot write {path}")
+                write!(f, "cannot write {}", ShownPath(path))
             }
             FileFault::Ambiguous(_, verdicts) => match verdicts.sixth {
                 Some(_) => write!(f, "sound as neither edition"),
@@ -160,7 +195,7 @@ impl fmt::Display for FileFault<'_> {
                 "{word}: a moment, and a file too: write ./{word}, or the moment in another form"
             ),
             FileFault::NoMemory => write!(f, "12 NoMemory"),
-            FileFault::NoMemoryFor(path) => write!(f, "12 NoMemory: {path}"),
+            FileFault::NoMemoryFor(path) => write!(f, "12 NoMemory: {}", ShownPath(path)),
         }
     }
 }

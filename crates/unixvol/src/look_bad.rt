@@ -7,7 +7,7 @@ ghost use Rattle.unixvol.specs.LookBad.{IsBadRead, IsKnownRead, LooksBadToEnd, R
 ghost use Rattle.unixvol.specs.Runs.{IsUnread, host_files};
 
 use crate::explain::{explain_rules, finish_printed, tell_end};
-use crate::file_fault::{FailedRun, FileFault};
+use crate::file_fault::{FailedRun, FileFault, NamedFile};
 use crate::host::Surroundings;
 use crate::read::{read_blocks, read_file, read_stamped};
 use crate::subject::Subject;
@@ -18,9 +18,10 @@ use command_reads::{BadBlocks, BadMap};
 use command_terms::BadLook;
 use command_words::{BadImage, GivenBad};
 use host_files::{ImageFiles, Stamp, noted_writer};
-use pdp_words::{IntoWrite, Sink};
-use std::io::Write;
+use pdp_words::{BLOCK, Image, IntoWrite, Sink};
+use std::io::{self, Write};
 use std::process::ExitCode;
+use vol_layout::{Edition, Geometry};
 use vol_listing::Screen;
 use vol_losses::VolumeSizes;
 
@@ -65,7 +66,7 @@ fn run<'a, R: ImageFiles + AllocGlobal, O: Sink>(
         (host_files volume.entry.at R.File.remaining R.File.contents R.had R.stood) screen volume.entry image.entry look.entry (run_status result) }
 {
     let bad = read_bad(rt, volume, image.bad)?;
-    let (bytes, _) = read_known(rt, volume, image.sizes)?;
+    let (bytes, _) = read_known(rt, volume, &bad, image.sizes)?;
     Ok(look_bad(
         rt.alloc(),
         volume.edition,
@@ -79,18 +80,52 @@ fn run<'a, R: ImageFiles + AllocGlobal, O: Sink>(
 }
 
 /// Reads the image of the volume in a file: up to the end that its super-block states, or if sizes are given, that they state; and returns it with the file's
-/// stamp.
+/// stamp. If a list of lost blocks has a number or a range that begins behind the volume, the fault is that of a file that can't be read.
 pub(crate) fn read_known<'a, R: ImageFiles + AllocGlobal>(
     rt: &R,
     volume: VolumeFile<'a>,
+    bad: &BadBlocks<'_>,
     sizes: Option<VolumeSizes>,
 ) -> Result<(Vec<u8>, Stamp), FileFault<'a>>
     ensures given { IfOk result (λ read. IsKnownRead (host_files volume.entry.at R.File.remaining R.File.contents R.had R.stood) volume.entry read.0.items sizes) }
     ensures fault { IfErr result (λ fault. IsUnread R.File.remaining (file_status fault)) }
 {
+    let (bytes, stamp) = match sizes {
+        None => read_stamped(rt, volume)?,
+        Some(sizes) => read_blocks(rt, volume, sizes.blocks)?,
+    };
+    let image = Image::from_bytes(bytes);
+    match known_blocks(volume.edition, &image, sizes) {
+        Some(blocks) if has_listed(bad, blocks) => {
+            let why = io::Error::other(NOT_THERE);
+            Err(FileFault::Unread(NamedFile::File(volume.image), why))
+        }
+        _ => Ok((image.into_bytes(), stamp)),
+    }
+}
+
+/// The message for a list of lost blocks that names others than the volume's.
+const NOT_THERE: &str = "--bad-blocks names a block that the volume hasn't";
+
+/// Returns the number of blocks of a volume, if it is known: by the sizes that are given, or by the super-block of an image that keeps rules 1 and 2.
+fn known_blocks(edition: Edition, image: &Image, sizes: Option<VolumeSizes>) -> Option<u32> {
     match sizes {
-        None => read_stamped(rt, volume),
-        Some(sizes) => read_blocks(rt, volume, sizes.blocks),
+        Some(sizes) => Some(sizes.blocks),
+        None => Geometry::read(edition, image)
+            .ok()
+            .map(|geometry| geometry.zone_end),
+    }
+}
+
+/// True if a list has a number or a range of lost blocks that begins at this block or after it. Each range that was read ends where lost blocks begin, but for
+/// the last one, which has no end.
+fn has_listed(bad: &BadBlocks<'_>, blocks: u32) -> bool {
+    let end = BLOCK as u64 * u64::from(blocks);
+    match bad {
+        BadBlocks::Outside(ranges) => ranges
+            .iter()
+            .any(|range| end <= range.end && range.end != u64::MAX),
+        BadBlocks::Map(_) => false,
     }
 }
 

@@ -9,6 +9,7 @@ use command_changes::repair::NOT_REPAIRED;
 use command_faults::{Fault, LineFlaw};
 use command_words::Verb;
 use escaped_text::push_escaped;
+use identify_lines::file_word;
 use std::alloc::{AllocError, Global};
 use vol_dir::Refusal;
 use vol_findings::{Rule, edition_number};
@@ -123,6 +124,7 @@ fn needs_meaning(
         return Ok(None);
     };
     let image = shown(alloc, subject.image)?;
+    let word = shown(alloc, &file_word(alloc, subject.image)?)?;
     let number = edition_number(subject.edition);
     let last = needed.saturating_sub(1);
     let place = match subject.at {
@@ -130,7 +132,7 @@ fn needs_meaning(
         at => format!(in alloc; " --at {at}")?,
     };
     let text = format!(in alloc;
-        "{image}: block {last} is the last one that a file uses; `unixvol block {number} {image} {last}{place}` says which"
+        "{image}: block {last} is the last one that a file uses; `unixvol block {number} {word} {last}{place}` says which"
     )?;
     Ok(Some(text))
 }
@@ -260,7 +262,8 @@ fn named_meaning(
     subject: Subject<'_>,
 ) -> Result<Option<String>, AllocError> {
     let named = match subject.verb {
-        Verb::Import | Verb::Build => "this member",
+        Verb::Import => "this member",
+        Verb::Build => "this line of the list",
         _ => "this file",
     };
     let words = words_of(refusal, subject.verb);

@@ -1,17 +1,19 @@
 //! `repair` of an image of which some blocks couldn't be read.
+ghost use Rattle.std.specs.Prelude.{IfErr, IfOk};
 ghost use Rattle.std.specs.Process.{exit_status};
 ghost use Rattle.command_faults.specs.Streams.{streams};
 ghost use Rattle.host_files.specs.Save.{IsTaken};
-ghost use Rattle.unixvol.specs.FileFaults.{run_fault, run_status};
+ghost use Rattle.unixvol.specs.FileFaults.{file_status, run_fault, run_status};
+ghost use Rattle.unixvol.specs.LookBad.{IsBadRead};
 ghost use Rattle.unixvol.specs.RepairBad.{RepairsBadToEnd, RepairsRescued, RunsRepairBad, SavesRescued};
-ghost use Rattle.unixvol.specs.Runs.{host_files};
+ghost use Rattle.unixvol.specs.Runs.{IsUnread, host_files};
 
 use crate::commands::is_output;
 use crate::explain::{finish_printed, tell_end};
-use crate::file_fault::FailedRun;
+use crate::file_fault::{FailedRun, FileFault};
 use crate::host::Surroundings;
 use crate::look_bad::{read_bad, read_known};
-use crate::save::{expect_new, save_over};
+use crate::save::{expect_apart, expect_new, save_over};
 use crate::subject::Subject;
 use command_changes::repair_losses::{ending_with, ending_with_report};
 use command_changes::salvage::ReportedVolume;
@@ -19,9 +21,9 @@ use command_changes::{RescuedVolume, repair_rescued};
 use command_faults::{Ending, Fault};
 use command_line::{MadeFile, VolumeFile};
 use command_reads::print::print_text;
-use command_reads::rescue_image;
+use command_reads::{BadBlocks, rescue_image};
 use command_terms::Repairing;
-use command_words::BadImage;
+use command_words::{BadImage, GivenBad};
 use host_files::{ImageFiles, Stamp, noted_writer};
 use pdp_words::{IntoWrite, Sink};
 use std::io::Write;
@@ -65,12 +67,28 @@ fn run<'a, R: ImageFiles + Clock + Eprint + AllocGlobal, O: Sink>(
     ensures { RunsRepairBad (streams O.contents O.failed output.old output.new (run_fault result))
         (host_files volume.entry.at R.File.remaining R.File.contents R.had R.stood) volume.entry image.entry copy.entry repairing (run_status result) }
 {
-    let bad = read_bad(host.rt, volume, image.bad)?;
-    let (bytes, stamp) = read_known(host.rt, volume, image.sizes)?;
+    let bad = read_apart(host.rt, volume, image.bad, copy)?;
+    let (bytes, stamp) = read_known(host.rt, volume, &bad, image.sizes)?;
     match rescue_image(host.rt.alloc(), volume.edition, bytes, bad, image.sizes) {
         Ok(read) => repair_read(host, output, volume, read, stamp, copy, repairing),
         Err(ending) => Ok(ending),
     }
+}
+
+/// Reads what says which blocks couldn't be read, as [`read_bad`] does, unless the copy is to replace the map.
+fn read_apart<'a, R: ImageFiles + AllocGlobal>(
+    rt: &R,
+    volume: VolumeFile<'_>,
+    bad: GivenBad<'a>,
+    copy: Option<MadeFile<'a>>,
+) -> Result<BadBlocks<'a>, FileFault<'a>>
+    ensures read { IfOk result (λ read. IsBadRead (host_files volume.entry.at R.File.remaining R.File.contents R.had R.stood) volume.entry bad.entry read) }
+    ensures fault { IfErr result (λ fault. IsUnread R.File.remaining (file_status fault)) }
+{
+    if let (GivenBad::Map(map), Some(copy)) = (&bad, copy) {
+        expect_apart(rt, map, copy.path)?;
+    }
+    read_bad(rt, volume, bad)
 }
 
 /// Repairs an image with lost blocks, and saves and reports the copy. The file with the stamp `old`, from which the image was read, isn't replaced.

@@ -257,7 +257,7 @@ pub fn expect_new<'a, R: ImageFiles>(rt: &R, file: MadeFile<'a>) -> Result<(), F
 }
 
 /// Saves the result of `migrate` or `build` in a file, if there is one, as [`save_over`] does.
-pub fn save_migrated<'a, R: ImageFiles + Clock + Eprint + AllocGlobal>(
+pub fn save_answer_over<'a, R: ImageFiles + Clock + Eprint + AllocGlobal>(
     host: &Surroundings<'_, R>,
     file: MadeFile<'a>,
     old: Stamp,
@@ -304,9 +304,7 @@ pub fn save_new<R: ImageFiles + Clock + Eprint + AllocGlobal>(
 ) -> io::Result<()>
     ensures { OnOk result (IsTaken R.File.contents bytes.now) }
 {
-    if stands_at(host.rt, path, old) {
-        return Err(io::Error::other(WAS_READ));
-    }
+    expect_other(host.rt, path, old)?;
     let _locked = lock_replaced(host, path)?;
     let content = Content::Bytes(bytes);
     match marks {
@@ -315,11 +313,28 @@ pub fn save_new<R: ImageFiles + Clock + Eprint + AllocGlobal>(
     }
 }
 
-/// True if the file with a stamp is at `path`, perhaps through symbolic links.
-fn stands_at<R: ImageFiles>(rt: &R, path: &str, stamp: Stamp) -> bool {
+/// Checks that a file to write, `new`, isn't the one at the path `read`, which is read.
+pub fn expect_apart<'a, R: ImageFiles>(
+    rt: &R,
+    read: &str,
+    new: &'a str,
+) -> Result<(), FileFault<'a>>
+    ensures { IfErr result (λ fault. file_status fault ≡ 3) }
+{
+    let Ok(read) = rt.stamp_at(read) else {
+        return Ok(());
+    };
+    match expect_other(rt, new, read) {
+        Ok(()) => Ok(()),
+        Err(why) => Err(FileFault::Unwritten(NamedFile::File(new), why)),
+    }
+}
+
+/// Checks that the file at a path, perhaps through symbolic links, isn't the one with the stamp `read`.
+pub fn expect_other<R: ImageFiles>(rt: &R, path: &str, read: Stamp) -> io::Result<()> {
     match rt.stamp_at(path) {
-        Ok(there) => there.is_of(stamp),
-        Err(_) => false,
+        Ok(there) if there.is_of(read) => Err(io::Error::other(WAS_READ)),
+        _ => Ok(()),
     }
 }
 

@@ -28,7 +28,7 @@ pub struct Subject<'a> {
 pub enum About<'a> {
     /// The image as a whole.
     Image,
-    /// The file or directory at a path; the root if the path is empty.
+    /// The file or directory at a path; the root if the path is empty. A path outside the volume is never empty.
     Path(&'a str),
     /// A file by its path, and a new name by its path.
     Names { from: &'a str, to: &'a str },
@@ -200,7 +200,7 @@ impl<'a> Subject<'a> {
             Change::Touch { path, .. } => (Verb::Touch, About::Path(path)),
             Change::Mknod { path, .. } => (Verb::Mknod, About::Path(path)),
             Change::Salvage => (Verb::Salvage, About::Image),
-            Change::Boot { .. } => (Verb::Boot, About::Image),
+            Change::Boot { file } => (Verb::Boot, About::Path(file)),
         };
         Subject::new(volume, verb, about)
     }

@@ -1,13 +1,13 @@
 //! `sync` and `put -r`: reading folders of the host with all below them, and saving the volume.
 ghost use Rattle.std.specs.Prelude.{◌≡◌, ℕ, Bool, IfErr, IfOk, List, OnOk, Option, [], map, string_bytes};
 ghost use Rattle.std.specs.List.{FoldsTo};
-ghost use Rattle.std.specs.Path.{StripsPrefix, path_join};
+ghost use Rattle.std.specs.Path.{StripsPrefix};
 ghost use Rattle.command_copies.specs.Trees.{name_of};
 ghost use Rattle.command_faults.specs.Streams.{streams};
 ghost use Rattle.unixvol.specs.Copies.{RunsPutTree};
 ghost use Rattle.unixvol.specs.FileFaults.{file_status, run_fault, run_status};
 ghost use Rattle.unixvol.specs.Runs.{Ends, GavePut, IsKept, IsStatusOfFileOrMemory, host_files};
-ghost use Rattle.unixvol.specs.Syncs.{AddsMember, AddsTree, EndsSynced, IsMemberGiven, IsNodeGiven, IsTreeGiven, RunsSync};
+ghost use Rattle.unixvol.specs.Syncs.{AddsMember, AddsTree, EndsSynced, IsMemberGiven, IsNodeGiven, IsTreeGiven, RunsSync, path_after};
 
 use crate::copy::moment_file;
 use crate::file_fault::{FailedRun, FileFault, NamedFile};
@@ -26,7 +26,7 @@ use command_terms::Keep;
 use command_words::Moment;
 use host_files::{Found, FoundKind, ImageFiles, Stamp, TreeFault, open_stamped, tree_below};
 use pdp_words::Sink;
-use std::alloc::Global;
+use std::alloc::{AllocError, Global};
 use std::io;
 use std::path::Path;
 use std::rt::Clock;
@@ -206,15 +206,23 @@ const STRAY: &str = "the system didn't say its path below the folder";
 
 /// Returns a path below a folder, with a prefix before it.
 fn path_below(alloc: Global, folder: &str, prefix: &str, path: &str) -> io::Result<String>
-    ensures { IfOk result (λ below. (rest : List ℕ) × StripsPrefix path.now folder.now rest × (string_bytes below ≡ path_join prefix.now rest)) }
+    ensures { IfOk result (λ below. (rest : List ℕ) × StripsPrefix path.now folder.now rest × (string_bytes below ≡ path_after prefix.now rest)) }
 {
     match Path::new(path).strip_prefix(folder) {
-        Ok(rest) => {
-            let below = Path::new(prefix).join(alloc, rest)?;
-            Ok(String::from_str(alloc, below.as_str())?)
-        }
+        Ok(rest) => Ok(path_after(alloc, prefix, rest.as_str())?),
         Err(_) => Err(io::Error::other(STRAY)),
     }
+}
+
+/// Returns a path with a prefix before it; the prefix itself if the path is empty.
+fn path_after(alloc: Global, prefix: &str, path: &str) -> Result<String, AllocError>
+    ensures { IfOk result (λ after. string_bytes after ≡ path_after prefix.now path.now) }
+{
+    if path.is_empty() {
+        return String::from_str(alloc, prefix);
+    }
+    let after = Path::new(prefix).join(alloc, path)?;
+    String::from_str(alloc, after.as_str())
 }
 
 /// Reads a file or a folder, with what is kept of it.

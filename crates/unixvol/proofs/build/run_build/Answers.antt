@@ -44,7 +44,7 @@ returns-clause-runs g c known failed =
         c.in_ok-filled.ensures.filled,
         concluded _ _ _ _ _ _ (among _ _ _ _ _ refl c.build_volume.ensures.built c.build_volume.ensures.fault c.unremarked.ensures)
             c.conclude-answer.ensures.made c.conclude-answer.ensures.fault c.after_saving.ensures.fault,
-        after_saving _ _ _ _ _ c.after_saving.ensures.status c.save_migrated-saved.ensures.saved c.save_migrated-saved.ensures.fault,
+        after_saving _ _ _ _ _ c.after_saving.ensures.status c.save_answer_over-saved.ensures.saved c.save_answer_over-saved.ensures.fault,
       ),
     )
 
@@ -54,4 +54,4 @@ returns-clause-ends g c known failed =
     (IsTaken g.R.File.Write.contents) c.conclude-answer.result _
     (concluded _ _ _ _ _ _ (among _ _ _ _ _ refl c.build_volume.ensures.built c.build_volume.ensures.fault c.unremarked.ensures)
     c.conclude-answer.ensures.made c.conclude-answer.ensures.fault c.after_saving.ensures.fault)
-    (after_saving _ _ _ _ _ c.after_saving.ensures.status c.save_migrated-saved.ensures.saved c.save_migrated-saved.ensures.fault)
+    (after_saving _ _ _ _ _ c.after_saving.ensures.status c.save_answer_over-saved.ensures.saved c.save_answer_over-saved.ensures.fault)

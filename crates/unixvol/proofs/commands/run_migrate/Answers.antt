@@ -19,7 +19,7 @@ returns-clause-runs g c known failed =
       c.in_ok-image.ensures.given,
       concluded _ _ _ _ _ _ (among _ _ _ _ _ refl c.migrate_image.ensures.migrated c.migrate_image.ensures.fault c.unremarked.ensures)
           c.conclude-answer.ensures.made c.conclude-answer.ensures.fault c.after_saving.ensures.fault,
-      after_saving _ _ _ _ _ c.after_saving.ensures.status c.save_migrated-saved.ensures.saved c.save_migrated-saved.ensures.fault,
+      after_saving _ _ _ _ _ c.after_saving.ensures.status c.save_answer_over-saved.ensures.saved c.save_answer_over-saved.ensures.fault,
     )
 
 pub returns-clause-ends : goal.returns-clause-ends
@@ -27,7 +27,7 @@ returns-clause-ends g c known failed =
     ends_concluded (of_migration c.in_ok-image.image.items c.args.migration) _ (IsTaken g.R.File.Write.contents) c.conclude-answer.result _
     (concluded _ _ _ _ _ _ (among _ _ _ _ _ refl c.migrate_image.ensures.migrated c.migrate_image.ensures.fault c.unremarked.ensures)
     c.conclude-answer.ensures.made c.conclude-answer.ensures.fault c.after_saving.ensures.fault)
-    (after_saving _ _ _ _ _ c.after_saving.ensures.status c.save_migrated-saved.ensures.saved c.save_migrated-saved.ensures.fault)
+    (after_saving _ _ _ _ _ c.after_saving.ensures.status c.save_answer_over-saved.ensures.saved c.save_answer_over-saved.ensures.fault)
 
 pub returns-in_err-image-clause-ends : goal.returns-in_err-image-clause-ends
 returns-in_err-image-clause-ends g c known failed =

@@ -22,6 +22,9 @@ HOST(times) int64_t host_times(int file, const void *times);
 HOST(sync) int64_t host_sync(int file);
 HOST(rename) int64_t host_rename(const char *from, const char *to);
 HOST(unlink) int64_t host_unlink(const char *path);
+HOST(mkdir) int64_t host_mkdir(const char *path, int mode);
+HOST(open_folder) int64_t host_open_folder(const char *path);
+HOST(entries) int64_t host_entries(int folder, void *buffer, uint64_t size);
 HOST(readlink) int64_t host_readlink(const char *path, char *buffer, uint64_t size);
 HOST(isatty) int host_isatty(int file);
 HOST(clock) void host_clock(int which, void *now);
@@ -95,19 +98,14 @@ int fsync(int file) { return (int)answered(host_sync(file)); }
 int fdatasync(int file) { return (int)answered(host_sync(file)); }
 int rename(const char *from, const char *to) { return (int)answered(host_rename(from, to)); }
 int unlink(const char *path) { return (int)answered(host_unlink(path)); }
-// There are no folders here.
-int mkdir(const char *path, unsigned mode) {
-    (void)path, (void)mode;
-    return refused(ENOSYS);
-}
+int mkdir(const char *path, unsigned mode) { return (int)answered(host_mkdir(path, (int)mode)); }
+
 int rattle_open_dir_at(int folder, const char *name) {
-    (void)folder, (void)name;
-    return refused(ENOSYS);
+    if (folder != AT_FDCWD && name[0] != '/') return refused(EINVAL);
+    return (int)answered(host_open_folder(name));
 }
-int64_t getdents64(int folder, void *buffer, uint64_t size) {
-    (void)folder, (void)buffer, (void)size;
-    return refused(ENOSYS);
-}
+
+int64_t getdents64(int folder, void *buffer, uint64_t size) { return answered(host_entries(folder, buffer, size)); }
 int64_t readlink(const char *path, char *buffer, uint64_t size) { return answered(host_readlink(path, buffer, size)); }
 
 // The host has no locks, as some file systems haven't. Then the program goes on without.

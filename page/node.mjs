@@ -51,14 +51,40 @@ function passed(move, descriptor, bytes) {
     return count;
 }
 
+/** The names in the open folders that weren't read yet. */
+const unread = new Map();
+
+/** True if a disk has a byte at `at`, also one that can't be read. */
+function hasByte(descriptor, at) {
+    try {
+        return fs.readSync(descriptor, Buffer.alloc(1), 0, 1, at) !== 0;
+    } catch (error) {
+        if (error.code !== 'EIO') throw error;
+        return true;
+    }
+}
+
 /** True if a disk that can be read ends before `at`. */
 function endsBefore(descriptor, at) {
     try {
-        return at > 0 && fs.readSync(descriptor, Buffer.alloc(1), 0, 1, at - 1) === 0;
+        return at > 0 && !hasByte(descriptor, at - 1);
     } catch (error) {
         if (error.code !== 'EBADF') throw error;
         return false;
     }
+}
+
+/** Returns the size of a disk, which Node doesn't say, by a search for its last byte. */
+function sizeOfDisk(descriptor) {
+    let size = 0;
+    let above = 1;
+    while (hasByte(descriptor, above - 1)) [size, above] = [above, 2 * above];
+    while (above - size > 1) {
+        const middle = Math.floor((size + above) / 2);
+        if (hasByte(descriptor, middle - 1)) size = middle;
+        else above = middle;
+    }
+    return size;
 }
 
 /** The files of this machine. Node can't lock any. */
@@ -74,18 +100,28 @@ const machine = {
     write: (descriptor, bytes) => passed(fs.writeSync, descriptor, bytes),
     seek(descriptor, offset, from) {
         const at = places.get(descriptor);
+        if (at === undefined) throw new HostError('ESPIPE');
         const stats = fs.fstatSync(descriptor);
         const isDisk = !stats.isFile();
-        if (at === undefined || (isDisk && from === 2)) throw new HostError('ESPIPE');
-        const to = sought(offset, from, at, stats.size);
+        const size = isDisk && from === 2 ? sizeOfDisk(descriptor) : stats.size;
+        const to = sought(offset, from, at, size);
         if (isDisk && endsBefore(descriptor, to)) throw new HostError('EINVAL'); // as Linux says it
         places.set(descriptor, to);
         return to;
     },
     close(descriptor) {
         places.delete(descriptor);
+        unread.delete(descriptor);
         fs.closeSync(descriptor);
     },
+    mkdir: (name, mode) => void fs.mkdirSync(named(name), { mode }),
+    openFolder(name) {
+        const found = fs.readdirSync(named(name), { encoding: 'buffer' });
+        const descriptor = fs.openSync(named(name), fs.constants.O_RDONLY);
+        unread.set(descriptor, found);
+        return descriptor;
+    },
+    names: (descriptor) => unread.get(descriptor),
     stats: (descriptor) => fs.fstatSync(descriptor, { bigint: true }),
     statsAt: (name, follows) => (follows ? fs.statSync : fs.lstatSync)(named(name), { bigint: true }),
     truncate: (descriptor, size) => fs.ftruncateSync(descriptor, size),

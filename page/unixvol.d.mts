@@ -70,7 +70,10 @@ export function sought(offset: number, from: number, at: number, size: number): 
 /** What a host knows of a file: a part of Node's `fs.BigIntStats`. The kind of the file is in its mode. */
 export type Stats = Record<'mode' | 'size' | 'blocks' | 'nlink' | 'uid' | 'gid' | 'ino' | 'dev' | 'atimeNs' | 'ctimeNs' | 'mtimeNs', bigint>;
 
-/** A system for the program. A call that fails throws an error with a `code`. Descriptors 0, 1 and 2 are open from the start. Paths are bytes. */
+/**
+ * A system for the program. A call that fails throws an error with a `code`. Descriptors 0, 1 and 2 are open from the start. Paths are bytes. A host may have no
+ * `mkdir`, `openFolder` and `names`: then commands that read or make folders end with status 3.
+ */
 export interface Host {
     open(path: Uint8Array, flags: number, mode: number): number;
     read(descriptor: number, into: Uint8Array): number;
@@ -90,6 +93,11 @@ export interface Host {
     sync(descriptor: number): void;
     rename(from: Uint8Array, to: Uint8Array): void;
     unlink(path: Uint8Array): void;
+    mkdir?(path: Uint8Array, mode: number): void;
+    /** Opens a folder, and returns a descriptor for `names` and `close`. */
+    openFolder?(path: Uint8Array): number;
+    /** Returns the names in an open folder that weren't read yet. What is read is removed from this array. */
+    names?(descriptor: number): Uint8Array[];
     readlink(path: Uint8Array): Uint8Array;
     isatty(descriptor: number): boolean;
 }

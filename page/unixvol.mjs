@@ -8,7 +8,7 @@ const NAME = 'unixvol';
 const ERRORS = {
     EPERM: 1, ENOENT: 2, EINTR: 4, EIO: 5, ENXIO: 6, EBADF: 9, EAGAIN: 11, ENOMEM: 12, EACCES: 13, EBUSY: 16, EEXIST: 17, EXDEV: 18, ENODEV: 19,
     ENOTDIR: 20, EISDIR: 21, EINVAL: 22, ENFILE: 23, EMFILE: 24, ENOTTY: 25, ETXTBSY: 26, EFBIG: 27, ENOSPC: 28, ESPIPE: 29, EROFS: 30, EMLINK: 31,
-    EPIPE: 32, ENAMETOOLONG: 36, ENOTEMPTY: 39, ELOOP: 40, EOPNOTSUPP: 95, ENOTSUP: 95, EDQUOT: 122,
+    EPIPE: 32, ENAMETOOLONG: 36, ENOSYS: 38, ENOTEMPTY: 39, ELOOP: 40, EOPNOTSUPP: 95, ENOTSUP: 95, EDQUOT: 122,
 };
 
 /** Linux's flags of `open`, which the program uses. */
@@ -110,6 +110,25 @@ class Memory {
         view.setUint32(140, Number(BigInt.asUintN(32, stats.dev)), true);
     }
 
+    /** Puts the names of a folder at `at`, each as Linux's `struct linux_dirent64` has it, as many as fit, and removes them from `names`. */
+    giveNames(names, at, size) {
+        const view = new DataView(this.#memory.buffer, Number(at), Number(size));
+        let end = 0;
+        while (names.length > 0) {
+            const name = names[0];
+            const length = (19 + name.length + 8) & ~7; // what is before the name, the name, at least one zero, up to a whole word
+            if (end + length > view.byteLength) break;
+            this.part(at, size).fill(0, end, end + length);
+            view.setBigUint64(end, 1n, true); // an i-number, which nobody asks for
+            view.setUint16(end + 16, length, true);
+            this.part(at, size).set(name, end + 19);
+            names.shift();
+            end += length;
+        }
+        if (end === 0 && names.length > 0) throw new HostError('EINVAL');
+        return end;
+    }
+
     /** Puts a clock's time at `at`, as `struct timespec` has it. */
     giveClock(nanoseconds, at) {
         this.all.fill(0, Number(at), Number(at) + 16);
@@ -140,6 +159,12 @@ function tried(call) {
     }
 }
 
+/** Returns a call of a host, which may not have it. */
+function known(call) {
+    if (call === undefined) throw new HostError('ENOSYS');
+    return call;
+}
+
 /** Returns the functions that page/host.c imports, over a host. */
 function calls(memory, words, env, host) {
     const names = Object.keys(env);
@@ -168,6 +193,9 @@ function calls(memory, words, env, host) {
         sync: (descriptor) => tried(() => host.sync(descriptor)),
         rename: (from, to) => tried(() => host.rename(memory.path(from), memory.path(to))),
         unlink: (path) => tried(() => host.unlink(memory.path(path))),
+        mkdir: (path, mode) => tried(() => known(host.mkdir).call(host, memory.path(path), mode)),
+        open_folder: (path) => tried(() => known(host.openFolder).call(host, memory.path(path))),
+        entries: (descriptor, to, size) => tried(() => memory.giveNames(known(host.names).call(host, descriptor), to, size)),
         readlink: (path, to, size) => tried(() => memory.give(host.readlink(memory.path(path)).subarray(0, Number(size)), to, size)),
         isatty: (descriptor) => (host.isatty(descriptor) ? 1 : 0),
         clock(which, to) {

@@ -149,6 +149,8 @@ has 'nothing of lists that are not written' 'empty.list empty.list.files' "$(ls 
 mkdir own
 cp volumes/built.7 own/volume
 refuses 3 'unixvol: cannot write own/volume' build --list 7 own/volume own/volume
+for name in own own/ .. /; do refuses 3 "unixvol: cannot write $name" build --list 7 own/volume "$name"; done
+has 'nothing beside a list that has no place' 'own own/volume' "$(find own own.* -print 2> /dev/null | paste -s -d ' ' -)"
 saves 'a volume over which no list is written' own/volume volumes/built.7
 misread "error: invalid value 'c' for '<MORE>': three words" build 7 b c
 misread "error: invalid value '8' for '<EDITION>'" build --list 8 volumes/built.7 none.list

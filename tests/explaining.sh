@@ -62,6 +62,7 @@ explains 1 'unixvol: 104 BadId' "unixvol: /d: the user or the group is above the
 explains 1 'unixvol: 104 BadId' "unixvol: /new: the user or the group is above the edition's highest, 255 in the sixth and 32767 in the seventh" put 6 "$image" /new hello --owner 256:0
 explains 1 'unixvol: 104 BadId' "unixvol: /new: the user or the group is above the edition's highest, 255 in the sixth and 32767 in the seventh" mkdir 6 "$image" /new --owner 0:256
 head -c 16777216 /dev/zero > great
+explains 1 'unixvol: 27 TooBig' 'unixvol: great: a boot block has 512 bytes, and the program more' boot 6 "$image" great
 explains 1 'unixvol: 27 TooBig' 'unixvol: /great: the edition has no file, or no directory, of that size' put 6 "$image" /great great
 saves 'an image on which commands were refused' "$image" before
 : > empty
@@ -307,6 +308,9 @@ has 'a member that is a sparse file' '1 unixvol: dir/holes: a sparse file unixvo
 tar --format=ustar -cf file.tar d
 "$program" import 6 "$image" --explain < file.tar > output 2> error
 has 'a member whose path is taken' "1 unixvol: 17 Exists: /d unixvol: this member: something has its path already that isn't the directory wanted" "$? $(paste -s -d ' ' error)"
+
+printf 'volume 6 100\ntime 5\ndir /d 755 0:0\nfile /d 644 0:0 hello\n' > taken.list
+explains 1 'unixvol: 17 Exists: /d' "unixvol: this line of the list: something has its path already that isn't the directory wanted" build taken.list taken.img
 
 for number in $(seq 130); do ln hello "$number"; done
 tar --format=ustar -cf linked.tar hello $(seq 130)

@@ -8,7 +8,7 @@ set -uo pipefail
 built=$(realpath "${1:?usage: $0 FOLDER}")
 cd "$(dirname "$0")/.." || exit 1
 . tests/elsewhere.sh
-rows=${ROWS:-words looks identify checks changes trees archives volumes packs fields rescue}
+rows=${ROWS:-words looks identify checks changes trees archives volumes packs fields rescue syncs builds}
 program=${PROGRAM:-./unixvol}
 
 # is_built: the folder has what these sources give

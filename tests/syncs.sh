@@ -135,7 +135,7 @@ for edition in 6 7; do
     (cd more/x && "$program" put -r "$edition" "../../$disk" -t /src/d1 . 9000)
     "$program" get "$edition" "$disk" /src/d1/y/one > body
     saves "put -r of ., edition $edition" body more/x/y/one
-    refuses 1 'unixvol: 2 NoEntry: /none/x/' put -r "$edition" "$disk" -t /none more/x 9000
+    refuses 1 'unixvol: 2 NoEntry: /none/x' put -r "$edition" "$disk" -t /none more/x 9000
     rm -rf odd more
 
     # With --delete, what the folder hasn't is removed: a directory with all below it, a special file and another name of a file. The rest stays as it is

@@ -108,7 +108,7 @@ for edition in 6 7; do
     printf '%s\n' q > wanted
     "$program" ls "$edition" other.img /p | awk '$2 !~ /^\./ { print $2 }' | cmp -s - wanted
     has 'the directories on the way' 0 $?
-    refuses 1 'unixvol: 20 NotDirectory' mkdir -p "$edition" other.img /none/x/y 10
+    for path in /none/x/y /none/. /none/..; do refuses 1 'unixvol: 20 NotDirectory' mkdir -p "$edition" other.img "$path" 10; done
     prints none mv "$edition" other.img /none /p/some 11
     refuses 1 'unixvol: 2 NoEntry' get "$edition" other.img /none
     prints none get "$edition" other.img /p/some

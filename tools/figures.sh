@@ -81,8 +81,7 @@ done
     cat << 'END'
 # Figures
 
-What was counted and measured, each part with the day, the commit and the machine. `tools/figures.sh` writes this page; the other documents have no numbers
-that age.
+What was counted and measured, each part with the day, the commit and the machine. `tools/figures.sh` writes this page.
 END
     for part in counts rows gate loop commands mounted library page; do
         [ -e "$room/$part" ] || awk -v head="$(about "$part" | head -n 1)" '/^## / { on = $0 == head } on && /^    |^$/ { sub(/^    /, ""); print }' "$figures" |

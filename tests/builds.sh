@@ -152,6 +152,26 @@ refuses 3 'unixvol: cannot write own/volume' build --list 7 own/volume own/volum
 for name in own own/ .. /; do refuses 3 "unixvol: cannot write $name" build --list 7 own/volume "$name"; done
 has 'nothing beside a list that has no place' 'own own/volume' "$(find own own.* -print 2> /dev/null | paste -s -d ' ' -)"
 saves 'a volume over which no list is written' own/volume volumes/built.7
+# A multiplexor, and a special file whose i-node has more than a number
+"$program" mkfs 7 odd.img 100 4 0 0 5
+"$program" mknod 7 odd.img /mpx c 1 2 5
+inode=$("$program" ls -d 7 odd.img /mpx | awk '{ print $1 }')
+for edit in 1:31 15:01; do
+    cp odd.img device.img
+    put device.img $((1024 + 64 * (inode - 1) + ${edit%:*})) "${edit#*:}"
+    refuses 1 'unixvol: /mpx: a list has no place for such a special file' build --list 7 device.img device.list
+done
+prints none build --list 7 odd.img odd.list
+has 'nothing of a list of a multiplexor' no "$([ -e device.list ] || [ -e device.list.files ] || echo no)"
+# A file that a list names isn't replaced.
+mkdir kept
+printf 'volume 7 100\ntime 1\nboot program\nfile /x 644 0:0 text\n' > kept/list
+echo boot > kept/program
+echo text > kept/text
+cp -r kept before.kept
+for name in list program text; do refuses 3 "unixvol: cannot write kept/$name" build kept/list "kept/$name"; done
+diff -r kept before.kept > differences
+has 'the files of a list that is not built' 0 $?
 misread "error: invalid value 'c' for '<MORE>': three words" build 7 b c
 misread "error: invalid value '8' for '<EDITION>'" build --list 8 volumes/built.7 none.list
 misread "error: invalid value '5' for '--at <BLOCK>'" build --at 5 lists/empty.list volumes/none

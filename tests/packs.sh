@@ -67,6 +67,15 @@ sed 's/^pack/broken/; s/ls \([67]\) pack/ls \1 broken/' lines > line
 cp pack broken
 printf '\037\213' | dd of=broken conv=notrunc status=none
 prints line identify broken
+# Its commands are words of a shell.
+for row in "a b;c|'a b;c'" "it's|'it'\\''s'" '-p|./-p'; do
+    cp pack "./${row%%|*}"
+    runs identify -- "${row%%|*}"
+    has "the commands for ${row%%|*}" "unixvol ls 7 ${row#*|}" "$(grep -o 'unixvol ls 7 .*' output | head -n 1)"
+    grep -o 'unixvol ls .*' output | while read -r line; do eval "${line/#unixvol/\"\$program\"}" > listed 2> error || echo "$line"; done > failing
+    has "the commands for ${row%%|*}, as a shell runs them" '' "$(cat failing)"
+    rm "./${row%%|*}"
+done
 # What is inside a volume isn't looked at.
 cp second holder
 "$program" put 7 holder /image third 1003

@@ -424,6 +424,9 @@ tar -xOf damaged.tar f4 | cmp -s - f4.want
 has 'a damaged file by a list' 0 $?
 exports 1 list.tar 7 b.img --bad-blocks 4871
 has 'a free block' 'unixvol: 1 of 4872 blocks are lost' "$(cat error)"
+cp half.map kept.map
+refuses 3 'unixvol: cannot write kept.map' repair --bad kept.map 7 b.img kept.map
+saves 'a map that is not replaced' kept.map half.map
 for list in 4872 4872-99999 860,4872; do refuses 3 'unixvol: cannot read b.img' export --bad-blocks "$list" 7 b.img; done
 exports 5 list.tar 7 cut.img --bad-blocks 860
 has 'blocks that are missing, and one of a list' 'unixvol: 3995 of 4872 blocks are lost' "$(head -n 1 error)"

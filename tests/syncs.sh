@@ -193,6 +193,31 @@ for edition in 6 7; do
     refuses 1 'unixvol: 21 IsDirectory: /a' sync "$edition" little.img / small 3000 --delete
     saves "a tree whose kinds differ, edition $edition" little.img extra.img
 
+    # A file with two names: the name that differs gets a file of its own, with the old one's owner, and the other keeps what it has
+    rm -rf names
+    mkdir names
+    echo one > names/a
+    chmod 640 names/a
+    touch -d @1000000000 names/a
+    cp -p names/a names/b
+    cp blank.img linked.img
+    "$program" put -p "$edition" linked.img /a names/a 1000 --owner 3:1
+    "$program" ln "$edition" linked.img /a /b 1000
+    prints none sync "$edition" linked.img / names 2000 -n
+    echo two > names/a
+    touch -d @1000000001 names/a
+    echo 'put /a' > lines
+    prints lines sync "$edition" linked.img / names 2000 -n
+    prints none sync "$edition" linked.img / names 2000
+    holds "the names of a file, edition $edition" "$edition" linked.img / names
+    has "the links and owners of a file that was replaced, edition $edition" '1 3 1 1 3 1' "$("$program" ls -l "$edition" linked.img / | awk '$NF ~ /^[ab]$/ { print $3, $4, $5 }' | xargs)"
+    "$program" ln "$edition" linked.img /b /c 2000
+    touch -d @1000000002 names/b
+    prints none sync "$edition" linked.img / names 3000
+    has "the times of two names, edition $edition" '1000000002 1000000000' \
+        "$(for path in /b /c; do "$program" inode "$edition" linked.img "$path" | awk '$1 == "mtime" { print $2 }'; done | xargs)"
+    prints none sync "$edition" linked.img / names 4000 --owner 7:8 -n
+
     # The blocks of what is removed are free for what is put
     "$program" mkfs "$edition" little.img 60 8 0 0 1000
     head -c 20000 /dev/zero > large

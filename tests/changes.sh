@@ -353,7 +353,7 @@ END
     saves 'a boot block that is full' start.img wanted
     { cat whole; printf x; } > longer
     refuses 1 'unixvol: 27 TooBig' boot "$edition" start.img longer
-    refuses 1 $'unixvol: 27 TooBig\nunixvol: start.img: a boot block has 512 bytes, and the program more' --explain boot "$edition" start.img longer
+    refuses 1 $'unixvol: 27 TooBig\nunixvol: longer: a boot block has 512 bytes, and the program more' --explain boot "$edition" start.img longer
     refuses 3 'unixvol: cannot read missing' boot "$edition" start.img missing
     changed start.img cut.img 514 '00 00 00 00'
     refuses 1 'unixvol: unsound, rule 2' boot "$edition" cut.img hello

@@ -354,10 +354,11 @@ has 'a file with --explain' 0 $?
 # The command line's own errors, with the number of a word that isn't text.
 misread "error: invalid value '8'" --explain ls 8 "$image"
 misread "error: invalid value '8' for '<EDITION>': 6 for the Sixth, 7 for the Seventh" ls 8 "$image"
-for words in 'chmod|755' 'chown|1 2' 'touch|' 'mknod|c 3 5' 'import|'; do
+for words in 'chmod|755' 'chown|1 2' 'touch|' 'mknod|c 3 5' 'import|' 'put|hello' 'sync|.' 'rm|' 'rm|-r' 'rmdir|' 'mkdir|' 'mkdir|-p' 'ln|/e' 'mv|/e'; do
     misread "error: invalid value '' for '" "${words%|*}" 6 "$image" '' ${words#*|}
-    has "what ${words%|*} says of an empty path" 1 "$(grep -c ': it is empty; the root is /$' error)"
+    has "what ${words/|/ } says of an empty path" 1 "$(grep -c ': it is empty; the root is /$' error)"
 done
+for verb in ln mv; do misread "error: invalid value '' for '<TO>': it is empty; the root is /" "$verb" 6 "$image" /d/f ''; done
 misread "error: invalid value '8' for '<EDITION>': 6 for the Sixth, 7 for the Seventh" ls 8 "$image"
 has 'the usage where an edition is wrong' 'Usage: unixvol ls [OPTIONS] <EDITION> <IMAGE> [PATH]' "$(grep '^Usage' error)"
 misread "error: unexpected argument '--svg' found" super --svg 6 "$image"

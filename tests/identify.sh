@@ -103,6 +103,14 @@ image linux.img 4096
 put linux.img 1080 53ef
 looks linux.img 'looks like a volume of ext2, ext3 or ext4'
 
+# A path with control characters is escaped, and any other isn't.
+for row in $'six\e[1m\n.img|six\\033[1m\\012.img' 'zwölf\.img'; do
+    cp six.img "${row%%|*}"
+    printf '%s\n' "${row#*|}: looks like a volume of edition 6, with 8 blocks, sound" > line
+    prints line identify "${row%%|*}"
+    rm "${row%%|*}"
+done
+
 # Several images, and some that can't be read: the others have their lines.
 printf '%s\n' 'six.img: looks like a volume of edition 6, with 8 blocks, sound' 'text: looks like nothing that unixvol knows' > lines
 prints lines identify six.img text

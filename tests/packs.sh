@@ -68,7 +68,7 @@ cp pack broken
 printf '\037\213' | dd of=broken conv=notrunc status=none
 prints line identify broken
 # Its commands are words of a shell.
-for row in "a b;c|'a b;c'" "it's|'it'\\''s'" '-p|./-p'; do
+for row in "a b;c|'a b;c'" "it's|'it'\\''s'" '-p|./-p' $'it\'s\e\\\n|$\'it\\\'s\\033\\\\\\012\''; do
     cp pack "./${row%%|*}"
     runs identify -- "${row%%|*}"
     has "the commands for ${row%%|*}" "unixvol ls 7 ${row#*|}" "$(grep -o 'unixvol ls 7 .*' output | head -n 1)"

@@ -8,7 +8,7 @@ use Rattle.command_words.specs.BadWords.{IsBadGiven, IsBadImageGiven, IsImageGiv
 use Rattle.command_words.specs.declared.invocation.BadImage.{BadImage}
 use Rattle.command_words.specs.declared.invocation.GivenBad.{GivenBad}
 use Rattle.command_words.specs.declared.invocation.GivenBad.TheVariants as bads
-use Rattle.command_words.specs.Invocations.{AreFilesGiven, ArePathsGiven, AsksForNothing, IsFirstWord, IsGiven, IsLeftOut, IsMomentGiven, IsNonEmptyWord, IsValue, Words, get_words, is_set, put_words, verb_of}
+use Rattle.command_words.specs.Invocations.{AreFilesGiven, ArePathsGiven, AsksForNothing, IsFirstWord, IsGiven, IsLeftOut, IsMomentGiven, IsNonEmptyWord, IsPathWord, IsValue, Words, get_words, is_set, put_words, verb_of}
 use Rattle.command_words.specs.declared.invocation.Copying.TheVariants as copies
 use Rattle.command_words.specs.declared.invocation.Invocation.{Invocation}
 use Rattle.command_words.specs.declared.invocation.Invocation.TheVariants as invocations
@@ -24,7 +24,8 @@ use Rattle.command_terms.specs.declared.changes.Change.TheVariants as changes
 -- one file is put, or several files are
 abbrev IsPut : Option ℕ → Words → Type 0
 IsPut clock given = ((file : List ℕ) × (now : ℕ) × IsFirstWord given (codes "FILE") file × IsMomentGiven clock (given (codes "NOW")) now
-    × IsLeftOut given (codes "MORE") × IsLeftOut given (codes "target-directory") × (is_set (given (codes "recursive")) ≡ false))
+    × IsLeftOut given (codes "MORE") × IsLeftOut given (codes "target-directory") × (is_set (given (codes "recursive")) ≡ false)
+    × IsPathWord (given (codes "PATH")))
     ⊎ ((directory : List ℕ) × (files : List (List ℕ)) × (now : ℕ) × (word : Option (List ℕ)) × IsNonEmptyWord given (codes "target-directory") directory
     × AreFilesGiven clock (put_words given) files now word)
 
@@ -48,7 +49,7 @@ is_get _ = false
 -- every invocation of `put` puts one file or several
 puts : (clock : Option ℕ) (given : Words) (invocation : Invocation) → is_put (verb_of invocation) ≡ true → IsGiven clock given invocation → IsPut clock given
 unfolding is_put
-puts clock given (invocations.Change volume (changes.Put path file keep owner now) trace) put is = inl (file.now, now, is.1.1, is.1.2, is.1.3, is.1.4, is.1.7)
+puts clock given (invocations.Change volume (changes.Put path file keep owner now) trace) put is = inl (file.now, now, is.1.1, is.1.2, is.1.3, is.1.4, is.1.7, is.1.0.1)
 puts clock given (invocations.Copy volume (copies.Put directory files keep owner now trace)) put is =
     inr (directory.now, map (λ file. file.now) files.items, now.seconds, option_map (λ word. word.now) now.word, is.1.0, is.1.1)
 puts clock given (invocations.Copy volume (copies.PutTree directory folders keep owner now trace)) put is =
@@ -126,6 +127,15 @@ no_file clock given left none = no_one clock given left (λ file now first momen
 pub too_many_put : (clock : Option ℕ) (given : Words) → IsLeftOut given (codes "target-directory") → (IsLeftOut given (codes "MORE") → ⊥)
     → AsksForNothing clock verbs.Put given
 too_many_put clock given left many = no_one clock given left (λ file now first moment more. many more)
+
+-- if `--target-directory` isn't given and the path is empty, `put` has no invocation
+pub no_path : (clock : Option ℕ) (given : Words) → IsLeftOut given (codes "target-directory") → (IsPathWord (given (codes "PATH")) → ⊥)
+    → AsksForNothing clock verbs.Put given
+no_path clock given left empty = no_put clock given go
+  where
+    go : IsPut clock given → ⊥
+    go (inl one) = empty one.7
+    go (inr several) = both _ several.0 several.4.0 left
 
 -- if `--target-directory` isn't given but `--recursive` is, `put` has no invocation
 pub deep_put : (clock : Option ℕ) (given : Words) → IsLeftOut given (codes "target-directory") → is_set (given (codes "recursive")) ≡ true

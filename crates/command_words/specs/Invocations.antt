@@ -441,27 +441,27 @@ IsKeepGiven given keeps.Nothing = (is_set (given (codes "preserve")) ≡ false) 
 
 -- the words describe this change (this project)
 abbrev pub IsChangeGiven : Option ℕ → Words → Change → Type 0
-IsChangeGiven clock given (changes.Put path file keep owner now) = (path.now ≡ the_word given (codes "PATH")) × IsFirstWord given (codes "FILE") file.now
+IsChangeGiven clock given (changes.Put path file keep owner now) = IsPathGiven (given (codes "PATH")) path.now × IsFirstWord given (codes "FILE") file.now
     × IsMomentGiven clock (given (codes "NOW")) now × IsLeftOut given (codes "MORE") × IsLeftOut given (codes "target-directory")
     × IsKeepGiven given keep × IsOwnerGiven (given (codes "owner")) owner × (is_set (given (codes "recursive")) ≡ false)
 IsChangeGiven clock given (changes.Import path options now) = IsPathGiven (given (codes "PATH")) path.now
     × IsMomentGiven clock (given (codes "NOW")) now × IsImportGiven given options
 IsChangeGiven clock given (changes.Rm path now) =
-    (path.now ≡ the_word given (codes "PATH")) × IsMomentGiven clock (given (codes "NOW")) now × (is_set (given (codes "recursive")) ≡ false)
+    IsPathGiven (given (codes "PATH")) path.now × IsMomentGiven clock (given (codes "NOW")) now × (is_set (given (codes "recursive")) ≡ false)
 IsChangeGiven clock given (changes.RmAll path now) =
-    (path.now ≡ the_word given (codes "PATH")) × IsMomentGiven clock (given (codes "NOW")) now × (is_set (given (codes "recursive")) ≡ true)
+    IsPathGiven (given (codes "PATH")) path.now × IsMomentGiven clock (given (codes "NOW")) now × (is_set (given (codes "recursive")) ≡ true)
 IsChangeGiven clock given (changes.Rmdir path now) =
-    (path.now ≡ the_word given (codes "PATH")) × IsMomentGiven clock (given (codes "NOW")) now
+    IsPathGiven (given (codes "PATH")) path.now × IsMomentGiven clock (given (codes "NOW")) now
 IsChangeGiven clock given (changes.Mkdir path owner now) =
-    (path.now ≡ the_word given (codes "PATH")) × IsMomentGiven clock (given (codes "NOW")) now × (is_set (given (codes "parents")) ≡ false)
+    IsPathGiven (given (codes "PATH")) path.now × IsMomentGiven clock (given (codes "NOW")) now × (is_set (given (codes "parents")) ≡ false)
     × IsOwnerGiven (given (codes "owner")) owner
 IsChangeGiven clock given (changes.MkdirAll path owner now) =
-    (path.now ≡ the_word given (codes "PATH")) × IsMomentGiven clock (given (codes "NOW")) now × (is_set (given (codes "parents")) ≡ true)
+    IsPathGiven (given (codes "PATH")) path.now × IsMomentGiven clock (given (codes "NOW")) now × (is_set (given (codes "parents")) ≡ true)
     × IsOwnerGiven (given (codes "owner")) owner
-IsChangeGiven clock given (changes.Ln from to now) = (from.now ≡ the_word given (codes "FROM"))
-    × (to.now ≡ the_word given (codes "TO")) × IsMomentGiven clock (given (codes "NOW")) now
-IsChangeGiven clock given (changes.Mv from to now) = (from.now ≡ the_word given (codes "FROM"))
-    × (to.now ≡ the_word given (codes "TO")) × IsMomentGiven clock (given (codes "NOW")) now
+IsChangeGiven clock given (changes.Ln from to now) = IsPathGiven (given (codes "FROM")) from.now
+    × IsPathGiven (given (codes "TO")) to.now × IsMomentGiven clock (given (codes "NOW")) now
+IsChangeGiven clock given (changes.Mv from to now) = IsPathGiven (given (codes "FROM")) from.now
+    × IsPathGiven (given (codes "TO")) to.now × IsMomentGiven clock (given (codes "NOW")) now
 IsChangeGiven clock given (changes.Chmod path change now) = IsPathGiven (given (codes "PATH")) path.now
     × IsPermissionsGiven (the_word given (codes "PERM")) change × IsMomentGiven clock (given (codes "NOW")) now
 IsChangeGiven clock given (changes.Chown path uid gid now) = IsPathGiven (given (codes "PATH")) path.now

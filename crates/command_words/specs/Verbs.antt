@@ -54,9 +54,13 @@ moment = (codes "NOW", kinds.Moment, needs.Maybe)
 abbrev pub maybe_path : Argument
 maybe_path = (codes "PATH", kinds.Text, needs.Maybe)
 
+-- an argument for a path, which isn't the empty one, of a command that changes a volume (this project)
+abbrev pub path_named : List ℕ → Need → Argument
+path_named name need = (name, kinds.Path, need)
+
 -- the argument `PATH` of a command that changes the file or directory at this path (this project)
 abbrev pub path : Need → Argument
-path need = (codes "PATH", kinds.Path, need)
+path need = path_named (codes "PATH") need
 
 -- an argument for any word, which may be left out (this project)
 abbrev pub maybe_word : List ℕ → Argument
@@ -158,11 +162,11 @@ row_of verbs.Import = (
   codes "import",
   on_volume (path needs.Maybe ∷ moment ∷ option (codes "skip-special") ∷ owner ∷ option (codes "trace") ∷ []),
 )
-row_of verbs.Rm = (codes "rm", on_volume (word (codes "PATH") ∷ moment ∷ lettered (codes "recursive") 114 ∷ option (codes "trace") ∷ []))
-row_of verbs.Rmdir = (codes "rmdir", on_volume (word (codes "PATH") ∷ moment ∷ option (codes "trace") ∷ []))
-row_of verbs.Mkdir = (codes "mkdir", on_volume (word (codes "PATH") ∷ moment ∷ lettered (codes "parents") 112 ∷ owner ∷ option (codes "trace") ∷ []))
-row_of verbs.Ln = (codes "ln", on_volume (word (codes "FROM") ∷ word (codes "TO") ∷ moment ∷ option (codes "trace") ∷ []))
-row_of verbs.Mv = (codes "mv", on_volume (word (codes "FROM") ∷ word (codes "TO") ∷ moment ∷ option (codes "trace") ∷ []))
+row_of verbs.Rm = (codes "rm", on_volume (path needs.Once ∷ moment ∷ lettered (codes "recursive") 114 ∷ option (codes "trace") ∷ []))
+row_of verbs.Rmdir = (codes "rmdir", on_volume (path needs.Once ∷ moment ∷ option (codes "trace") ∷ []))
+row_of verbs.Mkdir = (codes "mkdir", on_volume (path needs.Once ∷ moment ∷ lettered (codes "parents") 112 ∷ owner ∷ option (codes "trace") ∷ []))
+row_of verbs.Ln = (codes "ln", on_volume (path_named (codes "FROM") needs.Once ∷ path_named (codes "TO") needs.Once ∷ moment ∷ option (codes "trace") ∷ []))
+row_of verbs.Mv = (codes "mv", on_volume (path_named (codes "FROM") needs.Once ∷ path_named (codes "TO") needs.Once ∷ moment ∷ option (codes "trace") ∷ []))
 row_of verbs.Chmod = (codes "chmod", on_volume (path needs.Once ∷ (codes "PERM", kinds.Permissions, needs.Once) ∷ moment ∷ option (codes "trace") ∷ []))
 row_of verbs.Chown = (codes "chown", on_volume (path needs.Once ∷ number (codes "UID") ∷ number (codes "GID") ∷ moment ∷ option (codes "trace") ∷ []))
 row_of verbs.Touch = (codes "touch", on_volume (path needs.Once ∷ moment ∷ option (codes "trace") ∷ []))

@@ -107,13 +107,13 @@ pub(crate) fn word_in<'a, G: Given<'a>>(given: &G, name: &'a str) -> Result<u16,
     word_of(text).ok_or(wrong(name, text, texts::WORD))
 }
 
-/// Reads the path of the file or directory that a command changes, or returns the root's path if it was left out.
-pub(crate) fn path_in<'a, G: Given<'a>>(given: &G) -> Result<&'a str, WordFault<'a>>
-    ensures read { IfOk result (λ path. IsPathGiven (G.words given.now (codes "PATH")) path.now) }
-    ensures refused { IfErr result (TellsOf (IsPathWord (G.words given.now (codes "PATH")) → ⊥)) }
+/// Reads the path given for an argument of a command that changes a volume, or returns the root's path if it was left out.
+pub(crate) fn path_in<'a, G: Given<'a>>(given: &G, name: &'a str) -> Result<&'a str, WordFault<'a>>
+    ensures read { IfOk result (λ path. IsPathGiven (G.words given.now name.now) path.now) }
+    ensures refused { IfErr result (TellsOf (IsPathWord (G.words given.now name.now) → ⊥)) }
 {
-    match given.first("PATH") {
-        Some("") => Err(wrong("PATH", "", texts::EMPTY_PATH)),
+    match given.first(name) {
+        Some("") => Err(wrong(name, "", texts::EMPTY_PATH)),
         Some(path) => Ok(path),
         None => Ok(""),
     }

@@ -216,7 +216,7 @@ pub(crate) const CALL_NOW: Parameter = Parameter {
 
 pub(crate) const DIRECTORY: Parameter = Parameter {
     name: "PATH",
-    kind: WordKind::Text,
+    kind: WordKind::Path,
     need: Need::Once,
     help: "The directory's path in the volume",
 };
@@ -237,14 +237,14 @@ pub(crate) const OWNED: Parameter = Parameter {
 
 pub(crate) const FROM: Parameter = Parameter {
     name: "FROM",
-    kind: WordKind::Text,
+    kind: WordKind::Path,
     need: Need::Once,
     help: texts::NAMED,
 };
 
 pub(crate) const TO: Parameter = Parameter {
     name: "TO",
-    kind: WordKind::Text,
+    kind: WordKind::Path,
     need: Need::Once,
     help: "The new path in the volume",
 };

@@ -1,3 +1,4 @@
 pub mod GuessJson
 pub mod Lines
 pub mod ShellWords
+pub mod ShownPath

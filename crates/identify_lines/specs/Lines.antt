@@ -7,6 +7,7 @@ use Rattle.vol_identify.specs.declared.guess.Guess.{Guess}
 use Rattle.vol_identify.specs.declared.guess.Guess.TheVariants.{Volume}
 use Rattle.vol_identify.specs.declared.guess.Identified.{Identified}
 use Rattle.identify_lines.specs.ShellWords.{file_word}
+use Rattle.identify_lines.specs.ShownPath.{shown_path}
 use Rattle.identify_lines.specs.declared.seen.Seen.{Seen}
 use Rattle.identify_lines.specs.declared.seen.Seen.TheVariants.{Pack, Image}
 
@@ -18,9 +19,9 @@ is_cut guess bytes = is_open guess && nat_le 268435456 bytes
 abbrev pub line_end : Guess → ℕ → List ℕ
 line_end guess bytes = if is_cut guess bytes then codes ", by its first " ++ (decimal bytes ++ codes " bytes\n") else codes "\n"
 
--- the line of an image: its path, and the words for what its front looks like (this project)
+-- the line of an image: its path as a terminal can show it, and the words for what its front looks like (this project)
 abbrev pub identified_line : List ℕ → Identified → ℕ → List ℕ
-identified_line path found bytes = path ++ (codes ": " ++ (identified_text found.guess found.broken ++ line_end found.guess bytes))
+identified_line path found bytes = shown_path path ++ (codes ": " ++ (identified_text found.guess found.broken ++ line_end found.guess bytes))
 
 -- the words for bytes that are no whole block (this project)
 abbrev pub follow_text : ℕ → List ℕ
@@ -44,5 +45,5 @@ image_tail _ size = []
 -- the lines of what the file at a path seems to be, whose size may be known: those of a pack, or the line of an image, and a line for the bytes after the
 -- last whole block (this project)
 abbrev pub seen_lines : List ℕ → Option ℕ → Seen → List ℕ
-seen_lines path size (Pack parts) = pack_lines path (file_word path) parts.items ++ tail_lines size
+seen_lines path size (Pack parts) = pack_lines (shown_path path) (file_word path) parts.items ++ tail_lines size
 seen_lines path size (Image found read) = identified_line path found read ++ image_tail found.guess size

@@ -4,6 +4,7 @@ ghost use Rattle.identify_lines.specs.Lines.{follow_text, identified_line, image
 
 use crate::seen::{BLOCK, Seen};
 use crate::shell_words::file_word;
+use crate::shown_path::ShownPath;
 use std::alloc::{AllocError, Global};
 use vol_identify::{Guess, Identified, pack_lines};
 
@@ -23,7 +24,8 @@ pub fn seen_lines(
     match seen {
         Seen::Pack(parts) => {
             let word = file_word(alloc, path)?;
-            let mut lines = pack_lines(alloc, path, &word, parts)?;
+            let shown = format!(in alloc; "{}", ShownPath(path))?;
+            let mut lines = pack_lines(alloc, &shown, &word, parts)?;
             push_tail(&mut lines, size)?;
             Ok(lines)
         }
@@ -84,6 +86,7 @@ fn identified_line(
 ) -> Result<String, AllocError>
     ensures { IfOk result (λ line. string_bytes line ≡ identified_line path.now found bytes) }
 {
+    let path = ShownPath(path);
     if is_cut(found.guess, bytes) {
         format!(in alloc; "{path}: {found}, by its first {bytes} bytes\n")
     } else {

@@ -2,8 +2,9 @@
 ghost use Rattle.std.specs.Prelude.{◌≡◌, ◌++◌, IfOk, OnOk, string_bytes};
 ghost use Rattle.std.specs.List.{flat_map, list_any};
 ghost use Rattle.std.specs.Str.{chars};
-ghost use Rattle.identify_lines.specs.ShellWords.{file_word, is_special, path_word, quoted, quoted_char, shell_word};
+ghost use Rattle.identify_lines.specs.ShellWords.{escaped_word, file_word, is_special, path_word, quoted, quoted_char, shell_word, word_byte};
 
+use crate::shown_path::{ShownByte, has_control};
 use std::alloc::{AllocError, Global};
 
 /// Returns the path of a file as one word of a shell, which is no option.
@@ -30,7 +31,9 @@ fn path_word(alloc: Global, path: &str) -> Result<String, AllocError>
 fn shell_word(alloc: Global, text: &str) -> Result<String, AllocError>
     ensures { IfOk result (λ word. string_bytes word ≡ shell_word text.now) }
 {
-    if text.is_empty() || has_special(text.as_bytes()) {
+    if has_control(text) {
+        escaped_word(alloc, text.as_bytes())
+    } else if text.is_empty() || has_special(text.as_bytes()) {
         quoted(alloc, text)
     } else {
         String::from_str(alloc, text)
@@ -52,6 +55,37 @@ fn is_special(byte: u8) -> bool
     let is_upper = b'@' <= byte && byte <= b'Z';
     let is_other = b'+' <= byte && byte <= b':' || byte == b'_';
     !(is_lower || is_upper || is_other)
+}
+
+/// Returns bytes between quotes with a dollar sign before them, between which a shell reads escapes, so that a terminal can show them.
+fn escaped_word(alloc: Global, bytes: &[u8]) -> Result<String, AllocError>
+    ensures { IfOk result (λ word. string_bytes word ≡ escaped_word bytes.now) }
+{
+    let mut word = String::from_str(alloc, "$'")?;
+    push_escapes(&mut word, bytes)?;
+    word.push_str("'")?;
+    Ok(word)
+}
+
+/// Appends bytes as they are written where a shell reads escapes.
+fn push_escapes(word: &mut String, bytes: &[u8]) -> Result<(), AllocError>
+    ensures { OnOk result (string_bytes word.new ≡ string_bytes word.old ++ flat_map word_byte bytes.now) }
+{
+    'bytes: for byte in bytes {
+        push_byte(word, *byte)?;
+    }
+    Ok(())
+}
+
+/// Appends a byte as it is written where a shell reads escapes.
+fn push_byte(word: &mut String, byte: u8) -> Result<(), AllocError>
+    ensures { OnOk result (string_bytes word.new ≡ string_bytes word.old ++ word_byte byte) }
+{
+    if byte == b'\'' {
+        word.push_str("\\'")
+    } else {
+        write!(word, "{}", ShownByte(byte))
+    }
 }
 
 /// Returns a text between quotes, in which a quote is written as a shell takes it.

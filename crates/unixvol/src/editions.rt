@@ -112,7 +112,7 @@ pub fn ambiguous_words(
     let name = shown(alloc, volume.image)?;
     match (verdicts.sixth, verdicts.seventh) {
         (Some(sixth), Some(seventh)) => {
-            let word = shown(alloc, &file_word(alloc, volume.image)?)?;
+            let word = file_word(alloc, volume.image)?;
             format!(in alloc;
                 "{name}: it breaks rule {sixth} as one of the sixth edition, and rule {seventh} as one of the seventh: write 6 or 7 for any; `unixvol identify {word}` guesses which"
             )

@@ -7,6 +7,7 @@ use command_faults::status::{BAD_COMMAND_LINE, BAD_FILE, NO_MEMORY, REFUSED};
 use command_faults::{Ending, Fault};
 use command_line::VolumeFile;
 use host_files::TreeFault;
+use identify_lines::ShownPath;
 use pack_files::Verdicts;
 use std::alloc::Global;
 use std::path::PathBuf;
@@ -136,33 +137,6 @@ impl From<TreeFault> for FileFault<'_> {
             TreeFault::Unread(path, why) => FileFault::UnreadBelow(path, why),
             TreeFault::NoMemory => FileFault::NoMemory,
         }
-    }
-}
-
-/// A path as a line shows it: as it is, or, if it has control characters, with each byte that is no printable ASCII as a backslash and three octal digits, and
-/// a backslash doubled.
-#[derive(Clone, Copy)]
-struct ShownPath<'a>(&'a str);
-
-impl fmt::Display for ShownPath<'_> {
-    fn fmt<W: fmt::Write>(&self, f: &mut fmt::Formatter<W>) -> fmt::Result {
-        let path = self.0;
-        if !path.chars().any(|character| character.is_control()) {
-            return write!(f, "{path}");
-        }
-        for byte in path.as_bytes().iter() {
-            write_escaped(f, *byte)?;
-        }
-        Ok(())
-    }
-}
-
-/// Writes a byte: as it is if it is printable ASCII, a backslash twice, and any other as a backslash and three octal digits.
-fn write_escaped<W: fmt::Write>(f: &mut fmt::Formatter<W>, byte: u8) -> fmt::Result {
-    match byte {
-        b'\\' => write!(f, "\\\\"),
-        b' '..=b'~' => write!(f, "{}", char::from(byte)),
-        _ => write!(f, "\\{}{}{}", byte / 64, byte / 8 % 8, byte % 8),
     }
 }
 

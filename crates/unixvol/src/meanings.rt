@@ -8,8 +8,7 @@ use command_changes::SPARSE_FILE;
 use command_changes::repair::NOT_REPAIRED;
 use command_faults::{Fault, LineFlaw};
 use command_words::Verb;
-use escaped_text::push_escaped;
-use identify_lines::file_word;
+use identify_lines::{ShownPath, file_word};
 use std::alloc::{AllocError, Global};
 use vol_dir::Refusal;
 use vol_findings::{Rule, edition_number};
@@ -124,7 +123,7 @@ fn needs_meaning(
         return Ok(None);
     };
     let image = shown(alloc, subject.image)?;
-    let word = shown(alloc, &file_word(alloc, subject.image)?)?;
+    let word = file_word(alloc, subject.image)?;
     let number = edition_number(subject.edition);
     let last = needed.saturating_sub(1);
     let place = match subject.at {
@@ -310,20 +309,9 @@ fn about_in(alloc: Global, subject: Subject<'_>) -> Result<String, AllocError> {
     }
 }
 
-/// Returns a word of the command line so that a terminal can show it: unchanged, or with all unprintable bytes escaped if it has control characters.
+/// Returns a word of the command line so that a terminal can show it, as [`ShownPath`] does.
 pub fn shown(alloc: Global, word: &str) -> Result<String, AllocError> {
-    let mut text = String::new(alloc);
-    if !word.chars().any(|character| character.is_control()) {
-        text.push_str(word)?;
-        return Ok(text);
-    }
-    let mut bytes = Vec::new(alloc);
-    push_escaped(&mut bytes, word.as_bytes())?;
-    // Escaped text is ASCII.
-    if let Ok(escaped) = str::from_utf8(&bytes) {
-        text.push_str(escaped)?;
-    }
-    Ok(text)
+    format!(in alloc; "{}", ShownPath(word))
 }
 
 /// Returns the meaning of a refusal for a command, in words.

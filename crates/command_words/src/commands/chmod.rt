@@ -66,7 +66,7 @@ pub(crate) fn read<'a, G: Given<'a>>(
     ensures refused { IfErr result (TellsOf (IsOneWrong clock (G.words given.now) (arguments_of verbs.Chmod))) }
 {
     let volume = volume_in(given)?;
-    let path = path_in(given)?;
+    let path = path_in(given, "PATH")?;
     let change = permissions_in(given, "PERM")?;
     let now = moment_in(given, clock)?;
     Ok(Invocation::Change {

@@ -66,7 +66,7 @@ pub(crate) fn read<'a, G: Given<'a>>(
     ensures refused { IfErr result (TellsOf (IsOneWrong clock (G.words given.now) (arguments_of verbs.Chown))) }
 {
     let volume = volume_in(given)?;
-    let path = path_in(given)?;
+    let path = path_in(given, "PATH")?;
     let uid = word_in(given, "UID")?;
     let gid = word_in(given, "GID")?;
     let now = moment_in(given, clock)?;

@@ -32,7 +32,8 @@ isn't all zeros follows a volume, is a pack, and has lines:
     at K: C bytes follow
 
 K is the first block of each part, and the command goes on with it: PATH has a shell's quotes there if it needs them,
-and ./ before it if it begins with a hyphen. What is inside a volume isn't looked at. The last line is for the bytes
+and ./ before it if it begins with a hyphen. Control characters in PATH are printed as a backslash and three octal
+digits, in a command between $' and '. What is inside a volume isn't looked at. The last line is for the bytes
 after the last whole block; after the line of a volume it is printed too. Where the last volume ends, one that is cut
 off is named too: it breaks rule 1. Elsewhere its blocks are other bytes. Of other files the first of these that fits
 is printed:

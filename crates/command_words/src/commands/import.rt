@@ -102,7 +102,7 @@ pub(crate) fn read<'a, G: Given<'a>>(
     ensures refused { IfErr result (TellsOf (IsOneWrong clock (G.words given.now) (arguments_of verbs.Import))) }
 {
     let volume = volume_in(given)?;
-    let path = path_in(given)?;
+    let path = path_in(given, "PATH")?;
     let now = moment_in(given, clock)?;
     let options = ImportOptions {
         skip_special: flag_in(given, "skip-special"),

@@ -5,7 +5,7 @@ ghost use Rattle.command_words.specs.Verbs.{arguments_of};
 ghost use Rattle.command_words.specs.declared.verbs.Verb.TheVariants as verbs;
 
 use crate::fault::WordFault;
-use crate::given::{Given, flag_in, moment_in, text_in};
+use crate::given::{Given, flag_in, moment_in, path_in};
 use crate::invocation::Invocation;
 use crate::parameters::{AT, CALL_NOW, EDITION, FROM, IMAGE, Parameter, TO, TRACE};
 use crate::read_words::volume_in;
@@ -55,8 +55,8 @@ pub(crate) fn read<'a, G: Given<'a>>(
     ensures refused { IfErr result (TellsOf (IsOneWrong clock (G.words given.now) (arguments_of verbs.Ln))) }
 {
     let volume = volume_in(given)?;
-    let from = text_in(given, "FROM");
-    let to = text_in(given, "TO");
+    let from = path_in(given, "FROM")?;
+    let to = path_in(given, "TO")?;
     let now = moment_in(given, clock)?;
     Ok(Invocation::Change {
         volume,

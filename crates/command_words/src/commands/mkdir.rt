@@ -5,7 +5,7 @@ ghost use Rattle.command_words.specs.Verbs.{arguments_of};
 ghost use Rattle.command_words.specs.declared.verbs.Verb.TheVariants as verbs;
 
 use crate::fault::WordFault;
-use crate::given::{Given, flag_in, moment_in, owner_in, text_in};
+use crate::given::{Given, flag_in, moment_in, owner_in, path_in};
 use crate::invocation::Invocation;
 use crate::parameters::{
     AT, CALL_NOW, DIRECTORY, EDITION, IMAGE, Need, OWNER, Parameter, TRACE, WordKind,
@@ -71,7 +71,7 @@ pub(crate) fn read<'a, G: Given<'a>>(
     ensures refused { IfErr result (TellsOf (IsOneWrong clock (G.words given.now) (arguments_of verbs.Mkdir))) }
 {
     let volume = volume_in(given)?;
-    let path = text_in(given, "PATH");
+    let path = path_in(given, "PATH")?;
     let now = moment_in(given, clock)?;
     let owner = owner_in(given)?;
     let trace = flag_in(given, "trace");

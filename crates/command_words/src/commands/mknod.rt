@@ -103,7 +103,7 @@ pub(crate) fn read<'a, G: Given<'a>>(
     ensures refused { IfErr result (TellsOf (IsOneWrong clock (G.words given.now) (arguments_of verbs.Mknod))) }
 {
     let volume = volume_in(given)?;
-    let path = path_in(given)?;
+    let path = path_in(given, "PATH")?;
     let kind = device_kind_in(given)?;
     let major = byte_in(given, "MAJOR")?;
     let minor = byte_in(given, "MINOR")?;

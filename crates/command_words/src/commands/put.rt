@@ -4,7 +4,7 @@ ghost use Rattle.command_words.specs.Invocations.{AsksFor, AsksForNothing, IsKee
 ghost use Rattle.command_words.specs.declared.verbs.Verb.TheVariants as verbs;
 
 use crate::fault::WordFault;
-use crate::given::{Given, flag_in, missing, moment_in, owner_in, text_in};
+use crate::given::{Given, flag_in, missing, moment_in, owner_in, path_in};
 use crate::invocation::{Copying, Invocation};
 use crate::parameters::{AT, EDITION, IMAGE, Need, OWNER, Parameter, TRACE, ValueName, WordKind};
 use crate::read_words::volume_in;
@@ -187,7 +187,7 @@ pub(crate) fn read<'a, G: Given<'a>>(
             Ok(Invocation::Copy { volume, copying })
         }
         None => {
-            let path = text_in(given, "PATH");
+            let path = path_in(given, "PATH")?;
             let file = file_in(given)?;
             no_more(given, WANTS_TARGET)?;
             no_folders(given)?;

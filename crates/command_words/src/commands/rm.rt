@@ -5,9 +5,9 @@ ghost use Rattle.command_words.specs.Verbs.{arguments_of};
 ghost use Rattle.command_words.specs.declared.verbs.Verb.TheVariants as verbs;
 
 use crate::fault::WordFault;
-use crate::given::{Given, flag_in, moment_in, text_in};
+use crate::given::{Given, flag_in, moment_in, path_in};
 use crate::invocation::Invocation;
-use crate::parameters::{AT, CALL_NOW, EDITION, IMAGE, NAMED, Need, Parameter, TRACE, WordKind};
+use crate::parameters::{AT, CALL_NOW, EDITION, IMAGE, Need, OWNED, Parameter, TRACE, WordKind};
 use crate::read_words::volume_in;
 use command_terms::Change;
 use std::alloc::Global;
@@ -51,7 +51,7 @@ const RECURSIVE: Parameter = Parameter {
 };
 
 /// The words that `rm` takes.
-pub(crate) const WORDS: &[Parameter] = &[EDITION, IMAGE, AT, NAMED, CALL_NOW, RECURSIVE, TRACE];
+pub(crate) const WORDS: &[Parameter] = &[EDITION, IMAGE, AT, OWNED, CALL_NOW, RECURSIVE, TRACE];
 
 /// Reads the words of `rm`.
 pub(crate) fn read<'a, G: Given<'a>>(
@@ -63,7 +63,7 @@ pub(crate) fn read<'a, G: Given<'a>>(
     ensures refused { IfErr result (TellsOf (IsOneWrong clock (G.words given.now) (arguments_of verbs.Rm))) }
 {
     let volume = volume_in(given)?;
-    let path = text_in(given, "PATH");
+    let path = path_in(given, "PATH")?;
     let now = moment_in(given, clock)?;
     let trace = flag_in(given, "trace");
     let change = if flag_in(given, "recursive") {

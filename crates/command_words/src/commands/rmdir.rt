@@ -5,7 +5,7 @@ ghost use Rattle.command_words.specs.Verbs.{arguments_of};
 ghost use Rattle.command_words.specs.declared.verbs.Verb.TheVariants as verbs;
 
 use crate::fault::WordFault;
-use crate::given::{Given, flag_in, moment_in, text_in};
+use crate::given::{Given, flag_in, moment_in, path_in};
 use crate::invocation::Invocation;
 use crate::parameters::{AT, CALL_NOW, DIRECTORY, EDITION, IMAGE, Parameter, TRACE};
 use crate::read_words::volume_in;
@@ -52,7 +52,7 @@ pub(crate) fn read<'a, G: Given<'a>>(
     ensures refused { IfErr result (TellsOf (IsOneWrong clock (G.words given.now) (arguments_of verbs.Rmdir))) }
 {
     let volume = volume_in(given)?;
-    let path = text_in(given, "PATH");
+    let path = path_in(given, "PATH")?;
     let now = moment_in(given, clock)?;
     Ok(Invocation::Change {
         volume,

@@ -114,7 +114,7 @@ pub(crate) fn read<'a, G: Given<'a>>(
     ensures refused { IfErr result (TellsOf (IsOneWrong clock (G.words given.now) (arguments_of verbs.Sync))) }
 {
     let volume = volume_in(given)?;
-    let directory = path_in(given)?;
+    let directory = path_in(given, "PATH")?;
     let now = moment_in(given, clock)?;
     let owner = owner_in(given)?;
     let copying = Copying::Sync {

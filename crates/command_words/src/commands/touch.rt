@@ -60,7 +60,7 @@ pub(crate) fn read<'a, G: Given<'a>>(
     ensures refused { IfErr result (TellsOf (IsOneWrong clock (G.words given.now) (arguments_of verbs.Touch))) }
 {
     let volume = volume_in(given)?;
-    let path = path_in(given)?;
+    let path = path_in(given, "PATH")?;
     let now = moment_in(given, clock)?;
     Ok(Invocation::Change {
         volume,

@@ -1,5 +1,5 @@
 use Rattle.std.proofs.Common.{drop, inl, inr, sym}
-use Rattle.command_words.proofs.Copies.{deep_put, empty_target, no_file, no_files, no_moment, too_many_put}
+use Rattle.command_words.proofs.Copies.{deep_put, empty_target, no_file, no_files, no_moment, no_path, too_many_put}
 use Rattle.command_words.proofs.Faults.{hands_on}
 use Rattle.command_words.proofs.Values.{no_value, volume_wrong}
 use Rattle.command_words.specs.Verbs.{arguments_of}
@@ -45,3 +45,8 @@ pub returns-in_err-no_folders-in-None-clause-refused : goal.returns-in_err-no_fo
 returns-in_err-no_folders-in-None-clause-refused g c =
     hands_on _ _ _ _ c.from_residual-in_err-no_folders-in-None.ensures.1 c.in_err-no_folders-in-None.ensures.refused
     (deep_put c.args.clock (g.G.Given.words c.args.given.now) (sym c.in-None.ensures))
+
+pub returns-in_err-path-in-None-clause-refused : goal.returns-in_err-path-in-None-clause-refused
+returns-in_err-path-in-None-clause-refused g c =
+    hands_on _ _ _ _ c.from_residual-in_err-path-in-None.ensures.1 c.in_err-path-in-None.ensures.refused
+    (no_path c.args.clock (g.G.Given.words c.args.given.now) (sym c.in-None.ensures))

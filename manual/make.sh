@@ -99,16 +99,16 @@ kind() {
         *'[possible values: '*) values=${values%%]*} && echo "${values//, /,}" ;;
         EDITION:*) echo 6,7 ;;
         DISK:* | FSIZE:*'the name of a disk'*) echo "$disks" ;;
-        IMAGE:* | OTHER:* | FILE:* | SCRIPT:* | OLD:* | NEW:* | FOLDER:* | COPY:* | MAPFILE:*) echo file ;;
+        IMAGE:* | OTHER:* | FILE:* | LIST:'The list of what'* | SCRIPT:* | OLD:* | NEW:* | FOLDER:* | COPY:* | MAPFILE:*) echo file ;;
         PATH:* | FROM:* | TO:* | DIR:*) echo path ;;
         *) echo any ;;
     esac
 }
 
-# words COMMAND: the kinds of the command's words, in order; the last is followed by dots if it may be repeated
-words() {
+# kinds: the kinds of words that standard input has as `arguments` prints them, in order; the last is followed by dots if it may be repeated
+kinds() {
     local name text
-    arguments "$1" | while IFS=$'\t' read -r name text; do
+    while IFS=$'\t' read -r name text; do
         echo "$(kind "${name%...}" "$text")${name#"${name%...}"}"
     done
 }
@@ -124,21 +124,26 @@ valued() {
 # other_usage COMMAND: the second line of the usage, which names the option with a value that gives the command other words, if there is one
 other_usage() { usage "$1" | sed -n '2 s/ \[OPTIONS\]//p'; }
 
+# naming COMMAND: the option that gives the command other words, as its usage names it
+naming() { other_usage "$1" | sed -E 's/.* (--?[a-z-]+) <.*/\1/'; }
+
 # changing COMMAND: the names of the option that gives the command other words
 changing() {
-    local named
-    named=$(other_usage "$1" | sed -E 's/.* (--?[a-z-]+) <.*/\1/')
     # Both names of an option have the same text.
-    options "$1" | awk -F '\t' -v named="$named" '{ names[$3] = names[$3] $1 "\n" } $1 == named { text = $3 } END { printf "%s", names[text] }'
+    options "$1" | awk -F '\t' -v named="$(naming "$1")" '{ names[$3] = names[$3] $1 "\n" } $1 == named { text = $3 } END { printf "%s", names[text] }'
 }
 
-# words_with_option COMMAND: the kinds of the words that a command has with this option; the last is the one that may be repeated
-words_with_option() {
-    local name text
+# other_arguments COMMAND: the words that a command has with this option, as `arguments` prints those without it; none follows one that may be repeated
+other_arguments() {
+    local name text named option
     local -A texts=()
-    while IFS=$'\t' read -r name text; do texts[${name%...}]=$text; done < <(arguments "$1")
-    for name in $(other_usage "$1" | sed -E -e 's/ --?[a-z-]+ <[^>]*>//' -e 's/[][<>]//g' | cut -d ' ' -f 3-); do
-        echo "$(kind "${name%...}" "${texts[${name%...}]:-}")${name#"${name%...}"}"
+    while IFS=$'\t' read -r name text; do texts[${name%...}]=$text; done < <(arguments ls && arguments "$1")
+    named=$(naming "$1")
+    option=" $named"
+    # Only its value is none of the words.
+    options "$1" | grep -q "^$named"$'\t-\t' || option="$option <[^>]*>"
+    for name in $(other_usage "$1" | sed -E -e "s/$option//" -e 's/[][<>]//g' | cut -d ' ' -f 3-); do
+        printf '%s\t%s\n' "$name" "${texts[${name%...}]:-}"
         [[ $name != *... ]] || break
     done
 }
@@ -149,7 +154,7 @@ one_line() { paste -s -d ' ' -; }
 # with_values COMMAND: the part of the completion for bash on options that take a value, and on the one that gives the command other words, if there are any
 with_values() {
     [ -z "$(valued "$1")" ] || echo -n " valued='$(valued "$1" | one_line)'"
-    [ -z "$(changing "$1")" ] || echo -n " changing='$(changing "$1" | one_line)' others='$(words_with_option "$1" | one_line)'"
+    [ -z "$(changing "$1")" ] || echo -n " changing='$(changing "$1" | one_line)' others='$(other_arguments "$1" | kinds | one_line)'"
 }
 
 # of_volume: the options with a value that tell `ls` which volume to read; other commands may have them too
@@ -199,8 +204,9 @@ END
     case $command in
 END
     for command in $(commands); do
-        echo "        $command) kinds='$(words "$command" | one_line)' options='$(options "$command" | cut -f 1 | one_line)'$(with_values "$command") ;;"
+        echo "        $command) kinds='$(arguments "$command" | kinds | one_line)' options='$(options "$command" | cut -f 1 | one_line)'$(with_values "$command") ;;"
     done
+    echo "        help) kinds='$(commands | paste -s -d , -)' ;;"
     cat << 'END'
     esac
     if [[ $current == -* ]]; then
@@ -272,27 +278,16 @@ option_arguments() {
     done
 }
 
-# word_arguments COMMAND: the words of a command for zsh's `_arguments`, one per line; for a command with an option that gives it other words, those without
-# this option
+# word_arguments: the words that standard input has as `arguments` prints them, for zsh's `_arguments`, one per line
 word_arguments() {
     local name text count=1 place
-    arguments "$1" | while IFS=$'\t' read -r name text; do
+    while IFS=$'\t' read -r name text; do
         count=$((count + 1))
         place=$count
-        if [[ $name == *... ]]; then
-            [ -z "$(changing "$1")" ] || break
-            place='*'
-        fi
+        [[ $name != *... ]] || place='*'
         name=${name%...}
         echo "'$place:$name -- $(quoted <<< "$text"):$(completer "$(kind "$name" "$text")")'"
     done
-}
-
-# repeated_argument COMMAND: the word that a command takes several times with the option that gives it other words, for zsh's `_arguments`
-repeated_argument() {
-    local repeated
-    repeated=$(words_with_option "$1" | tail -n 1)
-    echo "'*: :$(completer "${repeated%...}")'"
 }
 
 # own_options: the options of the program for zsh's `_describe`, one per line
@@ -305,7 +300,7 @@ own_options() {
 zsh_arguments() {
     local options words given
     options="_arguments '1: :' $(option_arguments "$1" | one_line)"
-    words=$(word_arguments "$1" | one_line)
+    words=$(arguments "$1" | word_arguments | one_line)
     # The value may be in the same word.
     given=$(changing "$1" | sed -E -e 's/^--.*/&(|=*)/' -e 's/^-[^-]$/&*/' | paste -s -d '|' -)
     if [ -z "$given" ]; then
@@ -313,9 +308,10 @@ zsh_arguments() {
         return
     fi
     echo "        if (( \$words[(I)($given)] )); then"
-    echo "            $options $(word_arguments "$1" | head -n 2 | one_line) $(repeated_argument "$1")"
+    echo "            $options $(other_arguments "$1" | word_arguments | one_line)"
     echo "        else"
-    echo "            $options $words"
+    # Only with the option may a word be repeated.
+    echo "            $options $(arguments "$1" | grep -v '^[^\t]*\.\.\.' | word_arguments | one_line)"
     echo "        fi"
 }
 

@@ -147,8 +147,10 @@ if [ -n "$(command -v script)" ]; then
     has 'what is told of a sound volume that is replaced' 'unixvol: old.img: it held a sound volume of edition 6 with 1 file' "$(replaces mkfs 7 old.img 100 5 0 0 5)"
     cp broken.v7 old.img
     has 'what is told of an unsound volume that is replaced' 'unixvol: old.img: it held an unsound volume of edition 7 with 1 file' "$(replaces mkfs 6 old.img 100 5 0 0 5)"
+    cat disk.v6 hello > old.img
+    has 'what is told of a volume with bytes after it' 'unixvol: old.img: it held a sound volume of edition 6 with 1 file, and 6 bytes after it' "$(replaces mkfs 7 old.img 100 5 0 0 5)"
     cp hello old.img
-    has 'what is told of other bytes that migrate replaces' 'unixvol: old.img: it held 6 bytes that are no volume' "$(replaces migrate disk.v6 old.img 400 50 5)"
+    has 'what is told of other bytes that migrate replaces' 'unixvol: old.img: it held 6 bytes, with no volume at block 0' "$(replaces migrate disk.v6 old.img 400 50 5)"
     has 'what is told of a new file' '' "$(replaces mkfs 7 brand_new.img 100 5 0 0 5)"
     has 'what is told of a file that is kept' "$(printf '%s\n' 'unixvol: cannot write hello' 'unixvol: hello: it is there already, and --new replaces no file')" "$(replaces mkfs --new 7 hello 100 5 0 0 5)"
 

@@ -37,6 +37,10 @@ refuses_mount 3 "unixvol-mount: $PWD/none is no folder: make it by mkdir, or, if
 changed "$linux" links.img $((1024 + 64 * 93 + 2)) 09
 refuses_mount 1 'unixvol: unsound, rule 12' 7 links.img mnt
 UNIXVOL=nothing refuses_mount 3 'unixvol-mount: there is no program nothing: install unixvol, or set UNIXVOL to where it is' --read-only 7 "$linux" mnt
+# The volume would hide its own image.
+mkdir -p holder/below
+cp "$linux" holder/below/image
+refuses_mount 3 "unixvol-mount: $PWD/holder/below/image is in $PWD/holder, where the volume would hide it: take another folder" 7 holder/below/image holder
 
 # as_umount STATUS LINE WORD..: unixvol-umount prints this line, if it isn't empty, and ends with this status
 as_umount() {
@@ -397,6 +401,17 @@ has 'names with spaces' 0 "$("$mount" --background 7 'an image' 'a folder' 2>&1;
 echo new > 'a folder/seventh'
 as_umount 0 '' 'a folder'
 has 'what was saved in a file with a space' new "$("$program" get 7 'an image' /seventh)"
+
+# Without standard output; and with a program in a folder of PATH that isn't absolute.
+"$mount" --background 7 volume mnt >&-
+has 'the status of a mount without standard output' 0 $?
+echo new > mnt/eighth
+all_saved 'a mount without standard output' volume eighth
+mkdir programs
+ln -s "$program" programs/unixvol
+UNIXVOL='' PATH=programs:$PATH in_background '' 7 volume
+echo new > mnt/ninth
+all_saved 'a mount by a program in PATH' volume ninth
 
 # A volume that another namespace has mounted too is served until that ends.
 in_background '' 7 volume

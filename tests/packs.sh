@@ -323,6 +323,11 @@ if device=$(losetup -f --show small 2> /dev/null); then
         --explain mkfs 6 "$device" 600 10 0 0 1000 --at 399
     refuses 3 "unixvol: cannot write $device"$'\n'"unixvol: $device: it has only 1000 blocks" --explain mkfs 6 "$device" 601 10 0 0 1000 --at 400
     prints none mkfs 6 "$device" 600 10 0 0 1000 --at 400
+    # What is on a device stays if a new volume is too large for it.
+    "$program" mkfs 7 large 1001 10 0 0 1000
+    for words in 'mkfs 7 DEVICE 1001 10 0 0 1000' 'repair 7 large DEVICE 1000' 'salvage 7 large -o DEVICE'; do
+        refuses 3 "unixvol: cannot write $device"$'\n'"unixvol: $device: it has only 1000 blocks" --explain ${words/DEVICE/$device}
+    done
     losetup -d "$device"
     saves 'a device in which two volumes were made' small wanted
 else

@@ -25,7 +25,7 @@
  * Stack     128 KB are enough for each function. Call none from a signal handler, nor in the child of a fork of a
  *           program with threads.
  *
- * Link with libunixvol.a or libunixvol.so. Both are for Linux on x86-64, and need the C library alone.
+ * Link with libunixvol.a or libunixvol.so. Both are for Linux, and need the C library alone.
  */
 #ifndef UNIXVOL_H
 #define UNIXVOL_H
@@ -47,7 +47,7 @@ typedef struct unixvol {
 #define UNIXVOL_CLOSED {0}
 
 /* A literal as a path: its bytes, and their count. */
-#define UNIXVOL_TEXT(literal) (literal), (sizeof(literal) - 1)
+#define UNIXVOL_TEXT(literal) ("" literal), (sizeof(literal) - 1)
 
 /* What functions return. Those up to 31 are the system's own error numbers; those from 101 on are this project's. */
 enum unixvol_number {

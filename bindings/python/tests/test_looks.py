@@ -3,6 +3,7 @@
 import io
 import struct
 import tarfile
+import tempfile
 import unittest
 from pathlib import Path
 
@@ -134,6 +135,11 @@ class Looks(unittest.TestCase):
         self.assertEqual((found[0].line, found[0].path, found[0].first_byte), ("changed", "/etc/motd", None))
         self.assertEqual((found[0].old.permissions, found[0].new.permissions, found[0].new.ctime), ("0644", "0600", None))
         self.assertEqual(self.image.diff(after, "times")[0].new.ctime, after.inode(95).ctime)
+        with tempfile.TemporaryDirectory() as folder:
+            name = Path(folder, "after")
+            name.write_bytes(bytes(after))
+            self.assertEqual(self.image.diff(name), self.image.diff(after))
+            self.assertEqual(self.image.diff(str(name)).lines, found.lines)
         found = self.image.diff(bytes(after), "fields")
         place = 1024 + 64 * 94
         wanted = unixvol.FieldDifference(
@@ -221,6 +227,11 @@ class Damage(unittest.TestCase):
         self.assertEqual(list(unixvol.rescue(cut, 7, "/etc").files()), ["/motd"])
         with tarfile.open(fileobj=io.BytesIO(found.archive)) as tar:
             self.assertEqual(tar.getnames(), found.tar().getnames())
+
+    def test_further_names(self):
+        found = unixvol.rescue(SAMPLES / "lessons" / "sound.v7", 7).files()
+        self.assertEqual(sorted(found), ["/etc/motd", "/usr/letter", "/welcome"])
+        self.assertEqual(found["/welcome"], found["/etc/motd"])
 
     def test_blocks_that_were_not_read(self):
         lost = 512 * 17

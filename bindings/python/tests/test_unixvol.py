@@ -1,5 +1,6 @@
 """Tests of the Python package. What the library itself does is proved; here it is that Python hands it on."""
 
+import array
 import builtins
 import copy
 import errno
@@ -11,6 +12,7 @@ import pickle
 import re
 import stat
 import struct
+import sys
 import tempfile
 import threading
 import unittest
@@ -120,6 +122,24 @@ class Files(unittest.TestCase):
             self.assertEqual(path.read_text(), "a")
             path.write_text("caf\xe9")
             self.assertEqual(path.read_bytes(), b"caf\xe9")
+            self.assertEqual(path.read_bytes(1, 1 << 40), b"af\xe9")
+
+    def test_bytes_of_other_kinds(self):
+        with made() as volume:
+            path = volume / "file"
+            words = array.array("H", range(300))
+            self.assertEqual(path.write_bytes(words), 600)
+            self.assertEqual(path.read_bytes(), words.tobytes())
+            path.write_at(600, memoryview(words))
+            self.assertEqual(path.read_bytes(600), words.tobytes())
+            for other in 5, "text", None:
+                self.assertRaises(TypeError, path.write_bytes, other)
+                self.assertRaises(TypeError, path.write_at, 0, other)
+                self.assertRaises(TypeError, (volume / "new").write_bytes, other)
+            self.assertEqual(path.read_bytes(), words.tobytes() * 2)
+            self.assertFalse((volume / "new").exists())
+            self.assertRaises(TypeError, unixvol.judge, 4096, 7)
+            self.assertRaises(TypeError, path.write_at, 1.0, b"x")
 
     def test_a_refused_write_leaves_what_was_there(self):
         with made() as volume:
@@ -140,6 +160,25 @@ class Files(unittest.TestCase):
             self.assertEqual(((volume / "motd").stat().uid, (volume / "motd").stat().gid), (7, 3))
             with made() as other, self.assertRaises(ValueError):
                 (other / "motd").hardlink_to(volume / "motd")
+
+    def test_names_that_would_be_cut(self):
+        with made() as volume:
+            (volume / "fourteen-bytes").write_bytes(b"first")
+            longer = volume / "fourteen-bytes-and-more"
+            for make in (
+                lambda: longer.write_bytes(b"second"),
+                lambda: longer.create(),
+                lambda: longer.mkdir(exist_ok=True),
+                lambda: longer.mknod("c", 1, 2),
+                lambda: longer.hardlink_to(volume / "etc/motd"),
+            ):
+                with self.assertRaises(unixvol.LongName) as raised:
+                    make()
+                self.assertEqual((raised.exception.errno, raised.exception.filename), (errno.ENAMETOOLONG, str(longer)))
+            self.assertEqual((volume / "fourteen-bytes").read_bytes(), b"first")
+            self.assertEqual(longer.read_bytes(), b"first")
+            longer.unlink()
+            self.assertFalse((volume / "fourteen-bytes").exists())
 
     def test_special_files(self):
         with made() as volume:
@@ -746,6 +785,29 @@ class Threads(unittest.TestCase):
                 thread.join()
             self.assertEqual(len(list(volume.root.iterdir())), 1 + 4 * 15)
             self.assertIsNone(unixvol.judge(bytes(volume), 7))
+
+    def test_a_file_is_written_as_one(self):
+        with made() as volume:
+            path, contents = volume / "file", {b"A" * 3000, b"B" * 300}
+            path.write_bytes(b"B" * 300)
+
+            def write():
+                for _ in range(100):
+                    for content in contents:
+                        path.write_bytes(content)
+
+            threads = [threading.Thread(target=write) for _ in range(2)]
+            interval = sys.getswitchinterval()
+            sys.setswitchinterval(1e-6)
+            try:
+                for thread in threads:
+                    thread.start()
+                found = {path.read_bytes() for _ in range(300)}
+                for thread in threads:
+                    thread.join()
+            finally:
+                sys.setswitchinterval(interval)
+            self.assertLessEqual(found, contents)
 
     def work(self, volume: unixvol.Volume, letter: str):
         for number in range(15):

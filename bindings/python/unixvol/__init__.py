@@ -28,6 +28,7 @@ from ._faults import (
     Invalid,
     IsDirectory,
     Locked,
+    LongName,
     NoDevice,
     NoEdition,
     NoEntry,

@@ -11,7 +11,7 @@ from ._library import text_of
 
 class UnixvolError(Exception):
     """The base of all exceptions here. `number` is the one that the library for C returns, which opens no files: so it
-    is 0 for `Changed` and `Locked`."""
+    is 0 for `Changed`, `Locked` and `LongName`."""
 
     number: int
 
@@ -189,7 +189,7 @@ class NotShown(UnixvolError, ValueError):
 
 
 class FileFault(UnixvolError, OSError):
-    """A volume can't be saved in a file, or a file can't be locked. The file is as it was."""
+    """A volume can't be saved in a file, a file can't be locked, or a name can't be made. All is as it was."""
 
     number = 0
     code: ClassVar[int]
@@ -212,6 +212,12 @@ class Locked(FileFault, BlockingIOError):
     """Another program, such as a mounted volume's, has had the file locked for half a minute."""
 
     code = errno.EAGAIN
+
+
+class LongName(FileFault):
+    """A name that would be made has more than 14 bytes, and the volume would cut it. Nothing has changed."""
+
+    code = errno.ENAMETOOLONG
 
 
 _REFUSALS = {kind.number: kind for kind in Refusal.__subclasses__()}

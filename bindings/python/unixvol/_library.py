@@ -3,6 +3,7 @@
 from __future__ import annotations
 
 import ctypes
+import operator
 import os
 import time
 from ctypes import POINTER, Structure, c_bool, c_char_p, c_int32, c_size_t, c_uint8, c_uint16, c_uint32, c_void_p
@@ -186,7 +187,8 @@ def text_of(number: int) -> str:
 
 
 def word(value: int, bits: int, what: str) -> int:
-    """Returns a number that fits into so many bits. (ctypes would cut a greater one off.)"""
+    """Returns a whole number that fits into so many bits. (ctypes would cut a greater one off.)"""
+    value = operator.index(value)
     if not 0 <= value < 1 << bits:
         raise OverflowError(f"{what} is {value}, and has to be 0 to {(1 << bits) - 1}")
     return value

@@ -11,7 +11,7 @@ from collections.abc import Callable
 from dataclasses import dataclass
 from typing import Any, Literal, NamedTuple, overload
 
-from ._faults import check, check_lines
+from ._faults import NoLook, check, check_lines
 from ._library import By, Look, Moment, Repaired, RescueView, Seen, View, function, room, seconds, word
 from ._values import (
     BlockMap,
@@ -145,15 +145,16 @@ class Image:
         return self._dump(Look.DUMP_NODE, **_node(node))
 
     @overload
-    def diff(self, other: Image | bytes, by: ByTree = "tree") -> Differences[PathDifference]: ...
+    def diff(self, other: Image | Source, by: ByTree = "tree") -> Differences[PathDifference]: ...
 
     @overload
-    def diff(self, other: Image | bytes, by: ByFields) -> Differences[FieldDifference]: ...
+    def diff(self, other: Image | Source, by: ByFields) -> Differences[FieldDifference]: ...
 
-    def diff(self, other: Image | bytes, by: ByTree | ByFields = "tree") -> Differences[Any]:
-        """What differs in another image from this one: by their trees, also all `times`, by their `fields`, or by `all fields`
+    def diff(self, other: Image | Source, by: ByTree | ByFields = "tree") -> Differences[Any]:
+        """What differs in another image, or that in a file or bytes, from this one: by their trees, also all `times`, by their `fields`, or by `all fields`
         without folding those of an array into an entry. No entries and status 0 if they don't differ, else 1."""
-        new, (as_text, as_json, kind) = bytes(other), _WAYS[by]
+        new = other.data if isinstance(other, Image) else data_of(other, self.edition, None)
+        as_text, as_json, kind = _WAYS[by]
         shown = self._compared(new, as_json)
         entries = values(kind, json.loads(shown.text)["lines"])
         lines = tuple(shown.lines.splitlines())
@@ -179,13 +180,22 @@ class Image:
         return json.loads(self._shown(View(kind=kind, json=True, **named), path).text)
 
     def _shown(self, view: View, path: str = "", pattern: str = "") -> Shown:
-        data, at, name = self.data, os.fsencode(path), os.fsencode(pattern)
+        data, at, name = self.data, _text(path), _text(pattern)
 
         def call(into: Any, count: int, seen: Seen) -> int:
             looked = (_edition(self.edition), data, len(data), view, at, len(at), name, len(name))
             return function("look")(*looked, into, count, seen)
 
         return _told(call, path or None)
+
+
+def _text(word: str | os.PathLike[str]) -> bytes:
+    raw = os.fsencode(word)
+    try:
+        raw.decode()
+    except UnicodeDecodeError:
+        raise NoLook(f"{word!r} isn't UTF-8 text, which the commands that show something want") from None
+    return raw
 
 
 @dataclass(frozen=True)
@@ -202,9 +212,9 @@ class Rescued:
         return tarfile.open(fileobj=io.BytesIO(self.archive))
 
     def files(self) -> dict[str, bytes]:
-        """The bytes of each regular file in the archive, by its path."""
+        """The bytes of each regular file in the archive, by its path there; those of a file with several names by each."""
         with self.tar() as tar:
-            return {f"/{it.name}": tar.extractfile(it).read() for it in tar if it.isreg()}  # type: ignore[union-attr]
+            return {f"/{it.name}": tar.extractfile(it).read() for it in tar if it.isreg() or it.islnk()}  # type: ignore[union-attr]
 
 
 RepairKind = Literal["cleared", "made", "size", "changed", "links", "entry", "free list"]

@@ -14,13 +14,16 @@ from datetime import datetime, timezone
 from pathlib import PurePosixPath
 from typing import TYPE_CHECKING, Any, Literal
 
-from ._faults import Exists, NoDevice, NoEntry, NotDirectory
+from ._faults import Exists, LongName, NoDevice, NoEntry, NotDirectory
 from ._library import Entry, Moment, Node, room, seconds, word
 
 if TYPE_CHECKING:
     from ._volume import Volume
 
 Kind = Literal["regular", "directory", "special"]
+
+# The bytes of a name (dir.h).
+NAME = 14
 
 _KINDS: dict[int, Kind] = {1: "regular", 2: "directory", 3: "special"}
 _MODES = {"regular": modes.S_IFREG, "directory": modes.S_IFDIR, "special": 0}
@@ -50,7 +53,9 @@ class Stat:
 class VolumePath:
     """A path in a volume. Queries and calls are made in the name of the volume's user, at the volume's moment.
 
-    Names are bytes on the volume, and text here as `os.fsdecode` makes it, so that any name comes back as it was.
+    Names are bytes on the volume, and text here as `os.fsdecode` makes it, so that any name comes back as it was. Of a name
+    of more than 14 bytes queries, and calls on what is there, take the first 14, as the systems do; what would make such a
+    name raises `LongName`.
     """
 
     __slots__ = ("path", "volume")
@@ -137,10 +142,11 @@ class VolumePath:
 
     def read_bytes(self, offset: int = 0, count: int | None = None) -> bytes:
         """Reads a regular file from an offset on: `count` bytes, fewer at its end, or all up to its end."""
-        if count is None:
-            count = max(self.stat().size - offset, 0)
-        into, read = room(count), ctypes.c_size_t()
-        self._query("read", word(offset, 32, "offset"), into, count, read)
+        with self.volume._lock:
+            there = max(self.stat().size - word(offset, 32, "offset"), 0)
+            count = there if count is None else min(count, there)
+            into, read = room(count), ctypes.c_size_t()
+            self._query("read", offset, into, count, read)
         return into.raw[: read.value]
 
     def read_text(self, encoding: str = "latin-1") -> str:
@@ -184,6 +190,7 @@ class VolumePath:
         """Makes this path a further name of a node other than a directory."""
         if target.volume is not self.volume:
             raise ValueError("a node has all its names in one volume")
+        self._expect_short()
         name = os.fsencode(str(self))
         target._call("link", name, len(name))
 
@@ -197,23 +204,26 @@ class VolumePath:
 
     def write_at(self, offset: int, data: bytes) -> None:
         """Writes bytes into a regular file, all or none. Bytes between its end and the offset become zeros."""
-        data = bytes(data)
+        data = bytes(memoryview(data))
         self._call("write", word(offset, 32, "offset"), data, len(data))
 
     def write_bytes(self, data: bytes) -> int:
         """Makes a regular file of just these bytes, and returns their number. A file that is there keeps its i-number,
-        owner and permissions. If the bytes are refused, what was there stays."""
-        is_new = not self.exists()
-        if is_new:
-            self.create()
-        try:
-            self.write_at(0, data)
-        except OSError:
+        owner and permissions. If the bytes are refused, what was there stays. Other threads see all of it or nothing."""
+        data = bytes(memoryview(data))
+        self._expect_short()
+        with self.volume._lock:
+            is_new = not self.exists()
             if is_new:
-                self.unlink()
-            raise
-        if self.stat().size > len(data):
-            self.truncate(len(data))
+                self.create()
+            try:
+                self.write_at(0, data)
+            except OSError:
+                if is_new:
+                    self.unlink()
+                raise
+            if self.stat().size > len(data):
+                self.truncate(len(data))
         return len(data)
 
     def write_text(self, text: str, encoding: str = "latin-1") -> int:
@@ -246,9 +256,15 @@ class VolumePath:
         self.volume._change(name, str(self), *more)
 
     def _make(self, name: str, permissions: int, *more: Any) -> int:
+        self._expect_short()
         inode = ctypes.c_uint16()
         self._call(name, word(permissions, 16, "permissions"), *more, inode)
         return inode.value
+
+    def _expect_short(self) -> None:
+        """Refuses to make a name that the volume would cut, since two such names may be one."""
+        if len(os.fsencode(self.name)) > NAME:
+            raise LongName("the name has more than 14 bytes", str(self))
 
     def _kind(self) -> Kind | None:
         try:
@@ -259,10 +275,11 @@ class VolumePath:
     def _names(self) -> list[str]:
         has_room, count = 0, ctypes.c_size_t(64)
         entries: Any = ()
-        while has_room < count.value:
-            has_room = count.value
-            entries = (Entry * has_room)()
-            self._query("list", entries, has_room, count)
+        with self.volume._lock:
+            while has_room < count.value:
+                has_room = count.value
+                entries = (Entry * has_room)()
+                self._query("list", entries, has_room, count)
         names = [bytes(entry.name).split(b"\0")[0] for entry in entries[: count.value]]
         return [os.fsdecode(name) for name in names if name not in (b".", b"..")]
 

@@ -56,13 +56,14 @@ class Volume:
 
     `uid` and `gid` are the user and the group in whose name queries and calls are made; user 0 may do everything. `now`
     is the moment of calls, or None for that of the clock. All three may be changed. Threads may share a volume: its
-    queries and calls are made one at a time.
+    queries and calls are made one at a time, as are `read_bytes` and `write_bytes`.
     """
 
     def __init__(self, handle: Handle, file: ImageFile | None = None, now: Moment = None):
         """For `open` and `mkfs`, which make it."""
         self._handle = handle
-        self._lock = threading.Lock()
+        # Held for each query and call, and for what takes several.
+        self._lock = threading.RLock()
         # Held for a whole save, which may wait for another program.
         self._saving = threading.Lock()
         # The file that the volume was opened from comes first.
@@ -132,7 +133,7 @@ class Volume:
     def report(self, checker: Checker) -> str:
         """The report of `icheck`, `dcheck` or `ncheck`, as the program prints it."""
         if checker not in ("icheck", "dcheck", "ncheck"):
-            raise NoReport(checker)
+            raise NoReport(f"no checker is named {checker!r}")
         with self._lock:
             check(function("report")(self._handle, ord(checker[0])))
             return os.fsdecode(self._answer())
@@ -286,12 +287,18 @@ def _opened(data: bytes, edition: int) -> Handle:
 def _stream(source: Source) -> BinaryIO:
     """A file or bytes, to be read from any place."""
     if not isinstance(source, (str, os.PathLike)):
-        return io.BytesIO(bytes(source))
+        return io.BytesIO(_bytes(source))
     file = builtins.open(source, "rb")
     if file.seekable():
         return file
     with file:
         return io.BytesIO(file.read())
+
+
+def _bytes(source: bytes | bytearray | memoryview) -> bytes:
+    if isinstance(source, int):
+        raise TypeError(f"an image is a file's name or bytes, and not the number {source}")
+    return bytes(source)
 
 
 def _part(at: int | None, edition: int) -> Part | None:
@@ -302,5 +309,5 @@ def data_of(source: Source, edition: int, at: int | None) -> bytes:
     part = _part(at, edition)
     if isinstance(source, (str, os.PathLike)):
         return read_image(os.path.abspath(source), part=part)[0]
-    data = bytes(source)
+    data = _bytes(source)
     return data if part is None else read_volume(io.BytesIO(data), *part)

@@ -5,7 +5,8 @@ pub const ABOUT: &str = "Works on disk images of Sixth and Seventh Edition Unix.
 pub const STATUSES: &str = "\
 A fault is reported in one line on standard error. If the command line is wrong, the message says what is wrong
 with it, in most cases followed by the usage. The exit status is 0 for success, 1 for a refusal, 2 for a wrong
-command line, 3 if a file can't be read or written, and 4 if memory runs out.
+command line, 3 if a file can't be read or written, and 4 if memory runs out. Some commands also have 5, if something
+is lost or left out, and 6, if there is no volume: their help says when.
 
 With --explain, before or after the command, a second line says what the fault means, what it is about, and, if a
 file failed, the system's own reason. If standard error is a terminal, this line is printed without --explain too;

@@ -61,6 +61,30 @@ fn expect_end<'a, R: ImageFiles>(
     Ok(())
 }
 
+/// Checks that the device at `path` has room for so many bytes, if a device is there and its end is known: else what it holds would be lost for a part of
+/// them. A device without an end has size 0.
+pub fn expect_device<'a, R: ImageFiles>(
+    rt: &R,
+    path: &'a str,
+    bytes: u64,
+) -> Result<(), FileFault<'a>>
+    ensures { IfErr result (λ fault. IsStatusOfFileOrMemory (file_status fault)) }
+{
+    let Ok(there) = rt.stamp_at(path) else {
+        return Ok(());
+    };
+    if there.kind != FileKind::Device {
+        return Ok(());
+    }
+    let Ok((_, sized)) = open_sized(rt, path) else {
+        return Ok(());
+    };
+    if sized.size > 0 && sized.size < bytes {
+        return Err(FileFault::Small(path, sized.size / BLOCK as u64));
+    }
+    Ok(())
+}
+
 /// Returns the number of bytes of the file at `path`, which has this stamp: of a device, those up to its end.
 fn size_at<R: ImageFiles>(rt: &R, path: &str, stamp: Stamp) -> io::Result<u64> {
     if stamp.kind == FileKind::Regular {

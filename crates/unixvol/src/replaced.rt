@@ -2,9 +2,9 @@
 use crate::host::Surroundings;
 use crate::meanings::shown;
 use host_files::{FileKind, ImageFiles, UpTo, noted_reader, read_up_to};
-use pdp_words::Image;
+use pdp_words::{BLOCK, Image};
 use std::alloc::AllocError;
-use std::fs;
+use std::{fmt, fs};
 use vol_catalogue::file_count;
 use vol_findings::edition_number;
 use vol_layout::{Edition, Geometry};
@@ -15,7 +15,7 @@ use vol_volume::judge;
 pub enum Held {
     /// A volume.
     Volume(HeldVolume),
-    /// This number of bytes that aren't a volume.
+    /// This number of bytes, which don't begin with a volume.
     Bytes(usize),
 }
 
@@ -28,6 +28,8 @@ pub struct HeldVolume {
     is_sound: bool,
     /// The number of its regular files.
     files: u16,
+    /// The number of bytes after it.
+    rest: usize,
 }
 
 /// Returns the contents of the regular file at a path, so that a message can describe them once the file is replaced. Returns `None` if nobody reads
@@ -62,6 +64,25 @@ fn held_in<R: AllocGlobal>(host: &Surroundings<'_, R>, image: &Image) -> Result<
     })
 }
 
+/// Writes what the volume is, and how many bytes are after it.
+impl fmt::Display for HeldVolume {
+    fn fmt<W: fmt::Write>(&self, f: &mut fmt::Formatter<W>) -> fmt::Result {
+        let sound = if self.is_sound {
+            "a sound"
+        } else {
+            "an unsound"
+        };
+        let number = edition_number(self.edition);
+        let files = self.files;
+        let word = if files == 1 { "file" } else { "files" };
+        write!(f, "{sound} volume of edition {number} with {files} {word}")?;
+        match self.rest {
+            0 => Ok(()),
+            rest => write!(f, ", and {rest} bytes after it"),
+        }
+    }
+}
+
 impl HeldVolume {
     /// Returns the other volume if it is sound, else this one.
     fn or_sound(self, other: HeldVolume) -> HeldVolume {
@@ -80,10 +101,12 @@ fn volume_in<R: AllocGlobal>(
     };
     let is_sound = judge(host.rt.alloc(), edition, image, true)?.is_none();
     let files = file_count(image, &geometry);
+    let rest = image.len().saturating_sub(BLOCK * geometry.zone_end as usize);
     Ok(Some(HeldVolume {
         edition,
         is_sound,
         files,
+        rest,
     }))
 }
 
@@ -104,22 +127,9 @@ fn tell_held<R: Eprint + AllocGlobal>(host: &Surroundings<'_, R>, path: &str, he
         return;
     };
     let _ = match held {
-        Held::Volume(
-            HeldVolume {
-                edition,
-                is_sound,
-                files,
-            },
-        ) => {
-            let sound = if is_sound { "a sound" } else { "an unsound" };
-            let number = edition_number(edition);
-            let word = if files == 1 { "file" } else { "files" };
-            eprintln!(host.rt;
-                "unixvol: {name}: it held {sound} volume of edition {number} with {files} {word}"
-            )
-        }
+        Held::Volume(volume) => eprintln!(host.rt; "unixvol: {name}: it held {volume}"),
         Held::Bytes(count) => {
-            eprintln!(host.rt; "unixvol: {name}: it held {count} bytes that are no volume")
+            eprintln!(host.rt; "unixvol: {name}: it held {count} bytes, with no volume at block 0")
         }
     };
 }

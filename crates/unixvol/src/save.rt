@@ -9,7 +9,7 @@ ghost use Rattle.host_files.specs.Save.{IsTaken};
 
 use crate::file_fault::{FailedRun, FileFault, NamedFile};
 use crate::host::Surroundings;
-use crate::place::expect_room;
+use crate::place::{expect_device, expect_room};
 use crate::replaced::{held_at, tell_replaced};
 use command_changes::MadeVolume;
 use command_faults::answer::conclude;
@@ -21,7 +21,7 @@ use host_files::{
     save_marked, save_volume,
 };
 use pack_files::Growth;
-use pdp_words::{Sink, write_all};
+use pdp_words::{BLOCK, Sink, write_all};
 use std::io;
 use std::rt::Clock;
 use vol_mkfs::BlankVolume;
@@ -166,7 +166,7 @@ pub fn save_made<'a, R: ImageFiles + Clock + Eprint + AllocGlobal>(
         return Ok(());
     };
     match place {
-        NewPlace::File(file) => save_made_file(host, file, volume),
+        NewPlace::File(file) => save_made_file(host, file, blocks, volume),
         NewPlace::Part { image, at } => {
             let growth = Growth {
                 at,
@@ -178,16 +178,18 @@ pub fn save_made<'a, R: ImageFiles + Clock + Eprint + AllocGlobal>(
     }
 }
 
-/// Saves a new volume in a file to make. An existing regular file is locked meanwhile, if it can be opened.
+/// Saves a new volume of `blocks` blocks in a file to make. An existing regular file is locked meanwhile, if it can be opened.
 fn save_made_file<'a, R: ImageFiles + Clock + Eprint + AllocGlobal>(
     host: &Surroundings<'_, R>,
     file: MadeFile<'a>,
+    blocks: u32,
     volume: &BlankVolume,
 ) -> Result<(), FileFault<'a>>
     ensures saved { OnOk result (IsSavedAs (IsTaken R.File.contents) volume.now) }
     ensures fault { IfErr result (λ fault. IsStatusOfFileOrMemory (file_status fault)) }
 {
     expect_new(host.rt, file)?;
+    expect_device(host.rt, file.path, BLOCK as u64 * u64::from(blocks))?;
     let _locked = match lock_replaced(host, file.path) {
         Ok(locked) => locked,
         Err(why) => return Err(FileFault::unsaved(file.path, why)),
@@ -273,7 +275,7 @@ pub fn save_answer_over<'a, R: ImageFiles + Clock + Eprint + AllocGlobal>(
     save_over(host, file.path, old, bytes)
 }
 
-/// Saves bytes in the file `path` as [`save_new`] does, and reports the contents that were replaced.
+/// Saves bytes in the file `path` as [`save_new`] does, and reports the contents that were replaced. A device that is too small for them stays as it is.
 pub fn save_over<'a, R: ImageFiles + Clock + Eprint + AllocGlobal>(
     host: &Surroundings<'_, R>,
     path: &'a str,
@@ -283,6 +285,7 @@ pub fn save_over<'a, R: ImageFiles + Clock + Eprint + AllocGlobal>(
     ensures saved { OnOk result (IsTaken R.File.contents bytes.now) }
     ensures fault { IfErr result (λ fault. IsStatusOfFileOrMemory (file_status fault)) }
 {
+    expect_device(host.rt, path, bytes.len() as u64)?;
     let held = held_at(host, path);
     match save_new(host, path, old, bytes, None) {
         Ok(()) => {

@@ -32,8 +32,9 @@ last name is like GLOB are printed: in GLOB a * stands for any bytes or none, a 
 byte for itself.
 
 Entries without an i-node are printed too. What is below a directory isn't printed again if the directory was
-printed before, nor if its path has more than 4096 bytes: such a path has a line on standard error, and the status
-is then 5. On a terminal, bytes that aren't printable ASCII are shown as a backslash and three octal digits.
+printed before, nor if its path below PATH has more than 4096 bytes: such a path has a line on standard error, and
+the status is then 5. On a terminal, bytes that aren't printable ASCII are shown as a backslash and three octal
+digits.
 
 With --json, one object is printed on one line. Its \"entries\" has an object for each path, with \"ino\", the i-number, and
 \"path\", in which such bytes are always shown so.
@@ -59,7 +60,7 @@ Status:
   2  the command line is wrong; or no volume of the edition has the sizes of --sizes or --like
   3  `unixvol: cannot read IMAGE`, or `unixvol: cannot write -`: standard output failed; or MAPFILE can't be read
   4  `unixvol: 12 NoMemory`
-  5  a path has more than 4096 bytes, and what is below it isn't printed
+  5  a path has more than 4096 bytes below PATH, and what is below it isn't printed
      if blocks are lost: something is damaged or left out, or PATH isn't found and something is lost on the way,
      as standard error says
   6  if blocks are lost: more than 1048576 blocks of the image are missing; or its super-block is lost, and neither

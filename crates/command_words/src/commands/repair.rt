@@ -35,8 +35,9 @@ size is within the limit, and each block that it points to is a data block to wh
 fit keep their i-numbers, permissions, owners, sizes, blocks, times and bytes; only their link counts may change. All
 else is mended so that the twelve rules hold: two uses of one block become two blocks, block numbers that can't be
 are cleared, entries that lead to nothing are removed, and whatever has no entry gets one in /lost+found, with the
-name # and its i-number. NOW is the time of a directory that has to be made. With --blocks the copy has at least FSIZE
-blocks: if the volume has fewer, blocks of zeros are appended before, and are free afterwards.
+name # and its i-number; in /lost+found.2, if /lost+found is no directory. NOW is the time of a directory that has to
+be made. With --blocks the copy has at least FSIZE blocks: if the volume has fewer, blocks of zeros are appended
+before, and are free afterwards.
 
 Each difference has a line:
   i-node 17: cleared                       it was allocated, and is free now

@@ -101,7 +101,9 @@ fn volume_in<R: AllocGlobal>(
     };
     let is_sound = judge(host.rt.alloc(), edition, image, true)?.is_none();
     let files = file_count(image, &geometry);
-    let rest = image.len().saturating_sub(BLOCK * geometry.zone_end as usize);
+    let rest = image
+        .len()
+        .saturating_sub(BLOCK * geometry.zone_end as usize);
     Ok(Some(HeldVolume {
         edition,
         is_sound,

@@ -83,7 +83,7 @@ fn bare_program<'a>(alloc: Global) -> Command<'a>
     ensures { app result ≡ bare_program }
 {
     Command::new(alloc, "unixvol")
-        .version("0.9.1")
+        .version("0.9.2")
         .about(texts::ABOUT)
         .after_help(texts::STATUSES)
         .subcommand_required(true)

@@ -55,7 +55,7 @@ _unixvol() {
         dcheck) kinds='6,7,any file any' options='--at --json --explain -h --help' valued='--at=any' ;;
         ncheck) kinds='6,7,any file any' options='--at --json --explain -h --help' valued='--at=any' ;;
         mkfs) kinds='6,7 file rk05,rk06,rk07,rl01,rl02,rm03,rp03,rp04,rp06,rx01,rx02 any any any any' options='--new --at --explain -h --help' valued='--at=any' ;;
-        build) kinds='any file any' options='--list --new --at --explain -h --help' valued='--at=any' changing='--list' others='file any' ;;
+        build) kinds='file file any' options='--list --new --at --explain -h --help' valued='--at=any' changing='--list' others='6,7,any file file' ;;
         put) kinds='6,7,any file path file any any...' options='--at -t --target-directory -r --recursive -p --preserve -x --executable -o --owner --trace --explain -h --help' valued='--at=any -t=path --target-directory=path -o=any --owner=any' changing='-t --target-directory' others='6,7,any file file...' ;;
         sync) kinds='6,7,any file path file any' options='--at -n --dry-run --delete -o --owner --explain -h --help' valued='--at=any -o=any --owner=any' ;;
         import) kinds='6,7,any file path any' options='--at --skip-special -o --owner --trace --explain -h --help' valued='--at=any -o=any --owner=any' ;;
@@ -76,6 +76,7 @@ _unixvol() {
         migrate) kinds='file file any any any' options='--new --at --devices --explain -h --help' valued='--at=any' ;;
         serve) kinds='6,7,any file' options='--at --read-only --mine -r --rescue --explain -h --help' valued='--at=any -r=file --rescue=file' ;;
         identify) kinds='file...' options='--json --csv -r --recursive --explain -h --help' ;;
+        help) kinds='cat,ls,get,find,export,sums,inode,super,free,block,dump,diff,df,map,check,icheck,dcheck,ncheck,mkfs,build,put,sync,import,rm,rmdir,mkdir,ln,mv,chmod,chown,touch,mknod,boot,salvage,repair,resize,play,migrate,serve,identify' ;;
     esac
     if [[ $current == -* ]]; then
         mapfile -t COMPREPLY < <(compgen -W "$options" -- "$current")

@@ -95,7 +95,7 @@ completes 'disk.img' build away/list dis
 completes '6 7 any' build --list ''
 completes 'disk.img' build --list 7 dis
 completes 'away' build --list 7 disk.img aw
-completes 'chmod chown check' help ch
+completes 'check chmod chown' help ch
 completes '/usr' mkdir 7 disk.img --at 0 /u
 completes 'disk.img' repair --blocks 300 7 dis
 completes 'disk.img' map --file /etc 7 dis

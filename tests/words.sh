@@ -94,7 +94,7 @@ touch 7 disk d/e 5 | 5 | 12 /d/e 13 /d/t 14 /to 15 /d 16 /t
 END
 begins
 cp disk before
-refuses 1 'unixvol: 22 Invalid' rmdir 7 disk '' 02
+refuses 1 'unixvol: 22 Invalid' rmdir 7 disk / 02
 refuses 1 'unixvol: 104 BadId' chown 7 disk /d 65535 010 5
 saves 'a volume whose root and whose owners stay' disk before
 prints none chmod 7 disk /d 07777 4

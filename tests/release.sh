@@ -81,7 +81,8 @@ dead_links() {
 # The version is the same wherever it is written.
 copies one
 has 'the version of CHANGELOG.md' "$version" "$(one/tools/version.sh)"
-for file in crates/command_line/src/builder.rt bindings/python/pyproject.toml bindings/rust/Cargo.toml bindings/rust/Cargo.lock manual/unixvol.1 manual/unixvol-mount.1; do
+for file in crates/command_line/src/builder.rt bindings/c/unixvol.h bindings/python/pyproject.toml bindings/python/unixvol/__init__.py bindings/rust/Cargo.toml \
+    bindings/rust/Cargo.lock manual/unixvol.1 manual/unixvol-mount.1; do
     has "the version in $file" '' "$(diff "$top/$file" "one/$file")"
 done
 has 'the C library that README names' "glibc $(grep -ao 'GLIBC_2\.[0-9]*' "$program" | sort -Vu | sed -n '$s/.*_//p')" \
@@ -96,6 +97,7 @@ says 'changes without a number' 1 'no release: CHANGELOG.md has changes without 
 says 'a number that is no version' 1 'a version is a number such as 0.3.0, and not 9.8' numbered/tools/version.sh 9.8
 says 'a number that is released' 1 "$version is released already: take the next number" numbered/tools/version.sh "$version"
 says 'a new number' 0 9.8.7 numbered/tools/version.sh 9.8.7
+has 'the new number in the header and the packages' 5 "$(grep -F '"9.8.7"' numbered/bindings/{c/unixvol.h,python/pyproject.toml,python/unixvol/__init__.py,rust/Cargo.{toml,lock}} | wc -l)"
 has 'the headings of CHANGELOG.md' "## Unreleased ## 9.8.7 ## $version" "$(grep '^## ' numbered/CHANGELOG.md | head -n 3 | paste -s -d ' ' -)"
 has 'what is unreleased then' '' "$(numbered/tools/unreleased.sh)"
 has 'the files that have the new number' 7 "$(grep -rlF 9.8.7 numbered --include=builder.rt --include='*.toml' --include=Cargo.lock --include='*.1' --include=CHANGELOG.md | grep -vc /out/)"

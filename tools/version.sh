@@ -21,5 +21,7 @@ version=$(sed -n 's/^## \([0-9][0-9.]*\)$/\1/p' CHANGELOG.md | head -n 1)
 [ -n "$version" ] || stops 'CHANGELOG.md has no heading with a version'
 sed -i "s/\.version(\"[0-9.]*\")/.version(\"$version\")/" crates/command_line/src/builder.rt
 sed -i "s/^version = \"[0-9.]*\"$/version = \"$version\"/" bindings/python/pyproject.toml bindings/rust/Cargo.toml bindings/rust/Cargo.lock
+sed -i "s/^__version__ = \"[0-9.]*\"$/__version__ = \"$version\"/" bindings/python/unixvol/__init__.py
+sed -i "s/^#define UNIXVOL_VERSION \"[0-9.]*\"$/#define UNIXVOL_VERSION \"$version\"/" bindings/c/unixvol.h
 sed -i "s/^\(\.TH .*\)\"unixvol [0-9.]*\"$/\1\"unixvol $version\"/" manual/unixvol.1 manual/unixvol-mount.1
 echo "$version"

@@ -34,6 +34,9 @@
 #include <stddef.h>
 #include <stdint.h>
 
+/* The version of this header, and of the library beside it. */
+#define UNIXVOL_VERSION "0.9.2"
+
 #ifdef __cplusplus
 extern "C" {
 #endif

@@ -79,6 +79,8 @@ from ._values import (
 )
 from ._volume import About, PackVolume, Volume, explain, judge, mkfs, open, salvage, volumes
 
+__version__ = "0.9.2"
+
 __all__ = [
     "About",
     "Access",

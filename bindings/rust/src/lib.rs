@@ -9,6 +9,9 @@ use declared::*;
 pub use declared::{About, Entry, Node, Repaired, RescueView, View};
 use std::fmt;
 
+/// The version of this crate, and of the library beside it.
+pub const VERSION: &str = env!("CARGO_PKG_VERSION");
+
 /// Why something was refused, by the number of `unixvol.h`: 1 to 112 a refusal, 200 and a rule no sound volume, 301 to
 /// 307 a wrong argument. Nothing has changed.
 #[derive(Clone, Copy, Debug, PartialEq, Eq)]

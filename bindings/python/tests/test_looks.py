@@ -183,8 +183,10 @@ class Looks(unittest.TestCase):
                 shows()
             self.assertEqual(unsound.exception.rule, 1)
         self.assertFalse(short.check().sound)
-        with self.assertRaises(unixvol.Unsound):
-            self.image.diff(b"")
+        for old, new, image in (self.image, short, "new"), (short, self.image, "old"):
+            with self.assertRaises(unixvol.Unsound) as unsound:
+                old.diff(new)
+            self.assertEqual((unsound.exception.image, str(unsound.exception)), (image, f"unsound, rule 1: {image}"))
         with self.assertRaises(unixvol.NoLook):
             self.image.inode("/\udcff")
         with self.assertRaises(unixvol.NoEdition):

@@ -161,6 +161,26 @@ class Files(unittest.TestCase):
             with made() as other, self.assertRaises(ValueError):
                 (other / "motd").hardlink_to(volume / "motd")
 
+    def test_rename(self):
+        with made() as volume:
+            inode = (volume / "etc/motd").stat().inode
+            new = (volume / "etc/motd").rename(volume / "news")
+            self.assertEqual((str(new), new.stat().inode, new.stat().links), ("/news", inode, 1))
+            self.assertFalse((volume / "etc/motd").exists())
+            (volume / "there").write_bytes(b"stays")
+            for target, fault in ("there", unixvol.Exists), ("news", unixvol.Exists), ("fifteen-letters", unixvol.LongName):
+                self.assertRaises(fault, new.rename, volume / target)
+            self.assertRaises(unixvol.Refusal, (volume / "etc").rename, volume / "lib")
+            self.assertEqual((new.read_bytes(), (volume / "there").read_bytes()), (b"welcome\n", b"stays"))
+
+    def test_a_rename_that_is_refused_leaves_one_name(self):
+        with made() as volume:
+            (volume / "tmp").mkdir(0o777)
+            volume.uid = 3
+            self.assertRaises(unixvol.Access, (volume / "etc/motd").rename, volume / "tmp/motd")
+            self.assertFalse((volume / "tmp/motd").exists())
+            self.assertEqual((volume / "etc/motd").stat().links, 1)
+
     def test_names_that_would_be_cut(self):
         with made() as volume:
             (volume / "fourteen-bytes").write_bytes(b"first")
@@ -263,7 +283,7 @@ class Faults(unittest.TestCase):
             self.assertRaises(unixvol.NoReport, volume.report, "fsck")
 
     def test_copies(self):
-        for fault in unixvol.NoEntry("/x"), unixvol.Unsound(7), unixvol.Closed("closed"), unixvol.Changed("gone", "/x"):
+        for fault in unixvol.NoEntry("/x"), unixvol.Unsound(7), unixvol.Unsound(7, "old"), unixvol.Closed("closed"), unixvol.Changed("gone", "/x"):
             again = pickle.loads(pickle.dumps(fault))
             self.assertEqual((type(again), str(again), again.number), (type(fault), str(fault), fault.number))
         with made() as volume:

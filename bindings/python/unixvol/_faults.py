@@ -125,15 +125,18 @@ class NotRepaired(Refusal):
 
 
 class Unsound(UnixvolError, ValueError):
-    """The bytes aren't a sound volume. `rule` is the first of the twelve rules that they break."""
+    """The bytes aren't a sound volume. `rule` is the first of the twelve rules that they break. If two images are compared,
+    `image` is the one that breaks it, "old" or "new"; else it is None."""
 
-    def __init__(self, rule: int):
-        super().__init__(rule)
+    def __init__(self, rule: int, image: str | None = None):
+        super().__init__(*([rule] if image is None else [rule, image]))
         self.rule = rule
+        self.image = image
         self.number = 200 + rule
 
     def __str__(self) -> str:
-        return text_of(self.number)
+        text = text_of(self.number)
+        return text if self.image is None else f"{text}: {self.image}"
 
 
 class Closed(UnixvolError, ValueError):
@@ -237,10 +240,10 @@ def check(number: int, path: str | None = None) -> None:
 
 def check_lines(lines: str, path: str | None = None) -> None:
     """Raises the exception for the lines of a command that shows nothing."""
-    found = re.match(r"unixvol: (?:(\d+) |unsound, rule (\d+))", lines)
-    number, rule = found.groups() if found else (None, None)
+    found = re.match(r"unixvol: (?:(\d+) |unsound, rule (\d+)(?:: (old|new)$)?)", lines, re.MULTILINE)
+    number, rule, image = found.groups() if found else (None, None, None)
     if number is not None and int(number) in _REFUSALS:
         raise _REFUSALS[int(number)](path)
     if rule is not None:
-        raise Unsound(int(rule))
+        raise Unsound(int(rule), image)
     raise NotShown(lines)

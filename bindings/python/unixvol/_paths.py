@@ -194,6 +194,19 @@ class VolumePath:
         name = os.fsencode(str(self))
         target._call("link", name, len(name))
 
+    def rename(self, target: VolumePath) -> VolumePath:
+        """Gives a node other than a directory this other path, and returns that. As the systems do, it makes the further
+        name, and then removes the old one: if that is refused, the new one goes again, and times have changed. What is at
+        the other path already isn't replaced: `Exists`."""
+        with self.volume._lock:
+            target.hardlink_to(self)
+            try:
+                self.unlink()
+            except OSError:
+                target.unlink()
+                raise
+        return target
+
     def unlink(self) -> None:
         """Removes a name of a node other than a directory. The node is freed with its last name."""
         self._call("unlink")

@@ -12,6 +12,5 @@ puts_back() {
 }
 trap puts_back EXIT
 [ ${#links[@]} = 0 ] || rm -f "${!links[@]}"
-# rt reckons with far more memory than a check takes, and so often runs one where four would fit. The largest takes up to 7 GB.
-memory=$(($(sed -n 's/^MemTotal: *\([0-9]*\) kB$/\1/p' /proc/meminfo) / 7000000)) processors=$(nproc)
-RT_JOBS=${RT_JOBS:-$((memory < 1 ? 1 : memory < processors ? memory : processors))} "${RT:-rt}" ci
+. tools/proving.sh
+"${RT:-rt}" ci

@@ -2,7 +2,7 @@
  *
  * A volume is opened from a copy of its bytes and kept in memory. Programs query and change it in a user's name, and
  * copy its bytes out again. Nothing here reads or writes a file. Each function is proved to do what its comment says
- * (docs/PROOFS.md, "From C"), for every image and every argument, as long as the program keeps these rules. Nothing
+ * (docs/PROOFS.md, part 22), for every image and every argument, as long as the program keeps these rules. Nothing
  * checks them.
  *
  * Handles   A `unixvol` begins as UNIXVOL_CLOSED, all zeros. Don't copy one while it is open, and don't change its
@@ -12,7 +12,8 @@
  *           be null only if its count is 0. A buffer that is written overlaps no other argument.
  * Paths     Bytes and their count, with no zero at the end, from the root: UNIXVOL_TEXT("/etc/passwd"), or
  *           path, strlen(path). Of a name longer than 14 bytes only the first 14 count.
- * Numbers   0 is done. Any other number means that nothing has changed, neither the volume nor a buffer.
+ * Numbers   0 is done. Any other number means that nothing has changed, neither the volume nor a buffer; only with
+ *           UNIXVOL_NO_ROOM are the lengths and the status of a text handed out.
  * Users     Queries and calls are made in the name of a user and a group: 0 to 255 in the sixth edition, 0 to 32,767
  *           in the seventh. User 0 passes every test of permissions.
  * Times     Seconds since the beginning of 1970. The library reads no clock.

@@ -35,7 +35,7 @@ help:
 	@echo 'make page-test                runs rows of the tests through the program for WebAssembly, compares it with ./unixvol in 2,000 runs, and drives the page;'
 	@echo '                              what is missing is skipped aloud'
 	@echo 'make bench                    times the program against one in plain Rust that does the same; needs rustc, and some minutes'
-	@echo 'make faults                   refuses each allocation in turn, of the libraries and of the program, and runs the program 10,000 times where memory, the'
+	@echo 'make faults                   refuses each allocation in turn, of the libraries and of the program, and runs the program thousands of times where memory, the'
 	@echo '                              stack, the disk or a descriptor fails it, or a signal ends it; needs rustc, and some minutes'
 	@echo 'make wrong-bodies             tries the wrong bodies that the gate leaves out, on a copy: the prover has to refuse each; CRATES="NAME .." tries those of'
 	@echo '                              some crates'

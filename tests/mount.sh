@@ -401,6 +401,12 @@ has 'names with spaces' 0 "$("$mount" --background 7 'an image' 'a folder' 2>&1;
 echo new > 'a folder/seventh'
 as_umount 0 '' 'a folder'
 has 'what was saved in a file with a space' new "$("$program" get 7 'an image' /seventh)"
+mkdir $'folder\n'
+cp volume $'image\n'
+has 'names with newlines at their ends' 0 "$("$mount" --background 7 $'image\n' $'folder\n' 2>&1; echo $?)"
+echo new > $'folder\n/line'
+as_umount 0 '' $'folder\n'
+has 'what was saved in a file with a newline at its end' new "$("$program" get 7 $'image\n' /line)"
 
 # Without standard output; and with a program in a folder of PATH that isn't absolute.
 "$mount" --background 7 volume mnt >&-

@@ -41,6 +41,7 @@ UNIXVOL=nothing refuses_mount 3 'unixvol-mount: there is no program nothing: ins
 mkdir -p holder/below
 cp "$linux" holder/below/image
 refuses_mount 3 "unixvol-mount: $PWD/holder/below/image is in $PWD/holder, where the volume would hide it: take another folder" 7 holder/below/image holder
+refuses_mount 3 "unixvol-mount: $PWD/holder/rescued is in $PWD/holder, where the volume would hide it: take another folder" --rescue holder/rescued 7 "$linux" holder
 
 # as_umount STATUS LINE WORD..: unixvol-umount prints this line, if it isn't empty, and ends with this status
 as_umount() {
@@ -407,6 +408,14 @@ has 'names with newlines at their ends' 0 "$("$mount" --background 7 $'image\n' 
 echo new > $'folder\n/line'
 as_umount 0 '' $'folder\n'
 has 'what was saved in a file with a newline at its end' new "$("$program" get 7 $'image\n' /line)"
+
+# An image to which the given path leads through the folder.
+cd mnt
+timeout 20 "$mount" --background --allow-other 7 ../volume . > ../told 2>&1
+has 'the status of a mount by a path through the folder' '0 ' "$? $(cat ../told)"
+cd ..
+echo new > mnt/through
+all_saved 'a mount by a path through the folder' volume through
 
 # Without standard output; and with a program in a folder of PATH that isn't absolute.
 "$mount" --background 7 volume mnt >&-

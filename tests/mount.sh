@@ -487,6 +487,25 @@ unixvol: $PWD/small: not saved; the volume is in $PWD/small.unixvol-rescue-0"
 has 'what was rescued' 'touched' "$("$program" ls 7 small.unixvol-rescue-0 | awk '$2 == "touched" { print $2 }')"
 has 'the file that replaced it' '' "$(cmp old small 2>&1)"
 
+# A user who mounts by fusermount3 gets no Python module from the folder in which he calls.
+mkdir -m 777 called
+printf '%s\n' '#!/bin/sh' 'echo "fusermount3: not today" >&2' 'exit 1' > called/fusermount3
+printf '%s\n' 'import sys' 'sys.exit("a module of the folder")' > called/socket.py
+chmod +x called/fusermount3
+cp "$mount" "$program" called
+"$program" mkfs 7 called/volume 400 10 0 0 1000
+chmod 711 .
+mknod -m 666 fuse c 10 229
+# as_user COMMAND: runs it as another user in that folder
+as_user() { (cd called && PATH=$PWD:/usr/bin:/bin UNIXVOL=./${program##*/} setpriv --reuid=65534 --regid=65534 --clear-groups sh -c "$1") 2>&1; }
+if as_user 'python3 -I -c "import socket"' > said && mount --bind fuse /dev/fuse; then
+    mkdir called/mnt
+    has 'a mount by fusermount3' 'fusermount3: not today 3' "$(as_user 'unixvol-mount 7 volume mnt; echo $?' | paste -s -d ' ')"
+    umount /dev/fuse
+else
+    echo 'skipped: mounts by fusermount3, since no other user runs Python here'
+fi
+
 # Within a user's namespace all files are his.
 if unshare -rm true 2> /dev/null; then
     "$program" mkfs 7 volume 400 10 0 0 1000

@@ -377,6 +377,10 @@ has 'what was saved once there was room' new "$("$program" get 7 room/volume /ne
 mount -o remount,size=1m room
 in_background '' 7 room/volume --read-only
 as_umount 0 '' mnt
+# If nothing can be written there, that is reported at once.
+mount -o remount,ro room
+in_background "unixvol-mount: no save can be made, since $PWD/room/volume can't be written" 7 room/volume
+as_umount 0 '' mnt
 umount room
 
 # A last save that fails goes into the file of --rescue.
@@ -493,7 +497,9 @@ printf '%s\n' '#!/bin/sh' 'echo "fusermount3: not today" >&2' 'exit 1' > called/
 printf '%s\n' 'import sys' 'sys.exit("a module of the folder")' > called/socket.py
 chmod +x called/fusermount3
 cp "$mount" "$program" called
+ln -s unixvol-mount called/unixvol-umount
 "$program" mkfs 7 called/volume 400 10 0 0 1000
+chmod 666 called/volume
 chmod 711 .
 mknod -m 666 fuse c 10 229
 # as_user COMMAND: runs it as another user in that folder
@@ -501,6 +507,12 @@ as_user() { (cd called && PATH=$PWD:/usr/bin:/bin UNIXVOL=./${program##*/} setpr
 if as_user 'python3 -I -c "import socket"' > said && mount --bind fuse /dev/fuse; then
     mkdir called/mnt
     has 'a mount by fusermount3' 'fusermount3: not today 3' "$(as_user 'unixvol-mount 7 volume mnt; echo $?' | paste -s -d ' ')"
+    mkdir called/kept
+    mv called/volume called/kept
+    if as_user 'unshare -rm true' > said; then
+        has 'a mount of a file in a folder that is kept' "unixvol-mount: no save can be made, since no file can be made in $PWD/called/kept/
+0" "$(as_user 'unshare -rm sh -c "unixvol-mount --background 7 kept/volume mnt && unixvol-umount mnt; echo \$?"')"
+    fi
     umount /dev/fuse
 else
     echo 'skipped: mounts by fusermount3, since no other user runs Python here'

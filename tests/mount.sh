@@ -493,7 +493,7 @@ has 'the file that replaced it' '' "$(cmp old small 2>&1)"
 
 # A user who mounts by fusermount3 gets no Python module from the folder in which he calls.
 mkdir -m 777 called
-printf '%s\n' '#!/bin/sh' 'echo "fusermount3: not today" >&2' 'exit 1' > called/fusermount3
+printf '%s\n' '#!/bin/sh' 'echo "fusermount3: not on $4 today" >&2' 'exit 1' > called/fusermount3
 printf '%s\n' 'import sys' 'sys.exit("a module of the folder")' > called/socket.py
 chmod +x called/fusermount3
 cp "$mount" "$program" called
@@ -506,7 +506,10 @@ mknod -m 666 fuse c 10 229
 as_user() { (cd called && PATH=$PWD:/usr/bin:/bin UNIXVOL=./${program##*/} setpriv --reuid=65534 --regid=65534 --clear-groups sh -c "$1") 2>&1; }
 if as_user 'python3 -I -c "import socket"' > said && mount --bind fuse /dev/fuse; then
     mkdir called/mnt
-    has 'a mount by fusermount3' 'fusermount3: not today 3' "$(as_user 'unixvol-mount 7 volume mnt; echo $?' | paste -s -d ' ')"
+    ln -s mnt called/led
+    for name in mnt led mnt/.; do
+        has "a mount on $name by fusermount3" "fusermount3: not on $PWD/called/mnt today 3" "$(as_user "unixvol-mount 7 volume $name; echo \$?" | paste -s -d ' ')"
+    done
     mkdir called/kept
     mv called/volume called/kept
     if as_user 'unshare -rm true' > said; then

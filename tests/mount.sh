@@ -383,6 +383,16 @@ in_background "unixvol-mount: no save can be made, since $PWD/room/volume can't 
 as_umount 0 '' mnt
 umount room
 
+# Once it has ended, the file system in which it was called can be unmounted.
+mount -t tmpfs none room
+(cd room && exec "$mount" 7 ../volume ../mnt > ../said 2> ../told) &
+wrapper=$!
+for _ in {1..100}; do ! mountpoint -q mnt || break; sleep 0.1; done
+sleep 0.3
+umount mnt
+unmounted 'a mount that was called in a file system' 0 ''
+has 'the file system in which it was called' 0 "$(umount room 2>&1; echo $?)"
+
 # A last save that fails goes into the file of --rescue.
 if "$program" serve --help | grep -q -e --rescue; then
     "$program" mkfs 7 lost 400 10 0 0 1000

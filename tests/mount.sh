@@ -34,6 +34,7 @@ refuses_mount 1 'unixvol: unsound, rule 2' --read-only 6 "$linux" mnt
 refuses_mount 1 'unixvol: unsound, rule 2' --background 6 "$linux" mnt
 refuses_mount 3 "unixvol: cannot read $PWD/none.img" --read-only 7 none.img mnt
 refuses_mount 3 "unixvol-mount: $PWD/none is no folder: make it by mkdir, or, if a server died there, unmount it by umount -l" --read-only 7 "$linux" none
+refuses_mount 3 "unixvol-mount: $PWD/no\\c\\ne is no folder: make it by mkdir, or, if a server died there, unmount it by umount -l" --read-only 7 "$linux" 'no\c\ne'
 changed "$linux" links.img $((1024 + 64 * 93 + 2)) 09
 refuses_mount 1 'unixvol: unsound, rule 12' 7 links.img mnt
 UNIXVOL=nothing refuses_mount 3 'unixvol-mount: there is no program nothing: install unixvol, or set UNIXVOL to where it is' --read-only 7 "$linux" mnt

@@ -224,6 +224,15 @@ has 'the metadata of the package' "Version: $version" "$(grep ^Version: "$packag
 tree home > before
 says 'a second install' 0 "$name, from dist/, to $folder/home" make -C one install PREFIX="$folder/home"
 has 'a second install is as the first' '' "$(tree home | diff before -)"
+rm -r home/lib/python3*
+says 'an install after the package was removed' 0 "$name, from dist/, to $folder/home" make -C one install PREFIX="$folder/home"
+has 'an install after the package was removed is as the first' '' "$(tree home | diff before -)"
+rm home/bin/unixvol
+mkdir home/bin/unixvol
+says 'make uninstall of a file that is a folder now' 2 'bin/unixvol' make -C one uninstall PREFIX="$folder/home"
+rmdir home/bin/unixvol
+says 'an install after that' 0 "$name, from dist/, to $folder/home" make -C one install PREFIX="$folder/home"
+has 'an install after that is as the first' '' "$(tree home | diff before -)"
 mkdir "$packages/unixvol/__pycache__"
 touch "$packages/unixvol/__pycache__/_paths.cpython-311.pyc" home/bin/another
 says 'make uninstall' 0 "removed from $folder/home" make -C one uninstall PREFIX="$folder/home"

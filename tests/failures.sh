@@ -132,6 +132,11 @@ has 'all rows' 'all: 10 passed, 9 failed' "$(grep '^all: ' came | sed 's/, in.*/
 has 'the rows that failed' "$(wc -l < wanted)" "$(sed -n '/^tests\/fails.sh:$/,/^[0-9]* passed/p' came | tail -n +2 | wc -l)"
 repository/tests/run.sh "$echo" serve passes > came 2>&1
 has 'the status of scripts of which none fails' 0 $?
+# One that is killed with what runs it has failed.
+printf '%s\n' '#!/bin/sh' 'kill -KILL $PPID' "echo '1 passed, 0 failed'" > repository/tests/killed.sh
+chmod +x repository/tests/killed.sh
+repository/tests/run.sh "$echo" killed passes > came 2>&1
+has 'a script that is killed with what runs it' '1 failed: tests/killed.sh' "$? $(tail -n 1 came)"
 repository/tests/run.sh "$echo" nothing > came 2>&1
 has 'a script that is not there' '2 there is no script tests/nothing.sh' "$? $(sed 's/.*: //' came)"
 repository/tests/run.sh nothing passes > came 2>&1

@@ -29,8 +29,9 @@ runs() {
     else
         last="ended with status $status, without a count"
     fi
-    if [ "$status" != 0 ] || [[ $last != *' passed, 0 failed' ]]; then
-        : > "$room/$1.failed"
+    if [ "$status" = 0 ] && [[ $last == *' passed, 0 failed' ]]; then
+        : > "$room/$1.passed"
+    else
         last="FAILED: $last"
     fi
     echo "tests/$1.sh: $last, in $((SECONDS - begun)) s"
@@ -60,9 +61,11 @@ done
 
 failed=()
 for name; do
-    [ -e "$room/$name.failed" ] || continue
+    # (one without a mark may have ended without a word, as on a full disk)
+    [ ! -e "$room/$name.passed" ] || continue
     failed+=("tests/$name.sh")
     printf '\n%s\n' "tests/$name.sh:"
+    [ -e "$room/$name" ] || { echo 'it left no output'; continue; }
     head -n 300 "$room/$name"
     lines=$(wc -l < "$room/$name")
     [ "$lines" -le 300 ] || echo ".. and $((lines - 300)) lines more: tests/$name.sh $program"

@@ -161,7 +161,11 @@ if [ -n "$(command -v script)" ]; then
         sleep 0.5
         has 'what is told of a lock' 'unixvol: locked.img: waiting for another program that has it locked' "$(replaces rmdir 6 locked.img /e 5 | head -n 1)"
         wait
+    else
+        echo 'skipped: the line on a lock, since there is no flock'
     fi
+else
+    echo 'skipped: lines on a terminal, since there is no script'
 fi
 
 grep -q 'each link count is the number of entries' <("$program" check 6 broken.v6)
@@ -271,6 +275,8 @@ if mount -t tmpfs -o size=64k tmpfs full 2> error; then
     "$program" mkfs 6 full/disk.img 400 10 0 0 --explain > output 2> error
     has 'a file on a full disk' '3 unixvol: cannot write full/disk.img unixvol: full/disk.img: No space left on device (os error 28)' "$? $(paste -s -d ' ' error)"
     umount full
+else
+    echo 'skipped: a file on a full disk, since no disk can be mounted here'
 fi
 if command -v script > /dev/null; then
     script -qec "'$program' export 6 $image --explain" /dev/null < /dev/null > typescript
@@ -279,6 +285,8 @@ if command -v script > /dev/null; then
         script -qec "'$program' import 6 $volume --explain" /dev/null < /dev/null > typescript
         has "an archive from a terminal into $volume" "3 unixvol: cannot read - unixvol: standard input: it is a terminal, which gives no archive" "$? $(tr -d '\r' < typescript | paste -s -d ' ' -)"
     done
+else
+    echo 'skipped: archives to and from a terminal, since there is no script'
 fi
 
 # A refused allocation has its line too: there is too little memory for the image.
@@ -298,7 +306,7 @@ has 'an archive that is cut' '1 unixvol: archive, byte 0: cut off' "$? $(paste -
 for row in 'a gzip file: `gzip -dc` prints the archive in it|gzip -c' 'a bzip2 file: `bzip2 -dc` prints the archive in it|bzip2 -c' \
     'an xz file: `xz -dc` prints the archive in it|xz -c' 'a zip file, and no archive of tar|cat zipped'; do
     tool=${row#*|}
-    [ -n "$(command -v "${tool%% *}")" ] || continue
+    [ -n "$(command -v "${tool%% *}")" ] || { echo "skipped: an archive that is packed, since there is no ${tool%% *}"; continue; }
     { printf 'PK\3\4'; head -c 1020 /dev/zero; } > zipped
     { head -c 100000 /dev/urandom; } | $tool > packed
     "$program" import 6 "$image" --explain < packed > output 2> error

@@ -326,6 +326,8 @@ if [ -n "$(command -v script)" ]; then
     has 'the codes for colours where NO_COLOR says something' 0 "$(NO_COLOR=1 codes xterm)"
     has 'the codes for colours where NO_COLOR is empty' 496 "$(NO_COLOR='' codes xterm)"
     has 'the codes for colours of a dumb terminal' 0 "$(codes dumb)"
+else
+    echo 'skipped: a map on a terminal, since there is no script'
 fi
 # The blocks of one file are those of its extents, its indirect blocks too; all others are dots, and in the legend they are one number.
 runs map --file /long 7 deep.v7

@@ -326,6 +326,8 @@ if command -v flock > /dev/null; then
     wait
     exec 9<&-
     saves 'a file that was locked for a while' locked new
+else
+    echo 'skipped: a file that is locked, since there is no flock'
 fi
 cat old > pipe &
 prints none migrate pipe fresh 100 5 168496143

@@ -163,6 +163,8 @@ if [ "$(id -u)" = 0 ]; then
         echo $? > status
         wants 'mkfs by a super-user who may not give files away' 0 none none
         has 'the rights of a file that cannot be given away' '0:0 705' "$(stat -c '%u:%g %a' shared/a)"
+    else
+        echo 'skipped: files of a group, since there is no setpriv'
     fi
     # The owner of a folder moves the new file while it is written, and puts a link to a file of the super-user in its place.
     if command -v setpriv > /dev/null && command -v perl > /dev/null; then
@@ -184,7 +186,11 @@ if [ "$(id -u)" = 0 ]; then
         has 'the new file was moved' yes "$([ -e home/moved ] && echo yes)"
         has 'a file of the super-user, after 30 tries to be given it' '0:0 600' "$(stat -c '%u:%g %a' secret)"
         saves 'what that file holds' secret <(echo secret)
+    else
+        echo 'skipped: a new file that is moved, since setpriv or perl is not here'
     fi
+else
+    echo 'skipped: owners and groups, since only root gives files away'
 fi
 
 # A full disk, simulated by a limit on the size of files: the old file stays, and no new one is left.

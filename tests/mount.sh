@@ -526,6 +526,8 @@ if as_user 'python3 -I -c "import socket"' > said && mount --bind fuse /dev/fuse
     if as_user 'unshare -rm true' > said; then
         has 'a mount of a file in a folder that is kept' "unixvol-mount: no save can be made, since no file can be made in $PWD/called/kept/
 0" "$(as_user 'unshare -rm sh -c "unixvol-mount --background 7 kept/volume mnt && unixvol-umount mnt; echo \$?"')"
+    else
+        echo 'skipped: a folder that is kept, since no other user makes a namespace here'
     fi
     umount /dev/fuse
 else
@@ -542,6 +544,8 @@ if unshare -rm true 2> /dev/null; then
     has 'all files in a namespace' '0 0' "$(cat output error told)"
     has 'files of a namespace' 'more new 7 3 0 0' "$("$program" get 7 volume /his) $("$program" get 7 volume /new) $(
         "$program" ls -l 7 volume | awk '/ his$/ { his = $4 " " $5 } / new$/ { print his, $4, $5 }')"
+else
+    echo "skipped: a user's namespace, since none can be made here"
 fi
 
 echo "$passed passed, $failed failed"

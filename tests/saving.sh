@@ -121,12 +121,16 @@ wants 'get from a pipe' 0 hello none
 if command -v python3 > /dev/null; then
     python3 -c 'import socket; socket.socket(socket.AF_UNIX).bind("socket")'
     refuses 3 'unixvol: cannot write socket' rm 6 socket /a 1
+else
+    echo 'skipped: a socket, since there is no python3'
 fi
 if script -qec true /dev/null > /dev/null 2>&1 < /dev/null; then
     script -qec "'$program' rm 6 /dev/tty /a 1 2> error; echo \$? > status" /dev/null > /dev/null 2>&1 < /dev/null
     : > output
     echo 'unixvol: cannot write /dev/tty' > line
     wants 'rm of a name in a terminal' 3 none line
+else
+    echo 'skipped: a terminal, since there is no script'
 fi
 refuses 1 'unixvol: unsound, rule 1' rm 6 /dev/null /a 1
 cp volumes/linked copied
@@ -222,6 +226,8 @@ if command -v flock > /dev/null; then
         wants "${given[0]} of an image that was locked" 0 none none
         has "${given[0]} of an image that was locked, once it isn't" no "$([ "$(stat -c %i shared_image)" = "$(cat stood)" ] && echo yes || echo no)"
     done
+else
+    echo 'skipped: images that are locked, since there is no flock'
 fi
 
 # A command that waits for its other input leaves the image to others meanwhile, and then changes the result.

@@ -282,6 +282,10 @@ class Faults(unittest.TestCase):
         with made() as volume:
             self.assertRaises(unixvol.NoReport, volume.report, "fsck")
 
+    def test_all_names(self):
+        public = {name for name, it in vars(unixvol).items() if name[0] != "_" and not isinstance(it, type(os))}
+        self.assertEqual(public, set(unixvol.__all__))
+
     def test_copies(self):
         for fault in unixvol.NoEntry("/x"), unixvol.Unsound(7), unixvol.Unsound(7, "old"), unixvol.Closed("closed"), unixvol.Changed("gone", "/x"):
             again = pickle.loads(pickle.dumps(fault))

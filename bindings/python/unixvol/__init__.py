@@ -106,6 +106,7 @@ __all__ = [
     "IsDirectory",
     "Listing",
     "Locked",
+    "LongName",
     "Member",
     "NoDevice",
     "NoEdition",

@@ -102,6 +102,9 @@ test_examples() {
     runs 'inject' "$room/inject" 7 "$room/pack" README.md /usr/README.md
     "$room/list" 7 "$room/pack" /usr > "$room/found"
     runs 'the injected file' grep -q " $(wc -c < README.md) README.md$" "$room/found"
+    runs 'inject from a pipe' "$room/inject" 7 "$room/pack" <(cat README.md) /usr/piped
+    "$room/list" 7 "$room/pack" /usr > "$room/found"
+    runs 'the file injected from a pipe' grep -q " $(wc -c < README.md) piped$" "$room/found"
     cp "$room/pack" "$room/before"
     fails 1 'inject a name that is there' "$room/inject" 7 "$room/pack" README.md /usr/README.md
     runs 'the pack is as it was' cmp "$room/before" "$room/pack"

@@ -11,14 +11,22 @@
 static void *read_file(const char *name, size_t *count)
 {
     FILE *file = fopen(name, "rb");
-    long end = -1;
-    if (file && fseek(file, 0, SEEK_END) == 0)
-        end = ftell(file);
-    void *bytes = end >= 0 ? malloc((size_t)end + 1) : NULL;
+    uint8_t *bytes = NULL;
+    size_t room = 0;
     *count = 0;
-    if (bytes) {
-        rewind(file);
-        *count = fread(bytes, 1, (size_t)end, file);
+    while (file && !feof(file) && !ferror(file)) {
+        if (*count == room) {
+            room = 2 * room + 65536;
+            uint8_t *grown = realloc(bytes, room);
+            if (!grown)
+                break;
+            bytes = grown;
+        }
+        *count += fread(bytes + *count, 1, room - *count, file);
+    }
+    if (!file || ferror(file) || !feof(file)) {
+        free(bytes);
+        bytes = NULL;
     }
     if (file)
         fclose(file);

@@ -201,6 +201,8 @@ says 'make run' 0 hello make -C one run
 says 'make run in the archive' 0 hello make -C "$name" run
 says 'make install' 0 "$name, from dist/, to $folder/home" make -C one install PREFIX="$folder/home"
 says 'make install in the archive' 0 '' make -C "$name" install PREFIX=/usr DESTDIR="$folder/root"
+says 'tools/install.sh with a relative DESTDIR' 0 '' env DESTDIR=staged one/tools/install.sh /usr
+says 'tools/remove.sh with a relative DESTDIR' 0 "removed from $folder/staged/usr" env DESTDIR=staged one/tools/remove.sh /usr
 says 'it runs' 0 "unixvol $version" home/bin/unixvol --version
 says 'the second name of unixvol-mount' 0 'usage: unixvol-umount FOLDER' home/bin/unixvol-umount --help
 for path in bin include lib share; do

@@ -3,6 +3,7 @@
 # is set, is a folder in which PREFIX is.
 set -euo pipefail
 prefix=$(realpath -m "${1:?usage: $0 PREFIX}")
+[ -z "${DESTDIR:-}" ] || DESTDIR=$(realpath -m "$DESTDIR")
 cd "$(dirname "$0")/.."
 if [ -x unixvol ]; then
     room=$(mktemp -d)

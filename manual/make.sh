@@ -172,7 +172,8 @@ _unixvol_paths() {
     for name in "${@:2}"; do volume+=("$(_unixvol_plain "$name")"); done
     while IFS= read -r name; do
         name=${name:6}
-        [[ $name == . || $name == .. ]] || COMPREPLY+=("$folder/$name")
+        # bash would leave these two characters to be carried out.
+        [[ $name == . || $name == .. || $name == *[\$\`]* ]] || COMPREPLY+=("$folder/$name")
     done < <(unixvol ls "${volume[@]}" "$folder/" 2> /dev/null)
     [[ $1 == /* ]] || COMPREPLY=("${COMPREPLY[@]#/}")
     mapfile -t COMPREPLY < <(compgen -W "$(printf '%q ' "${COMPREPLY[@]}")" -- "$1")

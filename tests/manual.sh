@@ -62,6 +62,11 @@ completes '6 7' mkfs ''
 completes 'disk.img' ls 7 disk
 completes '/etc/motd' get 7 disk.img /etc/m
 completes 'etc/empty etc/motd etc/passwd' get 7 disk.img etc/
+# A name in a volume can't be a command of the shell. (A name with `$` or a backquote gets neither a backslash nor quotes when it is completed.)
+"$program" mkfs 7 odd.img 400 10 0 0 1000
+for name in '$(reboot)' '`reboot`' 'plain name'; do "$program" mkdir 7 odd.img "/$name"; done
+completes '/plain name' get 7 odd.img /
+completes '' get 7 odd.img '/`'
 completes '--help' rm --he
 completes '--recursive' rm --re
 completes '--svg' map --sv

@@ -17,7 +17,7 @@ runner() { [ "${1%%-*}" = "$(uname -m)" ] || echo "qemu-${1%%-*}"; }
 # test_program MACHINE: it is linked statically, and does what the rows say
 test_program() {
     local program=$built/$1/unixvol script run
-    has "$1: what it needs of the system" '' "$(readelf -ldW "$program" | grep -E 'INTERP|NEEDED')"
+    has "$1: what it needs of the system" 0 "$(readelf -ldW "$program" | grep -E 'INTERP|NEEDED'; echo "${PIPESTATUS[0]}")"
     read -ra run < <(runner "$1")
     export SLOWER=1
     [ ${#run[@]} = 0 ] || SLOWER=10

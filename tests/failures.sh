@@ -139,6 +139,8 @@ repository/tests/run.sh "$echo" killed passes > came 2>&1
 has 'a script that is killed with what runs it' '1 failed: tests/killed.sh' "$? $(tail -n 1 came)"
 repository/tests/run.sh "$echo" nothing > came 2>&1
 has 'a script that is not there' '2 there is no script tests/nothing.sh' "$? $(sed 's/.*: //' came)"
+repository/tests/run.sh "$echo" > came 2>&1
+has 'no scripts at all' 'usage: tests/run.sh PROGRAM NAME..' "$(sed 's/.*: usage/usage/' came)"
 repository/tests/run.sh nothing passes > came 2>&1
 has 'a program that is not there' 2 $?
 

@@ -4,8 +4,10 @@
 # Usage: tests/run.sh PROGRAM NAME.. where `looks` names tests/looks.sh. JOBS is how many run at once: as many as there are processors, if it isn't said.
 # Those in `alone` run one by one after the others, since their rows wait for a server or for the kernel only so long.
 set -euo pipefail
-program=$(realpath "${1:?usage: tests/run.sh PROGRAM NAME..}")
+usage='usage: tests/run.sh PROGRAM NAME..'
+program=$(realpath "${1:?$usage}")
 shift
+: "${1:?$usage}"
 cd "$(dirname "$0")/.."
 alone='serve mount'
 room=$(mktemp -d)

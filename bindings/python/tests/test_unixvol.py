@@ -506,6 +506,19 @@ class Saving(InFolder):
         self.assertRaises(ValueError, unixvol.open, b"", 7, lock=True)
         self.assertRaises(ValueError, unixvol.open, "/dev/null", 7, lock=True)
 
+    def test_an_interrupt_after_the_save(self):
+        with unixvol.open(self.image(), 7, lock=True) as volume:
+            (volume / "first").create()
+            with mock.patch.object(_files, "_sync_folder", side_effect=KeyboardInterrupt):
+                self.assertRaises(KeyboardInterrupt, volume.save)
+            self.assertEqual(self.names(), ["disk.img"])
+            with builtins.open(self.name, "rb") as file:
+                self.assertRaises(BlockingIOError, fcntl.flock, file, fcntl.LOCK_EX | fcntl.LOCK_NB)
+            (volume / "second").create()
+            volume.save()
+        with unixvol.open(self.name, 7) as volume:
+            self.assertTrue((volume / "first").exists() and (volume / "second").exists())
+
     def test_threads_that_save(self):
         with unixvol.open(self.image(), 7) as volume:
             threads = [threading.Thread(target=volume.save) for _ in range(8)]

@@ -85,6 +85,8 @@ class ImageFile:
         else:
             os.close(self.lock)
             self.lock = new
+        # This comes last, since an interrupt may end it, and the file is saved already.
+        _sync_folder(os.path.dirname(place))
 
     def close(self, close: Callable[[int], None] = os.close) -> None:
         """Ends the lock, if it was kept."""
@@ -188,7 +190,6 @@ def _replace(place: str, data: bytes, old: int | None, known: Stamp | None, part
         with suppress(FileNotFoundError):
             os.unlink(beside)
         raise
-    _sync_folder(os.path.dirname(place))
     return new, stamp
 
 

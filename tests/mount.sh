@@ -38,6 +38,8 @@ refuses_mount 3 "unixvol-mount: $PWD/no\\c\\ne is no folder: make it by mkdir, o
 changed "$linux" links.img $((1024 + 64 * 93 + 2)) 09
 refuses_mount 1 'unixvol: unsound, rule 12' 7 links.img mnt
 UNIXVOL=nothing refuses_mount 3 'unixvol-mount: there is no program nothing: install unixvol, or set UNIXVOL to where it is' --read-only 7 "$linux" mnt
+mkdir gone
+has 'a path from a folder that is gone' 'unixvol: cannot read ./none.img' "$(mnt=$PWD/mnt && cd gone && rmdir ../gone && "$mount" 7 none.img "$mnt" 2>&1 | tail -n 1)"
 mkdir bare
 has 'a mount without a tool that it needs' '3 unixvol-mount: there is no program find, which is needed: install it' \
     "$(PATH=$PWD/bare "$mount" 7 "$linux" mnt 2> error; echo $?) $(cat error)"

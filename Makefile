@@ -9,7 +9,7 @@ PREFIX ?= /usr/local
 
 # The scripts of rows, tests/NAME.sh, that the gate runs the built program through. Those that take longest come first.
 ROWS = many_trees saving checkers looks volumes icheck scripts checks archives release calls explaining examples manual mkfs builds cat changes trees folders syncs plays migrations repairs words \
-    identify packs resizes editions fields diffs traces rescue salvage lessons progress failures readme simh serve mount
+    identify packs resizes editions fields diffs traces rescue salvage lessons progress failures bodies readme simh serve mount
 PROGRAM = ./unixvol
 PARTS = counts rows
 

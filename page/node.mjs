@@ -155,12 +155,15 @@ function main() {
     process.exit(start(module, words(), process.env, machine).status);
 }
 
-/** True if Node was started with this file, or with unixvol.mjs beside it. */
+/** True if Node was started with this file, or with unixvol.mjs beside it. It need not have been started with a file. */
 function isCommand() {
-    if (process.argv[1] === undefined) return false;
-    const here = fs.realpathSync(path.dirname(fileURLToPath(import.meta.url)));
-    const started = fs.realpathSync(process.argv[1]);
-    return path.dirname(started) === here && ['unixvol.mjs', 'node.mjs'].includes(path.basename(started));
+    try {
+        const here = fs.realpathSync(path.dirname(fileURLToPath(import.meta.url)));
+        const started = fs.realpathSync(process.argv[1]);
+        return path.dirname(started) === here && ['unixvol.mjs', 'node.mjs'].includes(path.basename(started));
+    } catch {
+        return false;
+    }
 }
 
 if (isCommand()) main();

@@ -515,5 +515,5 @@ export function run(module, words, files, options = {}) {
     return { status, output: printed[0].joined(), error: printed[1].joined(), memory };
 }
 
-// Under Node this file is also a command.
-if (/(^|[\\/])unixvol\.mjs$/.test(globalThis.process?.argv?.[1] ?? '')) import('./node.mjs');
+// Under Node this file is also a command, and by a link to it too.
+if (globalThis.process?.versions?.node) import('./node.mjs');

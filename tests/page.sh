@@ -22,6 +22,8 @@ test_command() {
     export SLOWER=3
     stands_for node "$built/unixvol.mjs"
     has 'Node: --version' "unixvol $version" "$("$room/unixvol" --version)"
+    ln -s "$built/unixvol.mjs" "$room/linked"
+    has 'Node: --version, by a link' "unixvol $version" "$(node "$room/linked" --version)"
     for script in $rows; do runs "Node: $script" "tests/$script.sh" "$room/unixvol"; done
 }
 

@@ -6,6 +6,7 @@ import { addFile, at, choose, open, removeFile, run, state, wholeImage } from '.
 import { reveal } from './tree.mjs';
 
 const ASKED = 1 << 28; // bytes of an archive after which the page asks
+const NAME = 14; // the most bytes of a name in a volume
 const join = (up, name) => `${up === '/' ? '' : up}/${name}`;
 
 /** Runs a command that changes the volume, and says what came of it. Returns true if it succeeded. */
@@ -29,14 +30,20 @@ export async function putFiles(list, directory) {
   const count = await putNamed(names, directory);
   for (const [, outside] of names) await removeFile(outside);
   if (count > 1) say(`${counted(count, 'file')} put into ${directory.path}.`);
-  if (count) await reveal(join(directory.path, names[count - 1][0].slice(0, 14)));
+  if (count) await reveal(join(directory.path, names[count - 1][0].slice(0, NAME)));
 }
 
-/** Puts files by one command, if they have their names outside too, else one by one. Returns how many went in. */
+/** Puts files by one command, if they have their names outside too, else one by one. Of several with a name that would be cut none is put, as by that command:
+ * two could be the same file. Returns how many went in. */
 async function putNamed(names, directory) {
   if (names.length > 1 && names.every(([name, outside]) => name === outside)) {
     const isDone = await changes(['put', ...at(), '-t', directory.word, ...names.map(([name]) => name)], '');
     return isDone ? names.length : 0;
+  }
+  const long = names.length > 1 && names.find(([name]) => new TextEncoder().encode(name).length > NAME);
+  if (long) {
+    say(`${long[0]} has a name above ${NAME} bytes: nothing was put into ${directory.path}.`, true);
+    return 0;
   }
   for (const [k, [name, outside]] of names.entries()) {
     if (!(await changes(['put', ...at(), join(directory.word, name), outside], `${name} is in the volume.`))) return k;
@@ -48,7 +55,7 @@ export async function makeDirectory(directory) {
   const given = await asks('New directory', [{ name: 'name', label: `Name in ${directory.path}`, hint: 'At most 14 bytes.' }], { ok: 'Make' });
   if (!given?.name) return;
   if (await changes(['mkdir', ...at(), join(directory.word, given.name)], `${given.name} was made.`)) await reveal(join(directory.path,
-    given.name.slice(0, 14)));
+    given.name.slice(0, NAME)));
 }
 
 export async function makeSpecial(directory) {
@@ -63,7 +70,7 @@ export async function makeSpecial(directory) {
   if (!given?.name) return;
   const { name, kind, major, minor, perm } = given;
   if (await changes(['mknod', ...at(), join(directory.word, name), kind, major, minor, perm], `${name} was made.`)) await reveal(join(directory.path,
-    name.slice(0, 14)));
+    name.slice(0, NAME)));
 }
 
 export async function move(entry) {

@@ -324,6 +324,11 @@ def check_buttons(page, native, letter):
     names = [os.path.basename(it) for it in native.out("find", 7, "buttons.v7", "/new/sub").split()]
     has("three files that were put in", ["dear", "one", "three", "tty", "two"], names)
     page.select("/new/sub")
+    page.choose_files("document.getElementById('put').click()", [native.write(name, b"") for name in ("holiday photo 1", "holiday photo 2")])
+    page.says("holiday photo 1 has a name above 14 bytes: nothing was put into /new/sub")
+    native.write("buttons.v7", page.image("work.v7"))
+    has("files whose names would be cut", names, [os.path.basename(it) for it in native.out("find", 7, "buttons.v7", "/new/sub").split()])
+    page.select("/new/sub")
     page.click("#rm")
     page.answers()
     page.says("/new/sub was removed")

@@ -171,7 +171,12 @@ class Files(unittest.TestCase):
             for target, fault in ("there", unixvol.Exists), ("news", unixvol.Exists), ("fifteen-letters", unixvol.LongName):
                 self.assertRaises(fault, new.rename, volume / target)
             self.assertRaises(unixvol.Refusal, (volume / "etc").rename, volume / "lib")
+            new = new.rename("/etc/news")
+            self.assertEqual(str(new), "/etc/news")
             self.assertEqual((new.read_bytes(), (volume / "there").read_bytes()), (b"welcome\n", b"stays"))
+            (volume / "again").hardlink_to("etc/news")
+            self.assertEqual(new.stat().links, 2)
+            self.assertRaises(TypeError, new.rename, b"/news")
 
     def test_a_rename_that_is_refused_leaves_one_name(self):
         with made() as volume:

@@ -186,18 +186,20 @@ class VolumePath:
             if not exist_ok or not self.is_dir():
                 raise
 
-    def hardlink_to(self, target: VolumePath) -> None:
-        """Makes this path a further name of a node other than a directory."""
+    def hardlink_to(self, target: VolumePath | str) -> None:
+        """Makes this path a further name of a node other than a directory. A text is a path from the root."""
+        target = self._beside(target)
         if target.volume is not self.volume:
             raise ValueError("a node has all its names in one volume")
         self._expect_short()
         name = os.fsencode(str(self))
         target._call("link", name, len(name))
 
-    def rename(self, target: VolumePath) -> VolumePath:
-        """Gives a node other than a directory this other path, and returns that. As the systems do, it makes the further
-        name, and then removes the old one: if that is refused, the new one goes again, and times have changed. What is at
-        the other path already isn't replaced: `Exists`."""
+    def rename(self, target: VolumePath | str) -> VolumePath:
+        """Gives a node other than a directory this other path, and returns that. A text is a path from the root. As the
+        systems do, it makes the further name, and then removes the old one: if that is refused, the new one goes again, and
+        times have changed. What is at the other path already isn't replaced: `Exists`."""
+        target = self._beside(target)
         with self.volume._lock:
             target.hardlink_to(self)
             try:
@@ -273,6 +275,10 @@ class VolumePath:
         inode = ctypes.c_uint16()
         self._call(name, word(permissions, 16, "permissions"), *more, inode)
         return inode.value
+
+    def _beside(self, other: VolumePath | str) -> VolumePath:
+        """Another path, which as a text is one of this volume, from the root."""
+        return other if isinstance(other, VolumePath) else VolumePath(self.volume, other)
 
     def _expect_short(self) -> None:
         """Refuses to make a name that the volume would cut, since two such names may be one."""

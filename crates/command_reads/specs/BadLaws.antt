@@ -41,7 +41,7 @@ use Rattle.command_reads.specs.Unsound.{IsFileAt}
 use Rattle.command_reads.specs.Ways.{unsure_on}
 
 -- the path of each entry that `find` prints without `--lost`, and that an archive can hold, leads from the directory that was asked for to the entry's i-number
--- in every volume that has the bytes of the known blocks, if there is no line about a directory between them; whatever the lost blocks held (this project)
+-- in every volume that has the bytes of the known blocks, if there is no line about this directory or one between them; whatever the lost blocks held (this project)
 abbrev pub FoundPathsLeadRight : Type 0
 FoundPathsLeadRight = (edition : Edition) (ranges : List ReadRange) (at : ℕ) (sizes : Option VolumeSizes) (bytes volume image : List ℕ) (lost : List Bool)
     (start : FoundDirectory) (founds : List MetEntry) → IsRescued edition ranges at sizes bytes image lost → HasRead sizes ranges at bytes volume → Fits start.geometry image

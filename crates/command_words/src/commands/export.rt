@@ -49,7 +49,7 @@ same way, and so on. So if PATH is the root, every i-node of a known kind is exp
 these are all that is exported: names are known only below them. A root that is a file has its number too.
 
 With --cut, the image may be shorter than its volume, as after a transfer that broke off; its first 1024 bytes must be
-there. A block that isn't wholly there is lost. What is exported is right, whatever the lost blocks held: a file of
+there. A block that isn't wholly there is lost. The bytes of each file are right, whatever the lost blocks held: one of
 which something is lost is left out, or with --damaged written with zeros in place of the lost bytes. If blocks are
 lost, the lines on standard error say what is lost, and no more:
   unixvol: 3994 of 4872 blocks are lost

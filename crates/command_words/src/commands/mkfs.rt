@@ -37,8 +37,9 @@ a device or a pipe, the bytes are written into it.
 With --at the volume is made in IMAGE from block BLOCK on, and every other byte of IMAGE stays: a new file with them
 is written beside it and takes its place, with holes if it had some; into a device only the volume is written. IMAGE
 must be a file or a device that has all these blocks; it never becomes longer. No other volume may have one of them:
-they are searched for as `unixvol identify` does. A volume that begins at BLOCK itself is replaced without asking, and no line says what it held. The whole volume
-is in memory meanwhile. --at doesn't go together with --new.
+they are searched for as `unixvol identify` does. A volume that begins at BLOCK itself is replaced without asking, and
+so is what is in no volume that is found there, such as swap space; no line says what it held. The whole volume is in
+memory meanwhile. --at doesn't go together with --new.
 
 The root directory has permissions 0777. Its size is 32, for `.` and `..`. All other data blocks are free.
 

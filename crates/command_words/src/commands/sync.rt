@@ -24,8 +24,9 @@ Examples:
 
 PATH is in the volume, and comes before FOLDER, which is outside it. Each file of FOLDER and below it is compared
 with the one in the volume, all bytes of it. A file that is missing, or has other bytes, is put as by `put -p`, with
-its permissions and the time of its last modification in whole seconds. One with the same bytes gets its
-permissions and its time if they differ. A file that is the same is left alone, and if all are, IMAGE isn't written.
+its permissions and the time of its last modification in whole seconds, even if the one in the volume is newer. One
+with the same bytes gets its permissions and its time if they differ. A file that is the same is left alone, and if
+all are, IMAGE isn't written.
 A file that differs and has further names in the volume is replaced by a new one with its owner, so that its other
 names keep what they have.
 

@@ -542,6 +542,13 @@ unixvol: $3" "$(cat error)"
     done
 }
 
+# The indirect block of a file is lost: so is all that it leads to, though these blocks are there.
+"$program" export --bad-blocks 32 7 "$linux" > indirect.tar 2> error
+has 'the status without an indirect block' 5 $?
+has 'the lines without an indirect block' 'unixvol: 1 of 240 blocks are lost
+unixvol: usr/numbers: 2080 of 7200 bytes are lost: 5120-7199' "$(cat error)"
+has 'the file without an indirect block' 0 "$(tar -tf indirect.tar | grep -c numbers)"
+
 # A path that isn't found, while something is lost on the way, is no wrong path: the line has the last node of which something is lost.
 lost_on_way 13 /usr '/usr: i-node 96 is lost'
 lost_on_way 13 /usr/games/moved '/usr: i-node 96 is lost'

@@ -42,7 +42,7 @@ fn check_printed(rt: &impl Abort, stream: Stream, wanted: &[u8]) {
 }
 
 /// Makes a volume of 20 blocks, which prints nothing.
-pub(crate) fn made(rt: &impl Abort, alloc: Global) -> Vec<u8> {
+fn made(rt: &impl Abort, alloc: Global) -> Vec<u8> {
     let volume = NewVolume {
         edition: Edition::V6,
         blocks: 20,

@@ -1,4 +1,4 @@
-// Devices that fail at each of their calls.
+//! Devices that fail at each of their calls.
 ghost use Rattle.std.specs.Prelude.{◌<◌};
 
 use pdp_words::test_streams::{ScriptedReader, ScriptedWriter, WriteMishap};

@@ -1,11 +1,8 @@
 //! Tests of public functions, for properties that no contract states and no command shows: devices that fail at each of their calls, headers of
 //! another program, and the words of faults; threads that wait for one another, with sessions, as checkers and as scripts; the arguments
-//! of a log and a sweep; a volume that is cut at each of its bytes; what is left of a cut image, and of its tree; repairs; what differs between two
-//! trees; a list of a new volume, with a line of each kind; a view that learns twice; and functions that no command calls.
+//! of a log and a sweep; a volume that is cut at each of its bytes; a view that learns twice; and functions that no command calls.
 #![tactic(auto)]
 
-#[cfg(test)]
-mod builds;
 #[cfg(test)]
 mod checkers;
 #[cfg(test)]
@@ -15,8 +12,6 @@ mod cuts;
 #[cfg(test)]
 mod devices;
 #[cfg(test)]
-mod fields;
-#[cfg(test)]
 mod fixtures;
 #[cfg(test)]
 mod headers;
@@ -25,24 +20,14 @@ mod layers;
 #[cfg(test)]
 mod ledgers;
 #[cfg(test)]
-mod lost_blocks;
-#[cfg(test)]
 mod meeting;
 #[cfg(test)]
 mod migrations;
 #[cfg(test)]
 mod play;
 #[cfg(test)]
-mod repairs;
-#[cfg(test)]
-mod rescued_files;
-#[cfg(test)]
-mod syncs;
-#[cfg(test)]
 mod texts;
 #[cfg(test)]
 mod threads;
-#[cfg(test)]
-mod trees;
 #[cfg(test)]
 mod views;

@@ -1,4 +1,4 @@
-// The texts of refusals and faults.
+//! The texts of refusals and faults.
 use pdp_words::{LoadFault, SaveFault};
 use std::alloc::Global;
 use std::fmt::Display;

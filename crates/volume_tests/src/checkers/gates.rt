@@ -1,4 +1,4 @@
-// Tests of gates: four workers that work at the same time, and each piece of work between two calls of the gate.
+//! Tests of gates: four workers that work at the same time, and each piece of work between two calls of the gate.
 use crate::checkers::fixtures::{BLOCKS, check_report, sixth_image};
 use crate::meeting::Meeting;
 use std::sync::atomic::{AtomicU64, Ordering};

@@ -1,4 +1,4 @@
-// Sweeps whose seats are stepped by hand.
+//! Sweeps whose seats are stepped by hand.
 ghost use Rattle.std.specs.Prelude.{◌≡◌, ◌≤◌, ◌<◌, All, length, vec_len};
 ghost use Rattle.vol_check.specs.Layouts.{IsFor, HasSameHead, seat_count};
 ghost use Rattle.vol_check.specs.Steps.{Ran};

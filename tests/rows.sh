@@ -8,9 +8,8 @@ unset UNIXVOL_EXPLAIN UNIXVOL_PROGRESS
 rows_script=$(realpath "$0")
 samples=$(realpath "$(dirname "${BASH_SOURCE[0]}")/../samples")
 folder=$(mktemp -d)
-# It is removed at the end, so it can't be given another value.
-readonly folder
-trap 'rm -rf "$folder"' EXIT
+# (the folder of now, whatever a test calls by this name)
+trap "rm -rf $(printf %q "$folder")" EXIT
 cd "$folder" || exit 1
 passed=0
 failed=0
